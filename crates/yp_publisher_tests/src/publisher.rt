@@ -1,17 +1,17 @@
 //! Publishers over disks in memory: stopped and failing disks, refusals in their order, and disks that are handed back.
 
-ghost use Rattle.std.specs.Prelude.{◌≡◌, ◌≤◌};
+ghost use Rattle.std.specs.Prelude.{◌≤◌};
 
-use crate::given::{assert_same, bytes};
+use crate::given::{assert_fits, assert_same, bytes, catalog, version};
 use std::alloc::Global;
 use std::process::Abort;
 use std::random::RandomSource;
 use std::sync::Arc;
-use yp_board::{Catalog, MapName, PlainBoard};
+use yp_board::PlainBoard;
 use yp_io::MemDisk;
 use yp_map_file::SlotFault;
 use yp_publisher::*;
-use yp_version::{Version, VersionBuilder};
+use yp_version::Version;
 
 // A file of 116 bytes: order 100, master `m1`, and the row `alpha`, `10.0.0.1 alpha`, at generation 1.
 const HOSTS_FILE: &str = "01000000 00000000 00000000 00000001 00000000 00000040 00000000 00000034
@@ -31,59 +31,25 @@ const DAMAGED_FILE: &str = "01000000 00000009 00000000 00000001 00000000 0000004
     00000001 00000064 00000002 6d310000 00000001 00000005 616c7068 61000000
     0000000e 31302e30 2e302e31 20616c70 68610000";
 
-// The files of these texts.
-fn files_of(rt: &impl Abort, alloc: Global, texts: &[&str]) -> Vec<Vec<u8>> {
-    let mut files = Vec::new(alloc);
-    for text in texts {
-        files
-            .push(bytes(rt, alloc, &[*text]))
-            .expect(rt, "memory for files");
-    }
-    files
+// A disk with this file, whose calls don't fail.
+fn sound_disk(alloc: Global, file: Vec<u8>) -> MemDisk {
+    MemDisk::new(alloc, file, None, Vec::new(alloc))
 }
 
-// Disks with these files.
-fn disks_of(rt: &impl Abort, alloc: Global, files: Vec<Vec<u8>>) -> Vec<MemDisk> {
+// Disks with the files of these texts.
+fn disks_of(rt: &impl Abort, alloc: Global, texts: &[&str]) -> Vec<MemDisk> {
     let mut disks = Vec::new(alloc);
-    for file in files {
+    for text in texts {
         disks
-            .push(MemDisk::new(alloc, file, None, Vec::new(alloc)))
+            .push(sound_disk(alloc, bytes(rt, alloc, &[*text])))
             .expect(rt, "memory for disks");
     }
     disks
 }
 
-// A version of this order with the row of the hosts file.
-fn version<R: RandomSource + Abort>(
-    rt: &R,
-    alloc: Global,
-    order: u32,
-    master: &[u8; 2],
-) -> Version {
-    let mut builder = VersionBuilder::new(alloc, rt, order, master).expect(rt, "a builder");
-    let pushed = builder.push(b"alpha", b"10.0.0.1 alpha");
-    assert_same(rt, &pushed, &Ok(true), "the row of alpha");
-    builder.finish().expect(rt, "a version")
-}
-
-fn owned(rt: &impl Abort, alloc: Global, bytes: &[u8]) -> Vec<u8> {
-    bytes.to_vec(alloc).expect(rt, "memory for bytes")
-}
-
-// The catalogue of a host, with so many maps of the domain `lab`.
-fn catalog(rt: &impl Abort, alloc: Global, own: &[u8], count: u8) -> Catalog {
-    let mut maps = Vec::new(alloc);
-    for number in 0..count {
-        let (domain, map) = (owned(rt, alloc, b"lab"), owned(rt, alloc, &[number]));
-        maps.push(MapName { domain, map })
-            .expect(rt, "memory for names");
-    }
-    Catalog::new(alloc, owned(rt, alloc, own), maps).expect(rt, "a catalogue")
-}
-
 type Maps = Publisher<MemDisk, PlainBoard>;
 
-// Ends the test where these are too many to be loaded.
+// Ends the test where these are more than a catalogue has maps.
 fn assert_few(rt: &impl Abort, count: usize)
     ensures { count ≤ 64 }
 {
@@ -99,13 +65,6 @@ fn load(
     load_all(alloc, rt, disks)
 }
 
-// Ends the test where there aren't as many disks as maps.
-fn assert_equal(rt: &impl Abort, disks: usize, maps: usize)
-    ensures { disks ≡ maps }
-{
-    assert!(rt; disks == maps, "{disks} disks of {maps} maps");
-}
-
 // Opens a publisher over these disks on a host of this name.
 fn open<R: RandomSource + Abort>(
     rt: &R,
@@ -115,7 +74,7 @@ fn open<R: RandomSource + Abort>(
 ) -> Result<Maps, OpenRefused<MemDisk>> {
     assert_few(rt, disks.len());
     let catalog = catalog(rt, alloc, own, disks.len() as u8);
-    assert_equal(rt, disks.len(), catalog.len() as usize);
+    assert_fits(rt, disks.len(), &catalog);
     open_publisher(alloc, rt, catalog, disks)
 }
 
@@ -160,10 +119,6 @@ fn install<R: RandomSource + Abort>(
     assert!(rt; offer.map < maps.catalog().len());
     let version = version(rt, alloc, offer.order, offer.master);
     maps.install(alloc, offer.map, version, offer.origin, offer.force)
-}
-
-fn done(order: u32, generation: u64) -> Result<Installed, InstallFault> {
-    Ok(Installed { order, generation })
 }
 
 // A call of map 0.
@@ -226,6 +181,12 @@ fn make_call<R: RandomSource + Abort>(
 // A call and its name, its answer, and the state behind it.
 type Row = (&'static str, Call, Answer, State);
 
+const AT_SECOND: State = (Some(101), 2, Standing::Level);
+
+const AT_THIRD: State = (Some(102), 3, Standing::Level);
+
+const BEHIND_SECOND: State = (Some(101), 2, Standing::Behind);
+
 const LOOKED: Row = (
     "a look",
     Call::Look,
@@ -250,7 +211,7 @@ const SECOND: Row = (
         order: 101,
         generation: 2,
     },
-    (Some(101), 2, Standing::Level),
+    AT_SECOND,
 );
 
 const THIRD: Row = (
@@ -260,7 +221,7 @@ const THIRD: Row = (
         order: 102,
         generation: 3,
     },
-    (Some(102), 3, Standing::Level),
+    AT_THIRD,
 );
 
 // The third build where the disk stops or fails.
@@ -268,15 +229,21 @@ const FAULT: Row = (
     "the third build, with a fault",
     Call::Build(102),
     Answer::DiskFault,
-    (Some(101), 2, Standing::Behind),
+    BEHIND_SECOND,
 );
 
-// Makes the calls in turn, where the disk stops or fails at a call.
-fn play<R: RandomSource + Abort>(rt: &R, alloc: Global, maps: &mut Maps, rows: &[Row], what: u64) {
+// Makes the calls in turn, where the disk stops or fails at these calls.
+fn play<R: RandomSource + Abort>(
+    rt: &R,
+    alloc: Global,
+    maps: &mut Maps,
+    rows: &[Row],
+    faults: &[u64],
+) {
     for (name, made, answer, after) in rows {
         let came = make_call(rt, alloc, maps, *made);
-        let found = state(rt, maps, 0);
-        assert_same(rt, &(what, came, found), &(what, *answer, *after), *name);
+        let found = (faults, came, state(rt, maps, 0));
+        assert_same(rt, &found, &(faults, *answer, *after), name);
     }
 }
 
@@ -299,33 +266,41 @@ fn empty<R: RandomSource + Abort>(
 // Makes the calls in turn over an empty disk of which these calls fail.
 fn play_failing<R: RandomSource + Abort>(rt: &R, alloc: Global, failing: &[u64], rows: &[Row]) {
     let mut maps = empty(rt, alloc, None, failing);
-    play(
-        rt,
-        alloc,
-        &mut maps,
-        rows,
-        failing.first().copied().unwrap_or(0),
-    );
+    play(rt, alloc, &mut maps, rows, failing);
 }
+
+// On a level map a reopen does nothing.
+static THREE_INSTALLS: [Row; 5] = [
+    LOOKED,
+    FIRST,
+    SECOND,
+    THIRD,
+    ("a reopen", Call::Reopen, Answer::Reopened, AT_THIRD),
+];
 
 #[test]
 fn three_installs(rt: HostRuntime) {
-    // On a level map a reopen does nothing.
-    let level = ("a reopen", Call::Reopen, Answer::Reopened, THIRD.3);
-    play_failing(&rt, rt.alloc(), &[], &[LOOKED, FIRST, SECOND, THIRD, level]);
+    play_failing(&rt, rt.alloc(), &[], &THREE_INSTALLS);
+}
+
+// The disks of a publisher.
+fn disks_behind(maps: Maps) -> Vec<MemDisk> {
+    let (disks, _board) = maps.into_parts();
+    disks
 }
 
 // What a crash leaves of the one disk.
 fn left_of(rt: &impl Abort, disks: &[MemDisk], kept: u64) -> Vec<u8> {
-    assert_eq!(rt; disks.len(), 1);
+    assert!(rt; disks.len() == 1);
     disks[0].crashed(kept).expect(rt, "a file")
 }
 
+static STOPPED: [Row; 4] = [LOOKED, FIRST, SECOND, FAULT];
+
 fn stopped<R: RandomSource + Abort>(rt: &R, alloc: Global, stop: u64, kept: u64) -> Vec<u8> {
     let mut maps = empty(rt, alloc, Some(stop), &[]);
-    play(rt, alloc, &mut maps, &[LOOKED, FIRST, SECOND, FAULT], stop);
-    let (disks, _board) = maps.into_parts();
-    left_of(rt, &disks, kept)
+    play(rt, alloc, &mut maps, &STOPPED, &[stop]);
+    left_of(rt, &disks_behind(maps), kept)
 }
 
 // The orders that files stand for.
@@ -351,77 +326,114 @@ fn loaded_orders<R: RandomSource + Abort>(
 
 // The order of a file, loaded anew.
 fn order_of<R: RandomSource + Abort>(rt: &R, alloc: Global, file: Vec<u8>) -> Vec<Option<u32>> {
-    let disk = MemDisk::new(alloc, file, None, Vec::new(alloc));
-    loaded_orders(rt, alloc, one_disk(rt, alloc, disk))
+    loaded_orders(rt, alloc, one_disk(rt, alloc, sound_disk(alloc, file)))
+}
+
+// Compares the order of what a crash leaves where the disk stops at this call.
+fn check_stop<R: RandomSource + Abort>(rt: &R, alloc: Global, stop: u64, kept: u64) {
+    let found = order_of(rt, alloc, stopped(rt, alloc, stop, kept));
+    let third = stop == 22 && kept % 2 == 1;
+    let order = if third { 102 } else { 101 };
+    assert_same(
+        rt,
+        &(stop, kept, found.as_slice()),
+        &(stop, kept, [Some(order)].as_slice()),
+        "a stop, what is kept, and the order",
+    );
 }
 
 #[test]
 fn third_install_stopped(rt: HostRuntime) {
-    let alloc = rt.alloc();
     // Two calls load an empty disk. Nine, five and seven calls install a version.
     for stop in 16..23 {
         for kept in 0..4 {
-            let found = order_of(&rt, alloc, stopped(&rt, alloc, stop, kept));
-            let third = stop == 22 && kept % 2 == 1;
-            let order = if third { 102 } else { 101 };
-            assert_same(
-                &rt,
-                &(stop, kept, found.as_slice()),
-                &(stop, kept, [Some(order)].as_slice()),
-                "a stop, what is kept, and the order",
-            );
+            check_stop(&rt, rt.alloc(), stop, kept);
         }
     }
 }
 
+const BEHIND: Row = (
+    "a build behind",
+    Call::Build(103),
+    Answer::Behind,
+    BEHIND_SECOND,
+);
+
+// The first call of the third install fails, which writes nothing.
+static FIRST_CALL_FAILS: [Row; 7] = [
+    LOOKED,
+    FIRST,
+    SECOND,
+    FAULT,
+    BEHIND,
+    ("a reopen", Call::Reopen, Answer::Reopened, AT_SECOND),
+    (
+        "the next build",
+        Call::Build(103),
+        Answer::Done {
+            order: 103,
+            generation: 3,
+        },
+        (Some(103), 3, Standing::Level),
+    ),
+];
+
+// Its last sync does.
+static LAST_SYNC_FAILS: [Row; 7] = [
+    LOOKED,
+    FIRST,
+    SECOND,
+    FAULT,
+    BEHIND,
+    ("a reopen", Call::Reopen, Answer::Reopened, AT_THIRD),
+    (
+        "the next build",
+        Call::Build(103),
+        Answer::Done {
+            order: 103,
+            generation: 4,
+        },
+        (Some(103), 4, Standing::Level),
+    ),
+];
+
 #[test]
 fn reopens_behind(rt: HostRuntime) {
-    let behind = ("a build behind", Call::Build(103), Answer::Behind, FAULT.3);
-    // The first call of the third install fails, which writes nothing, or its last sync does.
-    for (failing, order, generation, next) in [(16, 101, 2, 3), (22, 102, 3, 4)] {
-        let level = (Some(order), generation, Standing::Level);
-        let rows = [
-            LOOKED,
-            FIRST,
-            SECOND,
-            FAULT,
-            behind,
-            ("a reopen", Call::Reopen, Answer::Reopened, level),
-            (
-                "the next build",
-                Call::Build(103),
-                Answer::Done {
-                    order: 103,
-                    generation: next,
-                },
-                (Some(103), next, Standing::Level),
-            ),
-        ];
-        play_failing(&rt, rt.alloc(), &[failing], &rows);
-    }
+    play_failing(&rt, rt.alloc(), &[16], &FIRST_CALL_FAILS);
+    play_failing(&rt, rt.alloc(), &[22], &LAST_SYNC_FAILS);
 }
+
+// The sync of the reopen fails, too.
+static REOPEN_FAILS: [Row; 6] = [
+    LOOKED,
+    FIRST,
+    SECOND,
+    FAULT,
+    (
+        "a reopen with a fault",
+        Call::Reopen,
+        Answer::DiskFault,
+        BEHIND_SECOND,
+    ),
+    ("a reopen", Call::Reopen, Answer::Reopened, AT_THIRD),
+];
 
 #[test]
 fn reopen_that_fails(rt: HostRuntime) {
-    // The sync of the reopen fails, too.
-    let rows = [
-        LOOKED,
-        FIRST,
-        SECOND,
-        FAULT,
-        (
-            "a reopen with a fault",
-            Call::Reopen,
-            Answer::DiskFault,
-            FAULT.3,
-        ),
-        ("a reopen", Call::Reopen, Answer::Reopened, THIRD.3),
-    ];
-    play_failing(&rt, rt.alloc(), &[22, 23], &rows);
+    play_failing(&rt, rt.alloc(), &[22, 23], &REOPEN_FAILS);
 }
 
-// What is offered to a host of this name whose map has the file of order 100 and master `m1`, and what comes of it.
-type Offered = (&'static [u8; 2], &'static str, Origin, u32, bool, Outcome);
+// What is offered to a host of this own name whose map has this file, of order 100 and master `m1`: where a version comes
+// from, its order, and whether it is forced. Then what comes of it.
+type Offered = (
+    &'static str,
+    &'static [u8; 2],
+    &'static str,
+    Origin,
+    u32,
+    bool,
+    Outcome,
+);
 
 #[derive(Clone, Copy)]
 enum Outcome {
@@ -435,22 +447,138 @@ const BUILT: Origin = Origin::Built;
 
 const FETCHED: Origin = Origin::Fetched;
 
-const OFFERS: [Offered; 14] = [
-    (b"m1", HOSTS_FILE, BUILT, 101, false, Outcome::Installs),
-    (b"m1", HOSTS_FILE, BUILT, 100, false, Outcome::Ages),
-    (b"m1", HOSTS_FILE, BUILT, 99, false, Outcome::Ages),
-    (b"m1", HOSTS_FILE, BUILT, 100, true, Outcome::Installs),
-    (b"m1", HOSTS_FILE, BUILT, 99, true, Outcome::Installs),
-    (b"m1", HOSTS_FILE, FETCHED, 101, false, Outcome::Refuses),
-    (b"m1", HOSTS_FILE, FETCHED, 99, true, Outcome::Refuses),
-    (b"m2", HOSTS_FILE, FETCHED, 101, false, Outcome::Installs),
-    (b"m2", HOSTS_FILE, FETCHED, 100, false, Outcome::Ages),
-    (b"m2", HOSTS_FILE, BUILT, 99, false, Outcome::Refuses),
-    (b"m1", LAST_FILE, BUILT, 101, false, Outcome::Spent),
-    (b"m1", LAST_FILE, BUILT, 99, true, Outcome::Spent),
-    (b"m1", LAST_FILE, BUILT, 99, false, Outcome::Ages),
-    (b"m1", LAST_FILE, FETCHED, 101, false, Outcome::Refuses),
+static OFFERS: [Offered; 14] = [
+    (
+        "a newer one",
+        b"m1",
+        HOSTS_FILE,
+        BUILT,
+        101,
+        false,
+        Outcome::Installs,
+    ),
+    (
+        "one of the same age",
+        b"m1",
+        HOSTS_FILE,
+        BUILT,
+        100,
+        false,
+        Outcome::Ages,
+    ),
+    (
+        "an older one",
+        b"m1",
+        HOSTS_FILE,
+        BUILT,
+        99,
+        false,
+        Outcome::Ages,
+    ),
+    (
+        "one of the same age, forced",
+        b"m1",
+        HOSTS_FILE,
+        BUILT,
+        100,
+        true,
+        Outcome::Installs,
+    ),
+    (
+        "an older one, forced",
+        b"m1",
+        HOSTS_FILE,
+        BUILT,
+        99,
+        true,
+        Outcome::Installs,
+    ),
+    (
+        "a newer one, fetched by its master",
+        b"m1",
+        HOSTS_FILE,
+        FETCHED,
+        101,
+        false,
+        Outcome::Refuses,
+    ),
+    (
+        "an older one, forced and fetched by its master",
+        b"m1",
+        HOSTS_FILE,
+        FETCHED,
+        99,
+        true,
+        Outcome::Refuses,
+    ),
+    (
+        "a newer one, fetched",
+        b"m2",
+        HOSTS_FILE,
+        FETCHED,
+        101,
+        false,
+        Outcome::Installs,
+    ),
+    (
+        "one of the same age, fetched",
+        b"m2",
+        HOSTS_FILE,
+        FETCHED,
+        100,
+        false,
+        Outcome::Ages,
+    ),
+    (
+        "an older one, built by another host",
+        b"m2",
+        HOSTS_FILE,
+        BUILT,
+        99,
+        false,
+        Outcome::Refuses,
+    ),
+    (
+        "a newer one, where generations are spent",
+        b"m1",
+        LAST_FILE,
+        BUILT,
+        101,
+        false,
+        Outcome::Spent,
+    ),
+    (
+        "an older one, forced, where generations are spent",
+        b"m1",
+        LAST_FILE,
+        BUILT,
+        99,
+        true,
+        Outcome::Spent,
+    ),
+    (
+        "an older one, where generations are spent",
+        b"m1",
+        LAST_FILE,
+        BUILT,
+        99,
+        false,
+        Outcome::Ages,
+    ),
+    (
+        "a newer one, fetched by its master, where generations are spent",
+        b"m1",
+        LAST_FILE,
+        FETCHED,
+        101,
+        false,
+        Outcome::Refuses,
+    ),
 ];
+
+fn done(order: u32, generation: u64) -> Result<Installed, InstallFault> {
+    Ok(Installed { order, generation })
+}
 
 // The state before an offer of map 0, what it answers, and the state behind it.
 type Came = (State, Result<Installed, InstallFault>, State);
@@ -465,11 +593,10 @@ fn offer_over<R: RandomSource + Abort>(
     rt: &R,
     alloc: Global,
     own: &[u8],
-    file: Vec<u8>,
+    text: &str,
     offer: Offer,
 ) -> Came {
-    let disk = MemDisk::new(alloc, file, None, Vec::new(alloc));
-    let mut maps = published(rt, alloc, own, one_disk(rt, alloc, disk));
+    let mut maps = published(rt, alloc, own, disks_of(rt, alloc, &[text]));
     offer_to(rt, alloc, &mut maps, offer)
 }
 
@@ -480,7 +607,7 @@ fn offer_wanted(rt: &impl Abort, alloc: Global, order: u32, outcome: Outcome, la
     match outcome {
         Outcome::Installs => (before, done(order, 2), (Some(order), 2, Standing::Level)),
         Outcome::Refuses => {
-            let master = owned(rt, alloc, b"m1");
+            let master = bytes(rt, alloc, &["6d31"]);
             (before, Err(InstallFault::Refused { master }), before)
         }
         Outcome::Ages => {
@@ -495,7 +622,7 @@ fn offer_wanted(rt: &impl Abort, alloc: Global, order: u32, outcome: Outcome, la
 }
 
 fn check_offer<R: RandomSource + Abort>(rt: &R, alloc: Global, row: &Offered) {
-    let (own, text, origin, order, force, outcome) = *row;
+    let (name, own, text, origin, order, force, outcome) = *row;
     let offer = Offer {
         map: 0,
         order,
@@ -503,11 +630,9 @@ fn check_offer<R: RandomSource + Abort>(rt: &R, alloc: Global, row: &Offered) {
         origin,
         force,
     };
-    let came = offer_over(rt, alloc, own, bytes(rt, alloc, &[text]), offer);
+    let came = offer_over(rt, alloc, own, text, offer);
     let wanted = offer_wanted(rt, alloc, order, outcome, text == LAST_FILE);
-    // The file is the row's name.
-    let place = (own, origin, order, force);
-    assert_same(rt, &(place, came), &(place, wanted), text);
+    assert_same(rt, &came, &wanted, name);
 }
 
 #[test]
@@ -521,51 +646,57 @@ fn refusals_in_order(rt: HostRuntime) {
 fn bytes_on(rt: &impl Abort, alloc: Global, disks: &[MemDisk]) -> Vec<Vec<u8>> {
     let mut files = Vec::new(alloc);
     for disk in disks {
-        files
-            .push(owned(rt, alloc, disk.bytes()))
-            .expect(rt, "memory for files");
+        let file = disk.bytes().to_vec(alloc).expect(rt, "memory for bytes");
+        files.push(file).expect(rt, "memory for files");
     }
     files
 }
 
-// Which map was refused, for what, and what the disks that were handed back have.
-type Refused = (u32, SlotFault, Vec<Vec<u8>>);
-
-fn refused<R: RandomSource + Abort>(rt: &R, alloc: Global, files: Vec<Vec<u8>>) -> Refused {
-    let refused = load(rt, alloc, disks_of(rt, alloc, files))
-        .err()
-        .expect(rt, "a refusal");
-    (
-        refused.map,
-        refused.fault,
-        bytes_on(rt, alloc, &refused.disks),
-    )
+// The files of these texts.
+fn files_of(rt: &impl Abort, alloc: Global, texts: &[&str]) -> Vec<Vec<u8>> {
+    let mut files = Vec::new(alloc);
+    for text in texts {
+        let file = bytes(rt, alloc, &[*text]);
+        files.push(file).expect(rt, "memory for files");
+    }
+    files
 }
 
-// The same of a publisher that isn't opened.
-fn unopened<R: RandomSource + Abort>(
-    rt: &R,
-    alloc: Global,
-    files: Vec<Vec<u8>>,
-) -> (OpenFault, Vec<Vec<u8>>) {
-    let refused = open(rt, alloc, b"m1", disks_of(rt, alloc, files))
+// Ends the test where disks that were handed back don't have the files of these texts.
+fn assert_files(rt: &impl Abort, alloc: Global, disks: &[MemDisk], texts: &[&str]) {
+    let wanted = files_of(rt, alloc, texts);
+    assert_same(rt, &bytes_on(rt, alloc, disks), &wanted, "the disks");
+}
+
+static TEXTS: [&str; 4] = [HOSTS_FILE, DAMAGED_FILE, "", HOSTS_FILE];
+
+const DAMAGED: SlotFault = SlotFault::Damaged { at: 7, rule: 3 };
+
+fn check_load<R: RandomSource + Abort>(rt: &R, alloc: Global) {
+    let refused = load(rt, alloc, disks_of(rt, alloc, &TEXTS))
         .err()
         .expect(rt, "a refusal");
-    (refused.fault, bytes_on(rt, alloc, &refused.disks))
+    let came = (refused.map, refused.fault);
+    assert_same(rt, &came, &(1, DAMAGED), "the second disk");
+    assert_files(rt, alloc, &refused.disks, &TEXTS);
+}
+
+fn check_open<R: RandomSource + Abort>(rt: &R, alloc: Global) {
+    let refused = open(rt, alloc, b"m1", disks_of(rt, alloc, &TEXTS))
+        .err()
+        .expect(rt, "a refusal");
+    let wanted = OpenFault::Refused {
+        map: 1,
+        fault: DAMAGED,
+    };
+    assert_same(rt, &refused.fault, &wanted, "a publisher over it");
+    assert_files(rt, alloc, &refused.disks, &TEXTS);
 }
 
 #[test]
 fn damaged_disk_refused(rt: HostRuntime) {
-    let alloc = rt.alloc();
-    let texts = [HOSTS_FILE, DAMAGED_FILE, "", HOSTS_FILE];
-    let fault = SlotFault::Damaged { at: 7, rule: 3 };
-    let came = refused(&rt, alloc, files_of(&rt, alloc, &texts));
-    let wanted = (1, fault, files_of(&rt, alloc, &texts));
-    assert_same(&rt, &came, &wanted, "the second disk");
-    let came = unopened(&rt, alloc, files_of(&rt, alloc, &texts));
-    let fault = OpenFault::Refused { map: 1, fault };
-    let wanted = (fault, files_of(&rt, alloc, &texts));
-    assert_same(&rt, &came, &wanted, "a publisher over it");
+    check_load(&rt, rt.alloc());
+    check_open(&rt, rt.alloc());
 }
 
 // What a version for map 1 answers, and the states of maps 0 and 2 behind it.
@@ -587,20 +718,18 @@ fn offer_second<R: RandomSource + Abort>(rt: &R, alloc: Global, maps: &mut Maps)
 fn second_over<R: RandomSource + Abort>(
     rt: &R,
     alloc: Global,
-    files: Vec<Vec<u8>>,
+    texts: &[&str],
 ) -> (Second, Vec<Option<u32>>) {
-    let loaded = load(rt, alloc, disks_of(rt, alloc, files)).expect(rt, "loaded disks");
+    let loaded = load(rt, alloc, disks_of(rt, alloc, texts)).expect(rt, "loaded disks");
     let mut maps = published(rt, alloc, b"m1", loaded.into_disks());
     let came = offer_second(rt, alloc, &mut maps);
-    let (disks, _board) = maps.into_parts();
-    (came, loaded_orders(rt, alloc, disks))
+    (came, loaded_orders(rt, alloc, disks_behind(maps)))
 }
 
 #[test]
 fn disks_in_order(rt: HostRuntime) {
     let alloc = rt.alloc();
-    let files = files_of(&rt, alloc, &[HOSTS_FILE, "", LAST_FILE]);
-    let (second, found) = second_over(&rt, alloc, files);
+    let (second, found) = second_over(&rt, alloc, &[HOSTS_FILE, "", LAST_FILE]);
     let first = (Some(100), 1, Standing::Level);
     let third = (Some(100), u64::MAX, Standing::Level);
     assert_same(&rt, &second, &(done(7, 1), first, third), "an offer");

@@ -2,7 +2,7 @@
 
 ghost use Rattle.std.specs.Prelude.{◌≡◌};
 
-use crate::given::assert_same;
+use crate::given::{assert_same, held};
 use crate::readers::boards::*;
 use std::alloc::Global;
 use std::marker::Brand;
@@ -77,14 +77,23 @@ fn owners<J: Naming, R: Wait + RandomSource + Abort>(
     requires { opened ≡ J.book }
 {
     let (mut writer, mut readers) = board_of::<J, R>(rt, alloc, opened, 1);
-    let (first, second) = (version(rt, alloc, 2), version(rt, alloc, 3));
+    owners_on(rt, alloc, &mut writer, &mut readers)
+}
+
+fn owners_on<J: Naming, R: Wait + Drop, H: RandomSource + Abort>(
+    rt: &H,
+    alloc: Global,
+    writer: &mut Writer<J, R>,
+    readers: &mut [Reader<J>],
+) -> [usize; 3] {
+    let first = version(rt, alloc, 2);
     let kept = Arc::try_clone(&first).expect(rt, "an owner");
-    shows(&mut writer, 0, first);
-    refresh_all(&mut readers);
+    shows(writer, 0, first);
+    refresh_all(readers);
     let held = Arc::strong_count(&kept);
-    shows(&mut writer, 0, second);
+    shows(writer, 0, version(rt, alloc, 3));
     let lagging = Arc::strong_count(&kept);
-    refresh_all(&mut readers);
+    refresh_all(readers);
     [held, lagging, Arc::strong_count(&kept)]
 }
 

@@ -4,7 +4,7 @@ ghost use Rattle.std.specs.Prelude.{◌≡◌};
 ghost use Rattle.yp_board.specs.Logs.{Log};
 ghost use Rattle.yp_board.specs.Views.{IsFront};
 
-use crate::given::assert_same;
+use crate::given::{assert_same, held, one_of};
 use crate::readers::boards::*;
 use std::alloc::Global;
 use std::marker::Brand;
@@ -32,17 +32,26 @@ fn met<J: Naming, R: Wait + RandomSource + Abort>(
     requires { opened ≡ J.book }
 {
     let (mut writer, mut readers) = board_of::<J, R>(rt, alloc, opened, 2);
-    let (Some(mut first), Some(mut second)) = (readers.pop(), readers.pop()) else {
-        return [None; 5];
-    };
-    let (earlier, later) = two_notes(rt, alloc, &mut writer);
-    let before = held(&first, 0);
-    let at_later = held_after(&mut first, later);
-    let still = held_after(&mut first, earlier.0);
-    let at_earlier = held_after(&mut second, earlier.1);
-    cover(&mut writer, &first, &second);
+    let mut first = one_of(rt, &mut readers);
+    let mut second = one_of(rt, &mut readers);
+    meet(rt, alloc, &mut writer, &mut first, &mut second)
+}
+
+fn meet<J: Naming, R: Wait + Drop, H: RandomSource + Abort>(
+    rt: &H,
+    alloc: Global,
+    writer: &mut Writer<J, R>,
+    first: &mut Reader<J>,
+    second: &mut Reader<J>,
+) -> [Option<u32>; 5] {
+    let (earlier, later) = two_notes(rt, alloc, writer);
+    let before = held(first, 0);
+    let at_later = held_after(first, later);
+    let still = held_after(first, earlier.0);
+    let at_earlier = held_after(second, earlier.1);
+    cover(writer, first, second);
     second.refresh();
-    [before, at_later, still, at_earlier, held(&second, 0)]
+    [before, at_later, still, at_earlier, held(second, 0)]
 }
 
 // Two notes of the moment when a version of order 2 was shown, and one of the moment when one of order 3 was.
@@ -82,8 +91,7 @@ fn one_step_for_two_shows(rt: HostRuntime) {
     assert_same(&rt, &came, &wanted, "the orders of two maps");
 }
 
-// What a reader holds of both maps, of each of which a version is shown. Each is shown until it isn't refused, so that
-// a call that fails for memory is followed by one that carries both.
+// What a reader holds of both maps, of each of which a version is shown.
 fn lagged<J: Naming, R: Wait + RandomSource + Abort>(
     rt: &R,
     alloc: Global,
@@ -92,18 +100,28 @@ fn lagged<J: Naming, R: Wait + RandomSource + Abort>(
     requires { opened ≡ J.book }
 {
     let (mut writer, mut readers) = board_of::<J, R>(rt, alloc, opened, 1);
-    let Some(mut reader) = readers.pop() else {
-        return [(None, None); 2];
-    };
-    let (two, again) = (version(rt, alloc, 2), version(rt, alloc, 2));
-    let (three, once_more) = (version(rt, alloc, 3), version(rt, alloc, 3));
-    if !shows(&mut writer, 0, two) {
-        shows(&mut writer, 0, again);
-    }
-    if !shows(&mut writer, 1, three) {
-        shows(&mut writer, 1, once_more);
-    }
-    let before = (held(&reader, 0), held(&reader, 1));
+    let mut reader = one_of(rt, &mut readers);
+    show_surely(rt, alloc, &mut writer, 0, 2);
+    show_surely(rt, alloc, &mut writer, 1, 3);
+    let before = held_of_both(&reader);
     reader.refresh();
-    [before, (held(&reader, 0), held(&reader, 1))]
+    [before, held_of_both(&reader)]
+}
+
+// Shows a version of this order until it isn't refused, so that a call that fails for memory is followed by one that
+// carries it.
+fn show_surely<J: Naming, R: Wait + Drop, H: RandomSource + Abort>(
+    rt: &H,
+    alloc: Global,
+    writer: &mut Writer<J, R>,
+    map: u32,
+    order: u32,
+) {
+    if !shows(writer, map, version(rt, alloc, order)) {
+        shows(writer, map, version(rt, alloc, order));
+    }
+}
+
+fn held_of_both<J: Naming>(reader: &Reader<J>) -> (Option<u32>, Option<u32>) {
+    (held(reader, 0), held(reader, 1))
 }

@@ -8,7 +8,7 @@ ghost use Rattle.yp_board.specs.inside.readers.Boards.{Written};
 ghost use Rattle.yp_publisher.specs.sharing.Failures.{disks_of, faults_over};
 ghost use Rattle.yp_publisher.specs.inside.sharing.Sources.{fetched_in};
 
-use crate::given::assert_same;
+use crate::given::{assert_same, held, one_of, version};
 use crate::shared::maps::*;
 use std::alloc::Global;
 use std::marker::Brand;
@@ -48,88 +48,107 @@ const FIRST: Row = (Origin::Built, 100, Outcome::Installed, Some(100));
 
 const SECOND: Row = (Origin::Built, 101, Outcome::Installed, Some(101));
 
+static KNOWN_AND_REFUSED: [Row; 4] = [
+    FIRST,
+    (
+        Origin::Built,
+        100,
+        Outcome::Age {
+            shown: 100,
+            offered: 100,
+        },
+        Some(100),
+    ),
+    (
+        Origin::Built,
+        99,
+        Outcome::Age {
+            shown: 100,
+            offered: 99,
+        },
+        Some(100),
+    ),
+    SECOND,
+];
+
 #[test]
 fn installs_known_and_refused(rt: HostRuntime) {
-    let rows = [
-        FIRST,
-        (
-            Origin::Built,
-            100,
-            Outcome::Age {
-                shown: 100,
-                offered: 100,
-            },
-            Some(100),
-        ),
-        (
-            Origin::Built,
-            99,
-            Outcome::Age {
-                shown: 100,
-                offered: 99,
-            },
-            Some(100),
-        ),
-        SECOND,
-    ];
-    played::<Brand, _>(&rt, rt.alloc(), Opened::new(), &[], &rows);
+    try_installs(&rt, rt.alloc(), &[], &KNOWN_AND_REFUSED, 101);
 }
+
+// The first call of the third install fails, and then the reading of the file. The fifth opens it again.
+static FAILING: [Row; 5] = [
+    FIRST,
+    SECOND,
+    (Origin::Built, 102, Outcome::DiskFault, Some(101)),
+    (Origin::Built, 103, Outcome::Shut, Some(101)),
+    (Origin::Built, 104, Outcome::Installed, Some(104)),
+];
 
 #[test]
 fn failing_disk(rt: HostRuntime) {
-    // The first call of the third install fails, and then the reading of the file. The fifth opens it again.
-    let rows = [
-        FIRST,
-        SECOND,
-        (Origin::Built, 102, Outcome::DiskFault, Some(101)),
-        (Origin::Built, 103, Outcome::Shut, Some(101)),
-        (Origin::Built, 104, Outcome::Installed, Some(104)),
-    ];
-    played::<Brand, _>(&rt, rt.alloc(), Opened::new(), &[16, 17], &rows);
+    try_installs(&rt, rt.alloc(), &[16, 17], &FAILING, 104);
 }
+
+// Where nothing is shown, a version goes in wherever it comes from. Its master is this host, so that behind it only
+// built ones do.
+static FETCHED: [Row; 3] = [
+    (Origin::Fetched, 100, Outcome::Installed, Some(100)),
+    (Origin::Fetched, 101, Outcome::Refused, Some(100)),
+    SECOND,
+];
 
 #[test]
 fn fetched_and_built(rt: HostRuntime) {
-    // Where nothing is shown, a version goes in wherever it comes from. Its master is this host, so that behind it only
-    // built ones do.
-    let rows = [
-        (Origin::Fetched, 100, Outcome::Installed, Some(100)),
-        (Origin::Fetched, 101, Outcome::Refused, Some(100)),
-        SECOND,
-    ];
-    played::<Brand, _>(&rt, rt.alloc(), Opened::new(), &[], &rows);
+    try_installs(&rt, rt.alloc(), &[], &FETCHED, 101);
 }
 
 #[test]
 fn told_of_an_install(rt: HostRuntime) {
-    let came = told::<Brand, _>(&rt, rt.alloc(), Opened::new());
-    // What the other reader holds before it is told and behind it.
-    assert_same(
-        &rt,
-        &came,
-        &(None, Some(100)),
-        "the orders of another reader",
-    );
+    try_installs(&rt, rt.alloc(), &[], &[FIRST], 100);
 }
 
-// Makes these installs in turn over an empty disk of which these calls fail.
+// Makes these installs in turn over an empty disk of which these calls fail. Another reader is told of this order then.
+fn try_installs<R: Wait + RandomSource + Abort>(
+    rt: &R,
+    alloc: Global,
+    failing: &[u64],
+    rows: &[Row],
+    told: u32,
+) {
+    played::<Brand, R>(rt, alloc, Opened::new(), failing, rows, told);
+}
+
 fn played<J: Naming, R: Wait + RandomSource + Abort>(
     rt: &R,
     alloc: Global,
     opened: Opened,
     failing: &[u64],
     rows: &[Row],
+    told: u32,
 )
     requires { opened ≡ J.book }
 {
     let disk = disk(rt, alloc, failing);
-    let (maps, mut readers) = publisher_of::<J, R>(rt, alloc, opened, disk, 1);
+    let (maps, mut readers) = publisher_of::<J, R>(rt, alloc, opened, disk);
     let mut reader = one_of(rt, &mut readers);
+    let mut other = one_of(rt, &mut readers);
     let (failures, made, versions) = (Blank::new(2), Blank::new(2), Blank::new(3));
-    play_all::<J, Brand, R>(rt, alloc, maps, failures, made, versions, &mut reader, rows);
+    play_all::<J, Brand, R>(
+        rt,
+        alloc,
+        maps,
+        failures,
+        made,
+        versions,
+        &mut reader,
+        &mut other,
+        rows,
+        told,
+    );
 }
 
-// Makes these installs in turn, each as whatever it is offered as.
+// Makes these installs in turn, each as whatever it is offered as, and tells another reader of them.
 fn play_all<'r, J: Naming, S: Site + Accounts, R: Wait + RandomSource + Abort>(
     rt: &'r R,
     alloc: Global,
@@ -138,7 +157,9 @@ fn play_all<'r, J: Naming, S: Site + Accounts, R: Wait + RandomSource + Abort>(
     made: Blank,
     versions: Blank,
     reader: &mut Reader<J>,
+    other: &mut Reader<J>,
     rows: &[Row],
+    told: u32,
 )
     requires site { maps.catalogue ≡ S.catalogue }
     requires some { 0 < length S.catalogue.maps }
@@ -151,13 +172,9 @@ fn play_all<'r, J: Naming, S: Site + Accounts, R: Wait + RandomSource + Abort>(
 {
     let (locked, mut charge, mut fetches) = open_all::<J, S, R>(maps, failures, made, versions);
     let shared = Mutex::new(locked);
-    let mut mine = charge.split_off();
-    play(rt, alloc, &shared, reader, &mut mine, &mut fetches, rows);
-    charge.merge(mine);
-    let known = Writer::<J, &'r R>::known(reader);
-    let mut locked = shared.into_inner();
-    locked.covers(&known);
-    let _ = locked.close(&mut charge);
+    play_part(rt, alloc, &shared, reader, &mut charge, &mut fetches, rows);
+    assert_told(rt, &shared, other, told);
+    close_all(shared.into_inner(), &mut charge, reader);
 }
 
 // The maps with what is counted of them, two parts of what a caller is charged with, and the book of fetched versions.
@@ -184,7 +201,20 @@ fn open_all<'r, J: Naming, S: Site + Accounts, R: Wait + RandomSource + Abort>(
     (locked, Debits::new(failures, made, versions), fetches)
 }
 
-fn play<'r, J: Naming, S: Site + Accounts, R: Wait + RandomSource + Abort>(
+// Takes the maps from under their lock, of which the reader knows a front.
+fn close_all<'r, J: Naming, S: Site + Accounts, R: Wait + RandomSource + Abort>(
+    locked: Kept<'r, S, J, R>,
+    charge: &mut Debits<S>,
+    reader: &Reader<J>,
+) {
+    let mut locked = locked;
+    let known = Writer::<J, &'r R>::known(reader);
+    locked.covers(&known);
+    let _ = locked.close(charge);
+}
+
+// Makes these installs, each charged to a part of what a caller is charged with.
+fn play_part<'r, J: Naming, S: Site + Accounts, R: Wait + RandomSource + Abort>(
     rt: &'r R,
     alloc: Global,
     shared: &Shared<'r, S, J, R>,
@@ -195,12 +225,37 @@ fn play<'r, J: Naming, S: Site + Accounts, R: Wait + RandomSource + Abort>(
 )
     requires maps { 0 < length S.catalogue.maps }
     requires any { (number : ℕ) → (last : Option MapVersion) → (version : MapVersion) → S.built number last version }
+    requires parts { 1 < charge.old.parts }
 {
-    for (origin, order, outcome, after) in rows {
-        fetch(*origin, charge, fetches);
-        let came = offered(rt, alloc, shared, reader, charge, *origin, *order);
-        assert_same(rt, &came, &(*outcome, *after), "an install");
+    let mut mine = charge.split_off();
+    for row in rows {
+        play(rt, alloc, shared, reader, &mut mine, fetches, row);
     }
+    charge.merge(mine);
+}
+
+// Makes an install, and compares what comes of it.
+fn play<'r, J: Naming, S: Site + Accounts, R: Wait + RandomSource + Abort>(
+    rt: &'r R,
+    alloc: Global,
+    shared: &Shared<'r, S, J, R>,
+    reader: &mut Reader<J>,
+    charge: &mut Debits<S>,
+    fetches: &mut Book<FetchedVersions<S>>,
+    row: &Row,
+)
+    requires maps { 0 < length S.catalogue.maps }
+    requires any { (number : ℕ) → (last : Option MapVersion) → (version : MapVersion) → S.built number last version }
+{
+    let (origin, order, outcome, after) = *row;
+    fetch(origin, charge, fetches);
+    let came = installed(rt, alloc, shared, reader, charge, origin, order);
+    assert_same(
+        rt,
+        &(came, held(reader, 0)),
+        &(outcome, after),
+        "an install",
+    );
 }
 
 // Tells the book of a version that is fetched.
@@ -217,8 +272,8 @@ fn fetch<S: Accounts>(
     }
 }
 
-// Offers a version of this order, and tells what came of it and what the reader then holds.
-fn offered<'r, J: Naming, S: Site + Accounts, R: Wait + RandomSource + Abort>(
+// Offers a version of this order, and tells what came of it.
+fn installed<'r, J: Naming, S: Site + Accounts, R: Wait + RandomSource + Abort>(
     rt: &'r R,
     alloc: Global,
     shared: &Shared<'r, S, J, R>,
@@ -226,23 +281,21 @@ fn offered<'r, J: Naming, S: Site + Accounts, R: Wait + RandomSource + Abort>(
     charge: &mut Debits<S>,
     origin: Origin,
     order: u32,
-) -> (Outcome, Option<u32>)
+) -> Outcome
     requires maps { 0 < length S.catalogue.maps }
     requires any { (number : ℕ) → (last : Option MapVersion) → (version : MapVersion) → S.built number last version }
     requires fetched { fetched_in origin ≤ charge.old.versions }
 {
-    let version = version(rt, alloc, order);
-    let result = install_shared(alloc, rt, shared, reader, 0, version, origin, charge);
-    (outcome_of(&result), held(reader))
+    let version = version(rt, alloc, order, b"m1");
+    outcome_of(install_shared(alloc, rt, shared, reader, 0, version, origin, charge))
 }
 
-fn outcome_of(installed: &Result<(), ShareFault>) -> Outcome {
+fn outcome_of(installed: Result<(), ShareFault>) -> Outcome {
     match installed {
         Ok(()) => Outcome::Installed,
-        Err(ShareFault::Unfit(InstallFault::Age { shown, offered })) => Outcome::Age {
-            shown: *shown,
-            offered: *offered,
-        },
+        Err(ShareFault::Unfit(InstallFault::Age { shown, offered })) => {
+            Outcome::Age { shown, offered }
+        }
         Err(ShareFault::Unfit(InstallFault::Refused { .. })) => Outcome::Refused,
         Err(ShareFault::Unfit(InstallFault::DiskFault)) => Outcome::DiskFault,
         Err(ShareFault::Shut(_)) => Outcome::Shut,
@@ -250,70 +303,20 @@ fn outcome_of(installed: &Result<(), ShareFault>) -> Outcome {
     }
 }
 
-// What a reader holds of a map of which another one installs a version, before it is told of it and behind that.
-fn told<J: Naming, R: Wait + RandomSource + Abort>(
-    rt: &R,
-    alloc: Global,
-    opened: Opened,
-) -> (Option<u32>, Option<u32>)
-    requires { opened ≡ J.book }
-{
-    let disk = disk(rt, alloc, &[]);
-    let (maps, mut readers) = publisher_of::<J, R>(rt, alloc, opened, disk, 2);
-    let mut first = one_of(rt, &mut readers);
-    let mut second = one_of(rt, &mut readers);
-    let (failures, made, versions) = (Blank::new(2), Blank::new(2), Blank::new(3));
-    tell_second::<J, Brand, R>(
-        rt,
-        alloc,
-        maps,
-        failures,
-        made,
-        versions,
-        &mut first,
-        &mut second,
-    )
-}
-
-fn tell_second<'r, J: Naming, S: Site + Accounts, R: Wait + RandomSource + Abort>(
+// Ends the test where a reader that holds nothing doesn't hold this order once it is told of all that was shown.
+fn assert_told<'r, J: Naming, S: Site + Accounts, R: Wait + RandomSource + Abort>(
     rt: &'r R,
-    alloc: Global,
-    maps: Maps<'r, J, R>,
-    failures: Blank,
-    made: Blank,
-    versions: Blank,
-    first: &mut Reader<J>,
-    second: &mut Reader<J>,
-) -> (Option<u32>, Option<u32>)
-    requires site { maps.catalogue ≡ S.catalogue }
-    requires some { 0 < length S.catalogue.maps }
-    requires any { (number : ℕ) → (last : Option MapVersion) → (version : MapVersion) → S.built number last version }
-    requires first { publisher_state (λ (w : Written). w.log) maps ≡ S.first }
-    requires disks { faults_over (λ (p : Platter). p.faults) (disks_of maps.maps) ≡ S.disk_faults }
-    requires names { (failures.name ≡ S.failures) × (made.name ≡ S.made) × (versions.name ≡ S.versions) }
-    requires parts { (failures.parts ≡ S.shares) × (made.parts ≡ S.shares) × (versions.parts ≡ S.shares + 1) }
-    requires two { S.shares ≡ 2 }
-{
-    let (locked, mut charge, _fetches) = open_all::<J, S, R>(maps, failures, made, versions);
-    let shared = Mutex::new(locked);
-    told_under(rt, alloc, &shared, first, second, &mut charge)
-}
-
-fn told_under<'r, J: Naming, S: Site + Accounts, R: Wait + RandomSource + Abort>(
-    rt: &'r R,
-    alloc: Global,
     shared: &Shared<'r, S, J, R>,
-    first: &mut Reader<J>,
-    second: &mut Reader<J>,
-    charge: &mut Debits<S>,
-) -> (Option<u32>, Option<u32>)
-    requires maps { 0 < length S.catalogue.maps }
-    requires any { (number : ℕ) → (last : Option MapVersion) → (version : MapVersion) → S.built number last version }
-{
-    offered(rt, alloc, shared, first, charge, Origin::Built, 100);
-    let before = held(second);
-    match tell_shared(rt, shared, second) {
-        Ok(()) => (before, held(second)),
-        Err(_) => (before, None),
-    }
+    reader: &mut Reader<J>,
+    order: u32,
+) {
+    let before = held(reader, 0);
+    tell_shared(rt, shared, reader).expect(rt, "memory for a note");
+    let came = (before, held(reader, 0));
+    assert_same(
+        rt,
+        &came,
+        &(None, Some(order)),
+        "the orders of another reader",
+    );
 }

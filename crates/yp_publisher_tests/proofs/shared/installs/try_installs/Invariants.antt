@@ -1,4 +1,4 @@
-use Rattle.yp_publisher_tests.proofs.shared.installs.installs_known_and_refused.Given as goal
+use Rattle.yp_publisher_tests.proofs.shared.installs.try_installs.Given as goal
 
 -- the book that was just opened
 abbrev pub ghosts-played : goal.ghosts-played

@@ -1,5 +1,0 @@
-use Rattle.yp_publisher_tests.proofs.shared.installs.failing_disk.Given as goal
-
--- the book that was just opened
-abbrev pub ghosts-played : goal.ghosts-played
-ghosts-played g a = record { book = a.opened }
