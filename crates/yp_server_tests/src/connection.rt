@@ -1,13 +1,14 @@
 //! Connections from the loading of their files to the handing back of their disks.
 
-use crate::given::{NEVER, assert_same};
+use crate::given::{NEVER, assert_fits, assert_same};
 use crate::sample::*;
 use std::alloc::Global;
 use std::process::Abort;
 use std::random::RandomSource;
 use yp_answer::session::End;
+use yp_board::Catalog;
 use yp_host::*;
-use yp_io::{MemDisk, MemWire, Source, Trail};
+use yp_io::{MemDial, MemDisk, MemTexts, MemWire, SetClock, Source, Trail};
 use yp_map_file::{Slot, SlotFault};
 use yp_publisher::OpenFault;
 
@@ -23,32 +24,14 @@ fn disk_of(
     MemDisk::new(alloc, file, stop, failing)
 }
 
-// A disk with this file, whose calls don't fail.
-fn sound_disk(alloc: Global, file: Vec<u8>) -> MemDisk {
-    MemDisk::new(alloc, file, None, Vec::new(alloc))
-}
+// What came of a connection: its end, what it wrote, and what it left of its input.
+type Came = (Result<End, OpenFault>, Vec<u8>, Vec<u8>);
 
-// What came of a connection: its end, what it wrote and what it left of its input, and the files on its disks.
-type Came = (Result<End, OpenFault>, Vec<u8>, Vec<u8>, Vec<Vec<u8>>);
-
-// What is seen of a wire and of disks behind a connection.
-fn seen(
-    rt: &impl Abort,
-    alloc: Global,
-    end: Result<End, OpenFault>,
-    wire: &mut MemWire,
-    disks: &[MemDisk],
-) -> Came {
+// What a connection left of its input.
+fn input_left(rt: &impl Abort, alloc: Global, wire: &mut MemWire) -> Vec<u8> {
     let mut left = [0; 1000];
     let count = wire.source.read(&mut left).expect(rt, "a read");
-    let mut files = Vec::new(alloc);
-    for disk in disks {
-        let file = Vec::from_slice(alloc, disk.bytes()).expect(rt, "bytes");
-        files.push(file).expect(rt, "a file");
-    }
-    let output = Vec::from_slice(alloc, wire.sink.taken()).expect(rt, "bytes");
-    let left = Vec::from_slice(alloc, &left[..count]).expect(rt, "bytes");
-    (end, output, left, files)
+    Vec::from_slice(alloc, &left[..count]).expect(rt, "bytes")
 }
 
 // The order of the version that a file stands for, and 0 where there is none.
@@ -69,118 +52,164 @@ fn order_left<R: RandomSource + Abort>(rt: &R, alloc: Global, disk: &MemDisk, ke
     order_of(rt, alloc, file)
 }
 
-// Serves calls to the own host from these disks, and hands them back. Each is hosts.byname of the domain at its place.
-fn served<R: RandomSource + Abort>(
+type Resources = ConnectionResources<MemDisk, MemDial, MemTexts, SetClock>;
+
+// Serves calls over a wire to the own host.
+pub fn serve_all<R: RandomSource + Abort>(
     rt: &R,
     alloc: Global,
-    domains: &[&[u8]],
+    catalog: Catalog,
+    wire: &mut MemWire,
     disks: Vec<MemDisk>,
-    input: Vec<u8>,
-) -> (Came, Vec<MemDisk>) {
-    let catalog = catalog_of(rt, alloc, b"m1", domains);
-    let text = Vec::from_slice(alloc, TEXT).expect(rt, "a text");
-    let desk = desk_of(rt, alloc, text, 100, NEVER);
-    let mut wire = wire_of(alloc, input);
+    desk: MemDesk,
+) -> (Result<End, OpenFault>, Resources) {
     assert_fits(rt, disks.len(), &catalog);
     let resources = ConnectionResources { disks, desk };
     let mut trail = Trail::new();
-    let (end, resources) = serve_wire(
-        alloc, rt, catalog, OWN_HOST, &mut wire, resources, &mut trail,
-    );
-    let came = seen(rt, alloc, end, &mut wire, &resources.disks);
-    (came, resources.disks)
+    serve_wire(alloc, rt, catalog, OWN_HOST, wire, resources, &mut trail)
 }
 
-// Serves calls from two disks with these files.
-fn served_from_two<R: RandomSource + Abort>(
+// Serves calls from these disks, and hands them back. Each is of the map at its place.
+fn served<R: RandomSource + Abort>(
     rt: &R,
     alloc: Global,
-    domains: &[&[u8]],
-    first: Vec<u8>,
-    second: Vec<u8>,
-    input: Vec<u8>,
-) -> Came {
-    let disks = vec![in alloc; sound_disk(alloc, first), sound_disk(alloc, second)];
-    let (came, _) = served(rt, alloc, domains, disks.expect(rt, "disks"), input);
-    came
+    maps: &[Map],
+    disks: Vec<MemDisk>,
+    input: &str,
+) -> (Came, Vec<MemDisk>) {
+    let catalog = catalog_of(rt, alloc, b"m1", maps);
+    let desk = desk_of(rt, alloc, TEXT, 100, NEVER);
+    let mut wire = wire_of(alloc, words(rt, alloc, input));
+    let (end, resources) = serve_all(rt, alloc, catalog, &mut wire, disks, desk);
+    let left = input_left(rt, alloc, &mut wire);
+    let output = output_of(rt, alloc, &wire);
+    ((end, output, left), resources.disks)
 }
 
-// Serves calls from one disk of `lab`, whose calls fail so.
-fn served_from_one<R: RandomSource + Abort>(
-    rt: &R,
+// Disks with the files of these texts. From call `stop` on their calls fail, and the call `failing` fails.
+fn disks_of(
+    rt: &impl Abort,
     alloc: Global,
+    files: &[&str],
     stop: Option<u64>,
     failing: u64,
-    input: Vec<u8>,
-) -> (Came, Vec<MemDisk>) {
-    let disk = disk_of(rt, alloc, Vec::new(alloc), stop, failing);
-    let disks = vec![in alloc; disk].expect(rt, "a disk");
-    served(rt, alloc, &[b"lab"], disks, input)
+) -> Vec<MemDisk> {
+    let mut disks = Vec::new(alloc);
+    for file in files {
+        let file = words(rt, alloc, *file);
+        disks
+            .push(disk_of(rt, alloc, file, stop, failing))
+            .expect(rt, "memory for disks");
+    }
+    disks
 }
 
-const MATCH_MAKE_MATCH: &str =
-    "8000004c 00000001 MATCH 80000034 00000002 MAKE 00000005 8000004c 00000003 MATCH";
+// The bytes of each disk.
+fn bytes_on(rt: &impl Abort, alloc: Global, disks: &[MemDisk]) -> Vec<Vec<u8>> {
+    let mut files = Vec::new(alloc);
+    for disk in disks {
+        let file = Vec::from_slice(alloc, disk.bytes()).expect(rt, "bytes");
+        files.push(file).expect(rt, "a file");
+    }
+    files
+}
 
-const NO_MAP_MADE_VALUE: &str =
-    "80000020 00000001 NO_MAP_OF 8000001c 00000002 MADE 00000001 80000030 00000003 VALUE_OF";
+// The files of these texts.
+fn files_of(rt: &impl Abort, alloc: Global, texts: &[&str]) -> Vec<Vec<u8>> {
+    let mut files = Vec::new(alloc);
+    for text in texts {
+        let file = words(rt, alloc, *text);
+        files.push(file).expect(rt, "a file");
+    }
+    files
+}
+
+// Ends the test where disks don't have the files of these texts.
+fn assert_files(rt: &impl Abort, alloc: Global, disks: &[MemDisk], texts: &[&str], row: &str) {
+    let wanted = files_of(rt, alloc, texts);
+    assert_same(rt, &bytes_on(rt, alloc, disks), &wanted, row);
+}
+
+// Maps, the files on their disks, the call of the disks that fails, and what is asked. What comes of it: the end, the
+// replies, what is left of the input, and the files then.
+struct Row {
+    name: &'static str,
+    maps: &'static [Map],
+    files: &'static [&'static str],
+    failing: u64,
+    input: &'static str,
+    end: Result<End, OpenFault>,
+    output: &'static str,
+    left: &'static str,
+    after: &'static [&'static str],
+}
+
+fn try_row<R: RandomSource + Abort>(rt: &R, alloc: Global, row: &Row) {
+    let disks = disks_of(rt, alloc, row.files, None, row.failing);
+    let output = words(rt, alloc, row.output);
+    let wanted = (row.end, output, words(rt, alloc, row.left));
+    let (came, disks) = served(rt, alloc, row.maps, disks, row.input);
+    assert_same(rt, &came, &wanted, row.name);
+    assert_files(rt, alloc, &disks, row.after, row.name);
+}
+
+static MADE: Row = Row {
+    name: "MATCH, MAKE, MATCH",
+    maps: &[LAB],
+    files: &[""],
+    failing: NEVER,
+    input: "8000004c 00000001 MATCH 80000034 00000002 MAKE 00000005 8000004c 00000003 MATCH",
+    end: Ok(End::Clean),
+    output: "\
+        80000020 00000001 NO_MAP_OF 8000001c 00000002 MADE 00000001 80000030 00000003 VALUE_OF",
+    left: "",
+    after: &["HOSTS_FILE"],
+};
 
 #[test]
 fn make_then_match(rt: HostRuntime) {
-    let alloc = rt.alloc();
-    let input = words(&rt, alloc, MATCH_MAKE_MATCH);
-    let output = words(&rt, alloc, NO_MAP_MADE_VALUE);
-    let file = words(&rt, alloc, "HOSTS_FILE");
-    let files = vec![in alloc; file].expect(&rt, "files");
-    let (came, _) = served_from_one(&rt, alloc, None, NEVER, input);
-    let wanted = (Ok(End::Clean), output, Vec::new(alloc), files);
-    assert_same(&rt, &came, &wanted, "MATCH, MAKE, MATCH");
+    try_row(&rt, rt.alloc(), &MADE);
 }
 
-const LISTS: &str = "\
-    80000030 00000001 LIST 6c616200 80000034 00000002 MAKE 00000005 80000030 00000003 LIST \
-    6c616200 80000030 00000004 LIST 64657600";
-
-const LISTED: &str = "\
-    80000020 00000001 NO_MAPS 8000001c 00000002 MADE 00000001 80000034 00000003 HOSTS_LISTED \
-    80000020 00000004 NO_MAPS";
+static LISTED: Row = Row {
+    name: "MAPLIST, MAKE, MAPLIST of both domains",
+    maps: &[DEV, LAB],
+    files: &["", ""],
+    failing: NEVER,
+    input: "\
+        80000030 00000001 LIST 6c616200 80000034 00000002 MAKE 00000005 80000030 00000003 LIST \
+        6c616200 80000030 00000004 LIST 64657600",
+    end: Ok(End::Clean),
+    output: "\
+        80000020 00000001 NO_MAPS 8000001c 00000002 MADE 00000001 80000034 00000003 HOSTS_LISTED \
+        80000020 00000004 NO_MAPS",
+    left: "",
+    after: &["", "HOSTS_FILE"],
+};
 
 #[test]
 fn made_map_of_one_domain_is_listed(rt: HostRuntime) {
-    let alloc = rt.alloc();
-    let input = words(&rt, alloc, LISTS);
-    let output = words(&rt, alloc, LISTED);
-    let file = words(&rt, alloc, "HOSTS_FILE");
-    let files = vec![in alloc; Vec::new(alloc), file].expect(&rt, "files");
-    let (first, second) = (Vec::new(alloc), Vec::new(alloc));
-    let came = served_from_two(&rt, alloc, &[b"dev", b"lab"], first, second, input);
-    let wanted = (Ok(End::Clean), output, Vec::new(alloc), files);
-    assert_same(
-        &rt,
-        &came,
-        &wanted,
-        "MAPLIST, MAKE, MAPLIST of both domains",
-    );
+    try_row(&rt, rt.alloc(), &LISTED);
 }
 
-const ONE_MATCH: &str = "8000004c 00000003 MATCH";
+static DAMAGED_SECOND: Row = Row {
+    name: "a damaged file",
+    maps: &[LAB, DEV],
+    files: &["HOSTS_FILE", "DAMAGED"],
+    failing: NEVER,
+    input: "8000004c 00000003 MATCH",
+    end: Err(OpenFault::Refused {
+        map: 1,
+        fault: SlotFault::Damaged { at: 79, rule: 5 },
+    }),
+    output: "",
+    left: "8000004c 00000003 MATCH",
+    after: &["HOSTS_FILE", "DAMAGED"],
+};
 
 #[test]
 fn damaged_disk_is_refused(rt: HostRuntime) {
-    let alloc = rt.alloc();
-    let first = words(&rt, alloc, "HOSTS_FILE");
-    let second = words(&rt, alloc, "DAMAGED");
-    let input = words(&rt, alloc, ONE_MATCH);
-    let came = served_from_two(&rt, alloc, &[b"lab", b"dev"], first, second, input);
-    let fault = SlotFault::Damaged { at: 79, rule: 5 };
-    let end = Err(OpenFault::Refused { map: 1, fault });
-    let left = words(&rt, alloc, ONE_MATCH);
-    let unchanged = [
-        words(&rt, alloc, "HOSTS_FILE"),
-        words(&rt, alloc, "DAMAGED"),
-    ];
-    let files = Vec::from_array(alloc, unchanged).expect(&rt, "files");
-    let wanted = (end, Vec::new(alloc), left, files);
-    assert_same(&rt, &came, &wanted, "a damaged file");
+    try_row(&rt, rt.alloc(), &DAMAGED_SECOND);
 }
 
 // Two calls of MAKE, with a call of MATCH before, between and behind them.
@@ -216,7 +245,7 @@ struct Failing {
 
 // Compares the replies where this call fails.
 fn assert_replied(rt: &impl Abort, came: &Came, output: &[u8], call: u64) {
-    let (end, written, _, _) = came;
+    let (end, written, _) = came;
     let seen = (call, end, written.as_slice());
     assert_same(rt, &seen, &(call, &Ok(End::Clean), output), "replies");
 }
@@ -281,9 +310,9 @@ fn try_failing<R: RandomSource + Abort>(
     stop: Option<u64>,
     failing: u64,
 ) {
-    let input = words(rt, alloc, TWICE);
     let output = words(rt, alloc, wanted.output);
-    let (came, disks) = served_from_one(rt, alloc, stop, failing, input);
+    let disks = disks_of(rt, alloc, &[""], stop, failing);
+    let (came, disks) = served(rt, alloc, &[LAB], disks, TWICE);
     let call = stop.unwrap_or(failing);
     assert_replied(rt, &came, &output, call);
     for disk in &disks {
@@ -350,20 +379,41 @@ fn disk_stops_at_each_call(rt: HostRuntime) {
     }
 }
 
-// Compares what comes of an opening where this call fails.
-fn try_unopened<R: RandomSource + Abort>(rt: &R, alloc: Global, row: &str, failing: u64) {
-    let fault = SlotFault::DiskFault;
-    let end = Err(OpenFault::Refused { map: 0, fault });
-    let left = words(rt, alloc, TWICE);
-    let files = vec![in alloc; Vec::new(alloc)].expect(rt, "files");
-    let wanted = (end, Vec::new(alloc), left, files);
-    let input = words(rt, alloc, TWICE);
-    let (came, _) = served_from_one(rt, alloc, None, failing, input);
-    assert_same(rt, &came, &wanted, row);
-}
+// The opening of an empty disk where a call fails.
+static UNOPENED: [Row; 2] = [
+    Row {
+        name: "call 0 fails",
+        maps: &[LAB],
+        files: &[""],
+        failing: 0,
+        input: TWICE,
+        end: Err(OpenFault::Refused {
+            map: 0,
+            fault: SlotFault::DiskFault,
+        }),
+        output: "",
+        left: TWICE,
+        after: &[""],
+    },
+    Row {
+        name: "call 1 fails",
+        maps: &[LAB],
+        files: &[""],
+        failing: 1,
+        input: TWICE,
+        end: Err(OpenFault::Refused {
+            map: 0,
+            fault: SlotFault::DiskFault,
+        }),
+        output: "",
+        left: TWICE,
+        after: &[""],
+    },
+];
 
 #[test]
 fn disk_that_is_not_opened(rt: HostRuntime) {
-    try_unopened(&rt, rt.alloc(), "call 0 fails", 0);
-    try_unopened(&rt, rt.alloc(), "call 1 fails", 1);
+    for row in &UNOPENED {
+        try_row(&rt, rt.alloc(), row);
+    }
 }

@@ -1,6 +1,6 @@
 //! Sessions over stored maps that are made anew.
 
-use crate::given::{NEVER, assert_same};
+use crate::given::{NEVER, assert_fits, assert_same};
 use crate::sample::*;
 use std::alloc::Global;
 use std::process::Abort;
@@ -43,8 +43,7 @@ fn run_session(
     let mut wire = wire_of(alloc, input);
     let mut trail = Trail::new();
     let end = session.run(&mut wire, host, peer, 9, &mut trail);
-    let output = Vec::from_slice(alloc, wire.sink.taken()).expect(rt, "bytes");
-    (end, output)
+    (end, output_of(rt, alloc, &wire))
 }
 
 // What a file stands for: the order of its version and whether that is secure, and its generation.
@@ -97,24 +96,32 @@ fn host_before(
     alloc: Global,
     making: &Making<'_>,
 ) -> MemHost {
-    let file = words(rt, alloc, making.file);
-    let text = Vec::from_slice(alloc, making.text).expect(rt, "a text");
-    let disk = MemDisk::new(alloc, file, None, Vec::new(alloc));
-    let desk = desk_of(rt, alloc, text, making.moment, making.failing);
-    let catalog = catalog_of(rt, alloc, making.own, &[b"lab"]);
+    let disk = sound_disk(alloc, words(rt, alloc, making.file));
+    let desk = desk_of(rt, alloc, making.text, making.moment, making.failing);
+    let catalog = catalog_of(rt, alloc, making.own, &[LAB]);
     host_of(rt, runtime, alloc, catalog, disk, desk)
+}
+
+// Makes a map, and looks up a key of it.
+fn made_by(
+    rt: &impl Abort,
+    alloc: Global,
+    host: &mut MemHost,
+    making: &Making<'_>,
+) -> (Replied, Replied) {
+    let make = words(rt, alloc, making.make);
+    let look_up = words(rt, alloc, "8000004c 00000003 MATCH");
+    let mut session = Session::new(alloc).expect(rt, "a session");
+    let made = run_session(rt, alloc, &mut session, host, making.peer, make);
+    let looked_up = run_session(rt, alloc, &mut session, host, making.peer, look_up);
+    (made, looked_up)
 }
 
 // Makes a map, looks up a key of it, and looks at its file.
 fn came_of(rt: &impl Abort, runtime: HostRuntime, alloc: Global, making: &Making<'_>) -> Came {
-    let make = words(rt, alloc, making.make);
-    let look_up = words(rt, alloc, "8000004c 00000003 MATCH");
-    let mut session = Session::new(alloc).expect(rt, "a session");
     let mut host = host_before(rt, runtime, alloc, making);
-    let made = run_session(rt, alloc, &mut session, &mut host, making.peer, make);
-    let looked_up = run_session(rt, alloc, &mut session, &mut host, making.peer, look_up);
-    let stored = stored_by(rt, runtime, alloc, host);
-    (made, looked_up, stored)
+    let (made, looked_up) = made_by(rt, alloc, &mut host, making);
+    (made, looked_up, stored_by(rt, runtime, alloc, host))
 }
 
 // Makes a map, and compares what comes.

@@ -9,6 +9,10 @@ mod given;
 #[cfg(test)]
 mod host;
 #[cfg(test)]
+mod listeners;
+#[cfg(test)]
+mod publishers;
+#[cfg(test)]
 mod sample;
 #[cfg(test)]
 mod serve;

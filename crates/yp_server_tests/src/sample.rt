@@ -1,15 +1,16 @@
 //! Calls, replies and files, written out by hand from RFC 5531 sections 9 and 11, yp.x and docs/FORMATS.md, and what
 //! hosts and connections are made of.
 
-ghost use Rattle.std.specs.Prelude.{◌≡◌, length};
 ghost use Rattle.yp_io.specs.inside.MemDial.{WireIsNew};
 
-use crate::given::named;
+use crate::given::{NEVER, named};
 use std::alloc::Global;
 use std::process::Abort;
 use yp_board::{Catalog, MapName};
 use yp_host::Desk;
-use yp_io::{MemDial, MemSink, MemSource, MemTexts, MemWire, Pair, Peer, SetClock, TextFile};
+use yp_io::{
+    MemDial, MemDisk, MemSink, MemSource, MemTexts, MemWire, Pair, Peer, SetClock, TextFile,
+};
 use yp_transfer::Hosts;
 
 // Names of words of calls, replies and files.
@@ -90,32 +91,46 @@ pub const OWN_HOST: Peer = Peer {
 // What a host makes maps of, and fetches them by.
 pub type MemDesk = Desk<MemDial, MemTexts, SetClock>;
 
-// A catalogue of hosts.byname of each of these domains.
-pub fn catalog_of(rt: &impl Abort, alloc: Global, own: &[u8], domains: &[&[u8]]) -> Catalog {
+// The domain and the name of a map.
+pub type Map = (&'static [u8], &'static [u8]);
+
+pub const LAB: Map = (b"lab", b"hosts.byname");
+
+pub const DEV: Map = (b"dev", b"hosts.byname");
+
+fn owned(rt: &impl Abort, alloc: Global, bytes: &[u8]) -> Vec<u8> {
+    Vec::from_slice(alloc, bytes).expect(rt, "bytes")
+}
+
+// A catalogue of these maps.
+pub fn catalog_of(rt: &impl Abort, alloc: Global, own: &[u8], maps: &[Map]) -> Catalog {
     let mut names = Vec::new(alloc);
-    for domain in domains {
-        let domain = Vec::from_slice(alloc, *domain).expect(rt, "a domain");
-        let map = Vec::from_slice(alloc, b"hosts.byname").expect(rt, "a map");
+    for (domain, map) in maps {
+        let (domain, map) = (owned(rt, alloc, *domain), owned(rt, alloc, *map));
         names.push(MapName { domain, map }).expect(rt, "a name");
     }
-    let own = Vec::from_slice(alloc, own).expect(rt, "a name");
-    Catalog::new(alloc, own, names).expect(rt, "a catalogue")
+    Catalog::new(alloc, owned(rt, alloc, own), names).expect(rt, "a catalogue")
+}
+
+// A disk with this file, whose calls don't fail.
+pub fn sound_disk(alloc: Global, file: Vec<u8>) -> MemDisk {
+    MemDisk::new(alloc, file, None, Vec::new(alloc))
+}
+
+// Texts of hosts. The read with this number fails.
+fn texts_of(rt: &impl Abort, alloc: Global, text: &[u8], failing: u64) -> MemTexts {
+    let text = (TextFile::Hosts, owned(rt, alloc, text));
+    let texts = vec![in alloc; text].expect(rt, "a text");
+    let failing = vec![in alloc; failing].expect(rt, "a number");
+    MemTexts::new(texts, failing)
 }
 
 // A desk with this text of hosts, at a moment. The read of it with this number fails.
-pub fn desk_of(
-    rt: &impl Abort,
-    alloc: Global,
-    text: Vec<u8>,
-    moment: u32,
-    failing: u64,
-) -> MemDesk {
-    let failing = vec![in alloc; failing].expect(rt, "a number");
-    let texts = vec![in alloc; (TextFile::Hosts, text)].expect(rt, "a text");
+pub fn desk_of(rt: &impl Abort, alloc: Global, text: &[u8], moment: u32, failing: u64) -> MemDesk {
     Desk {
         dial: MemDial::new(alloc, Vec::new(alloc), Vec::new(alloc)),
         hosts: Hosts::new(alloc),
-        texts: MemTexts::new(texts, failing),
+        texts: texts_of(rt, alloc, text, failing),
         clock: SetClock { moment },
     }
 }
@@ -130,9 +145,65 @@ pub fn wire_of(alloc: Global, input: Vec<u8>) -> MemWire
     }
 }
 
-// As many things as a catalogue has maps.
-pub fn assert_fits(rt: &impl Abort, count: usize, catalog: &Catalog)
-    ensures { count ≡ length catalog.now.maps }
-{
-    assert_eq!(rt; count, catalog.len() as usize);
+// What was written to a wire.
+pub fn output_of(rt: &impl Abort, alloc: Global, wire: &MemWire) -> Vec<u8> {
+    owned(rt, alloc, wire.sink.taken())
+}
+
+// A dial with one wire, which has this input. The call of it with this number fails.
+fn dial_of(rt: &impl Abort, alloc: Global, input: Vec<u8>, refused: u64) -> MemDial {
+    let mut wires = Vec::new(alloc);
+    wires.push(wire_of(alloc, input)).expect(rt, "a wire");
+    let refused = vec![in alloc; refused].expect(rt, "a number");
+    MemDial::new(alloc, wires, refused)
+}
+
+// Where the host is whose address a desk has.
+const SOURCE: Peer = Peer {
+    addr: [127, 0, 0, 1],
+    port: 7_001,
+};
+
+// A table with this host.
+fn hosts_of(rt: &impl Abort, alloc: Global, host: &[u8]) -> Hosts {
+    let mut hosts = Hosts::new(alloc);
+    hosts
+        .add(owned(rt, alloc, host), SOURCE)
+        .expect(rt, "a host");
+    hosts
+}
+
+// A desk with an empty text of hosts, at the moment 100, which has the address of one host. Its dial has one wire, with
+// this input, and the call of it with this number fails.
+pub fn fetching_desk(
+    rt: &impl Abort,
+    alloc: Global,
+    host: &[u8],
+    input: Vec<u8>,
+    refused: u64,
+) -> MemDesk {
+    Desk {
+        dial: dial_of(rt, alloc, input, refused),
+        hosts: hosts_of(rt, alloc, host),
+        texts: texts_of(rt, alloc, b"", NEVER),
+        clock: SetClock { moment: 100 },
+    }
+}
+
+// The program that a transfer is told to.
+pub const PROGRAM: Peer = Peer {
+    addr: [127, 0, 0, 1],
+    port: 7_002,
+};
+
+// What was posted: to whom, and the bytes.
+pub type Posted = Vec<(Peer, Vec<u8>)>;
+
+pub fn posted_by(rt: &impl Abort, alloc: Global, dial: &MemDial) -> Posted {
+    let mut posted = Vec::new(alloc);
+    for letter in dial.letters() {
+        let bytes = owned(rt, alloc, &letter.bytes);
+        posted.push((letter.peer, bytes)).expect(rt, "a letter");
+    }
+    posted
 }

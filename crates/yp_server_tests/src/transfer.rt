@@ -1,26 +1,14 @@
 //! Calls of XFR on a connection: the map is fetched behind the reply, stored and shown, and the caller is told.
 
-use crate::given::assert_same;
+use crate::connection::serve_all;
+use crate::given::{NEVER, assert_same};
 use crate::sample::*;
 use std::alloc::Global;
 use std::process::Abort;
 use std::random::RandomSource;
 use yp_answer::session::End;
-use yp_host::*;
-use yp_io::{MemDial, MemDisk, MemTexts, Peer, SetClock, Trail};
+use yp_io::MemDisk;
 use yp_publisher::OpenFault;
-use yp_transfer::Hosts;
-
-// The source, as the table of hosts has it, and the caller's program.
-const SOURCE: Peer = Peer {
-    addr: [127, 0, 0, 1],
-    port: 7_001,
-};
-
-const PROGRAM: Peer = Peer {
-    addr: [127, 0, 0, 1],
-    port: 7_002,
-};
 
 // The host that the table has, what the source sends, and the calls of XFR and MATCH. What comes of it: what is posted,
 // if anything, the replies, and the file.
@@ -76,57 +64,20 @@ static ROWS: [Row; 5] = [
     },
 ];
 
-// A desk whose dial has one wire with this input, and whose table has one host.
-fn desk_by(rt: &impl Abort, alloc: Global, host: &[u8], replies: Vec<u8>) -> MemDesk {
-    let mut wires = Vec::new(alloc);
-    wires.push(wire_of(alloc, replies)).expect(rt, "a wire");
-    let mut hosts = Hosts::new(alloc);
-    let name = Vec::from_slice(alloc, host).expect(rt, "a name");
-    hosts.add(name, SOURCE).expect(rt, "a host");
-    Desk {
-        dial: MemDial::new(alloc, wires, Vec::new(alloc)),
-        texts: MemTexts::new(Vec::new(alloc), Vec::new(alloc)),
-        clock: SetClock { moment: 100 },
-        hosts,
-    }
-}
-
-// What was posted: to whom, and the bytes.
-fn posted_by(rt: &impl Abort, alloc: Global, dial: &MemDial) -> Vec<(Peer, Vec<u8>)> {
-    let mut posted = Vec::new(alloc);
-    for letter in dial.letters() {
-        let bytes = Vec::from_slice(alloc, &letter.bytes).expect(rt, "bytes");
-        posted.push((letter.peer, bytes)).expect(rt, "a letter");
-    }
-    posted
-}
-
 // What came of a connection: its end, what it wrote, what was posted, and the file.
-type Came = (
-    Result<End, OpenFault>,
-    Vec<u8>,
-    Vec<(Peer, Vec<u8>)>,
-    Vec<u8>,
-);
+type Came = (Result<End, OpenFault>, Vec<u8>, Posted, Vec<u8>);
 
 // Serves the calls from an empty disk, by the host `s1`.
 fn play<R: RandomSource + Abort>(rt: &R, alloc: Global, row: &Row) -> Came {
-    let catalog = catalog_of(rt, alloc, b"s1", &[b"lab"]);
-    let disk = MemDisk::new(alloc, Vec::new(alloc), None, Vec::new(alloc));
-    let disks = vec![in alloc; disk].expect(rt, "a disk");
     let replies = words(rt, alloc, row.replies);
-    let desk = desk_by(rt, alloc, row.host, replies);
+    let desk = fetching_desk(rt, alloc, row.host, replies, NEVER);
+    let disks = vec![in alloc; sound_disk(alloc, Vec::new(alloc))].expect(rt, "a disk");
+    let catalog = catalog_of(rt, alloc, b"s1", &[LAB]);
     let mut wire = wire_of(alloc, words(rt, alloc, row.input));
-    assert_fits(rt, disks.len(), &catalog);
-    let resources = ConnectionResources { disks, desk };
-    let mut trail = Trail::new();
-    let (end, resources) = serve_wire(
-        alloc, rt, catalog, OWN_HOST, &mut wire, resources, &mut trail,
-    );
-    let output = Vec::from_slice(alloc, wire.sink.taken()).expect(rt, "bytes");
-    let posted = posted_by(rt, alloc, &resources.desk.dial);
-    let file = file_of(rt, alloc, &resources.disks);
-    (end, output, posted, file)
+    let (end, left) = serve_all(rt, alloc, catalog, &mut wire, disks, desk);
+    let posted = posted_by(rt, alloc, &left.desk.dial);
+    let file = file_of(rt, alloc, &left.disks);
+    (end, output_of(rt, alloc, &wire), posted, file)
 }
 
 // The file on the one disk.

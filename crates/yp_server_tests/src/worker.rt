@@ -2,7 +2,6 @@
 
 mod gate;
 mod host;
-mod listener;
 mod mail;
 mod one;
 mod reader;

@@ -10,7 +10,7 @@ use yp_worker::{Gate, Point};
 pub type Mark = (Kind, u64, u64);
 
 /// A kind of point.
-#[derive(Clone, Copy, Debug, PartialEq, Eq)]
+#[derive(Clone, Copy, PartialEq, Eq)]
 pub enum Kind {
     Accepted,
     Piece,

@@ -1,29 +1,10 @@
-//! Calls, replies and files, written out by hand from RFC 5531 sections 9 and 11, yp.x and docs/FORMATS.md, and what
-//! is served.
-
-ghost use Rattle.std.specs.Prelude.{◌≡◌, ◌≤◌, length, map, option_map};
-ghost use Rattle.std.specs.List.{All};
-ghost use Rattle.std.specs.Arc.{arc_value};
-ghost use Rattle.yp_io.specs.inside.MemListen.{ConnectionIsNew, calls_of};
-ghost use Rattle.yp_publisher.specs.Standing.{versions};
-ghost use Rattle.yp_server.specs.Serving.{IsAtStart};
+//! Calls, replies and files, written out by hand from RFC 5531 sections 9 and 11, yp.x and docs/FORMATS.md, and
+//! datagrams.
 
 use crate::given::named;
 use std::alloc::Global;
 use std::process::Abort;
-use std::random::RandomSource;
-use std::sync::{Arc, Wait};
-use yp_board::readers::{Naming, Opened, Reader, Writer, board};
-use yp_board::{Catalog, MapName};
-use yp_host::Desk;
-use yp_io::{
-    CallOrigin, Called, Letter, MemCall, MemDial, MemDisk, MemInbox, MemListen, MemSink, MemSource,
-    MemTexts, Pair, Peer, SetClock, TextFile,
-};
-use yp_publisher::laws::starts_are_shown;
-use yp_publisher::{Loaded, Publisher, load_all};
-use yp_transfer::Hosts;
-use yp_version::Version;
+use yp_io::{Letter, MemInbox, Peer};
 
 // Names of words.
 //
@@ -33,7 +14,7 @@ use yp_version::Version;
 // and its replies are MADE and, where the text isn't read, NOT_READ. XFR is of hosts.byname of `lab` from the host
 // `m2`, which has no address, and TAKEN the reply. FILE has order 100, master `m1` and the row `alpha`, `10.0.0.1
 // alpha`.
-static NAMES: &str = "\
+pub static NAMES: &str = "\
 MATCH = 8000004c 00000001 00000000 00000002 000186a4 00000002 00000003 00000000 00000000 \
     00000000 00000000 00000003 6c616200 0000000c 686f7374 732e6279 6e616d65 00000005 616c7068 \
     61000000
@@ -67,65 +48,13 @@ pub fn words(rt: &impl Abort, alloc: Global, text: &str) -> Vec<u8> {
 }
 
 // The text that maps are made of.
-const TEXT: &[u8] = b"10.0.0.2 alpha\n";
+pub const TEXT: &[u8] = b"10.0.0.2 alpha\n";
 
 /// The sender of datagrams.
 pub const SENDER: Peer = Peer {
     addr: [127, 0, 0, 1],
     port: 9,
 };
-
-/// A publisher of one map.
-pub type Maps<'r, J, R> = Publisher<MemDisk, Writer<J, &'r R>>;
-
-/// What maps are made of.
-pub type MemDesk = Desk<MemDial, MemTexts, SetClock>;
-
-/// A desk with a text of hosts, at the moment 200, whose read with this number fails.
-pub fn desk(rt: &impl Abort, alloc: Global, failing: u64) -> MemDesk {
-    let failing = vec![in alloc; failing].expect(rt, "a number");
-    let text = Vec::from_slice(alloc, TEXT).expect(rt, "a text");
-    let texts = vec![in alloc; (TextFile::Hosts, text)].expect(rt, "memory for a text");
-    Desk {
-        dial: MemDial::new(alloc, Vec::new(alloc), Vec::new(alloc)),
-        hosts: Hosts::new(alloc),
-        texts: MemTexts::new(texts, failing),
-        clock: SetClock { moment: 200 },
-    }
-}
-
-// A connection from this port of the own host with this input, whose sink takes at most 30 bytes in a write.
-fn call(rt: &impl Abort, alloc: Global, port: u16, input: &str) -> MemCall
-    ensures { ConnectionIsNew result }
-{
-    let source = MemSource::new(words(rt, alloc, input), 1000, Vec::new(alloc));
-    let sink = MemSink::new(alloc, 30, Vec::new(alloc));
-    let peer = Peer {
-        addr: [127, 0, 0, 1],
-        port,
-    };
-    let wire = Pair { source, sink };
-    Called {
-        origin: CallOrigin::new(peer, &wire),
-        wire,
-    }
-}
-
-/// A listener to which connections with these inputs call in turn, the first from port 1, the next from port 2, and so
-/// on. It is to accept all of them. This call of it fails.
-pub fn listener(rt: &impl Abort, alloc: Global, inputs: &[&str], failing: u64) -> MemListen {
-    let mut arrivals = Vec::new(alloc);
-    let mut port: u16 = 0;
-    for input in inputs {
-        port = port.saturating_add(1);
-        arrivals
-            .push(call(rt, alloc, port, *input))
-            .expect(rt, "memory for a connection");
-    }
-    let most = u32::from(port);
-    let failing = vec![in alloc; failing].expect(rt, "memory for a number");
-    MemListen::new(alloc, arrivals, most, failing)
-}
 
 fn letter(rt: &impl Abort, alloc: Global, text: &str) -> Letter {
     Letter {
@@ -143,67 +72,4 @@ pub fn inbox(rt: &impl Abort, alloc: Global, mail: &[&str], failing: u64) -> Mem
     }
     let failing = vec![in alloc; failing].expect(rt, "memory for a number");
     MemInbox::new(alloc, letters, failing)
-}
-
-// The catalogue of the host `m1`, with one map.
-fn catalog(rt: &impl Abort, alloc: Global) -> Catalog
-    ensures { length result.maps ≡ 1 }
-{
-    let own = Vec::from_slice(alloc, b"m1").expect(rt, "a name");
-    let name = MapName {
-        domain: Vec::from_slice(alloc, b"lab").expect(rt, "a domain"),
-        map: Vec::from_slice(alloc, b"hosts.byname").expect(rt, "a map"),
-    };
-    let maps = vec![in alloc; name].expect(rt, "maps");
-    let catalog = Catalog::new(alloc, own, maps).expect(rt, "a catalogue");
-    assert!(rt; catalog.len() == 1);
-    catalog
-}
-
-// Another catalogue of the same map.
-fn copied(rt: &impl Abort, alloc: Global, catalog: &Catalog) -> Catalog
-    ensures { result ≡ catalog.now }
-{
-    catalog.copy(alloc).expect(rt, "a catalogue")
-}
-
-// What a disk with this file stands for.
-fn loaded<R: RandomSource + Abort>(rt: &R, alloc: Global, file: &str) -> Loaded<MemDisk>
-    ensures { length result ≡ 1 }
-{
-    let disk = MemDisk::new(alloc, words(rt, alloc, file), None, Vec::new(alloc));
-    let disks = vec![in alloc; disk].expect(rt, "memory for a disk");
-    load_all(alloc, rt, disks).expect(rt, "a loaded disk")
-}
-
-// The versions of a loaded map.
-fn shown<R: Abort>(rt: &R, alloc: Global, loaded: &Loaded<MemDisk>) -> Vec<Option<Arc<Version>>>
-    ensures versions { map (option_map arc_value) result.items ≡ versions loaded.now }
-    ensures count { length result.items ≡ 1 }
-{
-    let shown = loaded.shown(alloc).expect(rt, "memory for versions");
-    assert!(rt; shown.len() == 1);
-    shown
-}
-
-/// A publisher of hosts.byname of `lab` with this file, and so many readers of its board, 1 to 9.
-pub fn publisher<'r, J: Naming, R: Wait + RandomSource + Abort>(
-    rt: &'r R,
-    alloc: Global,
-    opened: Opened,
-    file: &str,
-    readers: u32,
-) -> (Maps<'r, J, R>, Vec<Reader<J>>)
-    requires opened { opened ≡ J.book }
-    requires readers { (1 ≤ readers) × (readers ≤ 9) }
-    ensures count { length result.1.items ≡ readers }
-    ensures known { All (λ reader. IsAtStart result.0.catalogue result.0.board.log reader) result.1.items }
-{
-    let catalog = catalog(rt, alloc);
-    let copy = copied(rt, alloc, &catalog);
-    let loaded = loaded(rt, alloc, file);
-    let shown = shown(rt, alloc, &loaded);
-    let (writer, readers) = board(alloc, rt, opened, copy, shown, readers).expect(rt, "a board");
-    starts_are_shown();
-    (Publisher::new(loaded, catalog, writer), readers)
 }

@@ -3,6 +3,9 @@
 ghost use Rattle.std.specs.Prelude.{◌≡◌, ◌≤◌};
 
 use crate::given::{NEVER, assert_same};
+use crate::listeners::{listener, taken};
+use crate::publishers::publisher;
+use crate::sample::desk_of;
 use crate::serve::gate::{Hold, Holding, Kind, Mark};
 use crate::serve::inbox::Behind;
 use crate::serve::sample::*;
@@ -14,8 +17,8 @@ use std::sync::Wait;
 use std::thread::Threads;
 use yp_board::readers::{Naming, Opened};
 use yp_host::workers::{Outcomes, Totals};
-use yp_io::{MemCloser, MemInbox, MemListen};
-use yp_server::{ServeSpec, serve};
+use yp_io::{MemInbox, MemListen};
+use yp_server::{ServeSpec, Served, serve};
 use yp_worker::Tally;
 
 // What is served: the file of the map, the inputs of connections, how many workers there are, 1 to 8, how these are
@@ -42,38 +45,12 @@ struct Case {
 }
 
 // What came of it: the tally, what all workers counted, what the connections had taken that went back, one after the
-// other, and what came of the inbox; or memory ran out. And how often a worker was held for too long.
-type Came = (Option<(Tally, Totals, Vec<u8>, Mailed)>, u64);
+// other, and what came of the inbox.
+type Came = (Tally, Totals, Vec<u8>, Mailed);
 
 // What came of an inbox: how many turns there were, what it sent to the sender, one after the other, and whether it is
 // said to have failed.
 type Mailed = (u64, Vec<u8>, bool);
-
-// Adds what the connection from this port had taken, where this closer has closed it.
-fn add_closed(rt: &impl Abort, closer: &MemCloser, port: u16, all: &mut Vec<u8>) {
-    for call in closer.calls() {
-        if call.origin.peer().port == port {
-            all.extend_from_slice(call.wire.sink.taken())
-                .expect(rt, "memory for bytes");
-        }
-    }
-}
-
-// Adds what the connection from this port had taken, where it was closed.
-fn add_taken(rt: &impl Abort, listen: &MemListen, port: u16, all: &mut Vec<u8>) {
-    for closer in listen.closers() {
-        add_closed(rt, closer, port, all);
-    }
-}
-
-// What the connections that were closed had taken, in the order in which they came.
-fn taken(rt: &impl Abort, alloc: Global, listen: &MemListen) -> Vec<u8> {
-    let mut all = Vec::new(alloc);
-    for port in 1..10 {
-        add_taken(rt, listen, port, &mut all);
-    }
-    all
-}
 
 // What came of an inbox.
 fn mailed(rt: &impl Abort, alloc: Global, inbox: &MemInbox, fault: bool) -> Mailed {
@@ -87,42 +64,40 @@ fn mailed(rt: &impl Abort, alloc: Global, inbox: &MemInbox, fault: bool) -> Mail
     (inbox.turns(), sent, fault)
 }
 
-// Serves a case, from the opening of a board on.
+// What is seen of what comes back.
+fn seen<D, B, A, T, C>(
+    rt: &impl Abort,
+    alloc: Global,
+    served: &Served<D, B, A, T, C, MemListen, Behind<'_, '_, MemInbox>>,
+) -> Came {
+    let output = taken(rt, alloc, &served.listen);
+    let mailed = mailed(rt, alloc, served.inbox.inside(), served.inbox_fault);
+    (served.tally, served.totals, output, mailed)
+}
+
+// Serves a case at a gate, from the opening of a board on.
 fn served<J: Naming + Send + Sync, R: Threads + Wait + RandomSource + Abort + Sync>(
     rt: &R,
     alloc: Global,
     opened: Opened,
     case: &Case,
+    gate: &Holding<'_>,
 ) -> Came
     requires opened { opened ≡ J.book }
 {
-    let workers = case.workers.max(1).min(8);
-    let gate = Holding::new(rt, alloc, case.holds);
-    let listen = listener(rt, alloc, case.inputs, case.failing);
-    let (publisher, readers) = publisher::<J, R>(rt, alloc, opened, case.file, workers + 1);
     let spec = ServeSpec {
-        workers,
+        workers: case.workers.max(1).min(8),
         most: 9,
         turns: case.turns,
     };
-    let desk = desk(rt, alloc, case.unread);
-    let inbox = Behind::new(
-        inbox(rt, alloc, case.mail, case.unmailed),
-        &gate,
-        case.until,
-    );
-    let came = match serve(
-        alloc, rt, publisher, readers, desk, listen, inbox, &spec, &gate,
-    ) {
-        Ok(served) => Some((
-            served.tally,
-            served.totals,
-            taken(rt, alloc, &served.listen),
-            mailed(rt, alloc, served.inbox.inside(), served.inbox_fault),
-        )),
-        Err(_) => None,
-    };
-    (came, gate.gave_up())
+    let file = words(rt, alloc, case.file);
+    let listen = listener(rt, alloc, NAMES, case.inputs, case.failing);
+    let inbox = inbox(rt, alloc, case.mail, case.unmailed);
+    let inbox = Behind::new(inbox, gate, case.until);
+    let desk = desk_of(rt, alloc, TEXT, 200, case.unread);
+    let (maps, readers) = publisher::<J, R>(rt, alloc, opened, b"m1", file, spec.workers + 1);
+    let served = serve(alloc, rt, maps, readers, desk, listen, inbox, &spec, gate);
+    seen(rt, alloc, &served.ok().expect(rt, "memory for workers"))
 }
 
 // Serves a case, and compares what came. No worker is held for too long.
@@ -130,9 +105,11 @@ fn try_case<R: Threads + Wait + RandomSource + Abort + Sync>(rt: &R, alloc: Glob
     let (turns, replies, fault) = case.mailed;
     let mailed = (turns, words(rt, alloc, replies), fault);
     let output = words(rt, alloc, case.output);
-    let wanted = (Some((case.tally, case.totals, output, mailed)), 0);
-    let came = served::<Brand, R>(rt, alloc, Opened::new(), case);
+    let wanted = (case.tally, case.totals, output, mailed);
+    let gate = Holding::new(rt, alloc, case.holds);
+    let came = served::<Brand, R>(rt, alloc, Opened::new(), case, &gate);
     assert_same(rt, &came, &wanted, case.name);
+    assert_same(rt, &gate.gave_up(), &0, case.name);
 }
 
 // Nothing is counted.

@@ -1,17 +1,18 @@
 //! A host of two maps, on which others show versions of the first.
 
-ghost use Rattle.std.specs.Prelude.{◌≡◌, ◌<◌, None, length};
+ghost use Rattle.std.specs.Prelude.{◌≡◌, ◌<◌, None};
 ghost use Rattle.std.proofs.Common.{ap};
 ghost use Rattle.yp_io.specs.Counts.{next_count};
 
-use crate::given::assert_same;
+use crate::given::assert_fits;
+use crate::sample::{Map, catalog_of};
 use std::alloc::Global;
 use std::process::Abort;
 use std::random::RandomSource;
 use std::sync::Arc;
 use yp_answer::session::Host;
 use yp_answer::{MakeJob, TransferJob};
-use yp_board::{Catalog, MapName, PlainBoard, Show, View};
+use yp_board::{Catalog, PlainBoard, Show, View};
 use yp_io::{NoMemory, Peer};
 use yp_messages::XfrStat;
 use yp_version::{Version, VersionBuilder};
@@ -87,49 +88,37 @@ impl TestHost {
     }
 }
 
-/// A version of this order, in which `alpha` has this value.
-pub fn version<R: RandomSource + Abort>(
+// A version of this order, in which `alpha` has this value.
+fn version<R: RandomSource + Abort>(
     rt: &R,
     alloc: Global,
     order: u32,
     value: &[u8],
 ) -> Arc<Version> {
     let mut builder = VersionBuilder::new(alloc, rt, order, b"m1").expect(rt, "a builder");
-    let pushed = builder.push(b"alpha", value);
-    assert_same(rt, &pushed, &Ok(true), "the row of alpha");
+    let is_pushed = matches!(builder.push(b"alpha", value), Ok(true));
+    assert!(rt; is_pushed);
     let version = builder.finish().expect(rt, "a version");
     Arc::new(alloc, version).expect(rt, "a shared version")
 }
 
-/// As many things as a catalogue has maps.
-pub fn assert_fits(rt: &impl Abort, count: usize, catalog: &Catalog)
-    ensures { count ≡ length catalog.now.maps }
-{
-    assert_eq!(rt; count, catalog.len() as usize);
-}
-
-// A map of the domain `d`.
-fn map_name(rt: &impl Abort, alloc: Global, map: &[u8]) -> MapName {
-    MapName {
-        domain: Vec::from_slice(alloc, b"d").expect(rt, "a domain"),
-        map: Vec::from_slice(alloc, map).expect(rt, "a map"),
-    }
-}
+// The maps of the host.
+const MAPS: &[Map] = &[(b"d", b"passwd.byname"), (b"d", b"hosts.byname")];
 
 /// The catalogue of the host `m1` with passwd.byname and hosts.byname in the domain `d`.
 pub fn catalog(rt: &impl Abort, alloc: Global) -> Catalog {
-    let own = Vec::from_slice(alloc, b"m1").expect(rt, "a name");
-    let (passwd, hosts) = (
-        map_name(rt, alloc, b"passwd.byname"),
-        map_name(rt, alloc, b"hosts.byname"),
-    );
-    let maps = vec![in alloc; passwd, hosts].expect(rt, "maps");
-    Catalog::new(alloc, own, maps).expect(rt, "a catalogue")
+    catalog_of(rt, alloc, b"m1", MAPS)
 }
 
-// A board of these maps, on which this version is shown of the first.
-fn board(rt: &impl Abort, alloc: Global, catalog: Catalog, version: Arc<Version>) -> PlainBoard {
-    let start = vec![in alloc; Some(version), None].expect(rt, "versions");
+/// What is shown of these maps at first: the value `alpha:1` of passwd.byname.
+pub fn start<R: RandomSource + Abort>(rt: &R, alloc: Global) -> Vec<Option<Arc<Version>>> {
+    vec![in alloc; Some(version(rt, alloc, 7, b"alpha:1")), None].expect(rt, "versions")
+}
+
+// A board of these maps.
+fn board<R: RandomSource + Abort>(rt: &R, alloc: Global) -> PlainBoard {
+    let catalog = catalog(rt, alloc);
+    let start = start(rt, alloc);
     assert_fits(rt, start.len(), &catalog);
     PlainBoard::new(alloc, catalog, start).expect(rt, "a board")
 }
@@ -147,10 +136,9 @@ fn waiting<R: RandomSource + Abort>(rt: &R, alloc: Global, values: &[&[u8]]) -> 
 
 /// A host of passwd.byname that knows the value `alpha:1`, and behind which others show each of these values.
 pub fn host_of<R: RandomSource + Abort>(rt: &R, alloc: Global, values: &[&[u8]]) -> TestHost {
-    let first = version(rt, alloc, 7, b"alpha:1");
     let waiting = waiting(rt, alloc, values);
     TestHost {
-        board: board(rt, alloc, catalog(rt, alloc), first),
+        board: board(rt, alloc),
         waiting,
         transfers: 0,
     }

@@ -115,9 +115,9 @@ fn room(rt: &impl Abort, alloc: Global) -> Room {
     Room::new(alloc).expect(rt, "memory for turns")
 }
 
-// Takes turns of an inbox with these letters, of which these calls fail.
-fn served<R: RandomSource + Abort>(
-    rt: &R,
+// Takes turns of an inbox with these letters, of which this call fails.
+fn take_turns(
+    rt: &impl Abort,
     alloc: Global,
     host: TestHost,
     mail: Vec<Option<Letter>>,
@@ -133,22 +133,22 @@ fn served<R: RandomSource + Abort>(
     (ended, inbox.turns(), server.into_host().transfers(), sent)
 }
 
-fn play<R: RandomSource + Abort>(rt: &R, alloc: Global, row: &Row) -> Came {
-    let host = host_of(rt, alloc, row.shown);
-    let mail = mail_of(rt, alloc, row.mail);
-    served(rt, alloc, host, mail, row.failing, row.most)
-}
-
-// What is sent for these datagrams in two turns.
-fn replies_to<R: RandomSource + Abort>(rt: &R, alloc: Global, mail: &[Mail]) -> Vec<u8> {
-    let host = host_of(rt, alloc, &[]);
-    let letters = mail_of(rt, alloc, mail);
-    let (_, _, _, sent) = served(rt, alloc, host, letters, NEVER, 2);
-    sent
+// What comes of these datagrams, behind which others show these values.
+fn served<R: RandomSource + Abort>(
+    rt: &R,
+    alloc: Global,
+    shown: &[&[u8]],
+    mail: &[Mail],
+    failing: u64,
+    most: u32,
+) -> Came {
+    let host = host_of(rt, alloc, shown);
+    let mail = mail_of(rt, alloc, mail);
+    take_turns(rt, alloc, host, mail, failing, most)
 }
 
 fn try_row<R: RandomSource + Abort>(rt: &R, alloc: Global, row: &Row) {
-    let came = play(rt, alloc, row);
+    let came = served(rt, alloc, row.shown, row.mail, row.failing, row.most);
     let sent = named(rt, alloc, NAMES, row.sent);
     let wanted = (row.ended, row.turns, row.transfers, sent);
     assert_same(rt, &came, &wanted, row.name);
@@ -203,7 +203,7 @@ static REPLIES: [Replies; 10] = [
 
 fn try_replies<R: RandomSource + Abort>(rt: &R, alloc: Global, row: &Replies) {
     let (name, mail, sent) = row;
-    let came = replies_to(rt, alloc, mail);
+    let (_, _, _, came) = served(rt, alloc, &[], mail, NEVER, 2);
     assert_same(rt, &came, &named(rt, alloc, NAMES, sent), name);
 }
 
@@ -370,27 +370,28 @@ fn turns_and_calls_that_fail(rt: HostRuntime) {
     }
 }
 
-// The reply to a MATCH of a value of so many bytes.
-fn replied<R: RandomSource + Abort>(rt: &R, alloc: Global, len: usize) -> Came {
+// Compares the reply to a MATCH of a value of so many bytes with these words, and so many bytes of the value.
+fn check_value<R: RandomSource + Abort>(
+    rt: &R,
+    alloc: Global,
+    len: usize,
+    words: &str,
+    replied: usize,
+) {
     let value = vec![in alloc; b'x'; len].expect(rt, "a value");
-    let host = host_of(rt, alloc, &[&value]);
-    let mail = mail_of(rt, alloc, &[(OWN_HOST, 700, "MATCH", 0)]);
-    served(rt, alloc, host, mail, NEVER, 1)
+    let mut sent = named(rt, alloc, NAMES, words);
+    sent.extend_from_slice(&value[..replied.min(len)])
+        .expect(rt, "a reply");
+    let mail = [(OWN_HOST, 700, "MATCH", 0)];
+    let came = served(rt, alloc, &[&value], &mail, NEVER, 1);
+    assert_same(rt, &came, &(Ok(Ended::Spent), 1, 0, sent), words);
 }
 
 #[test]
 fn the_longest_value(rt: HostRuntime) {
-    let alloc = rt.alloc();
-    let mut longest = named(&rt, alloc, NAMES, "TO_700 MATCHED 00000001 00001fe0");
-    let len = longest.len() + 8_160;
-    longest.resize(len, b'x').expect(&rt, "a reply");
-    let refused = named(&rt, alloc, NAMES, "TO_700 MATCHED ERROR");
-    let came = (replied(&rt, alloc, 8_160), replied(&rt, alloc, 8_161));
-    let wanted = (
-        (Ok(Ended::Spent), 1, 0, longest),
-        (Ok(Ended::Spent), 1, 0, refused),
-    );
-    assert_same(&rt, &came, &wanted, "values of 8,160 and of 8,161 bytes");
+    let longest = "TO_700 MATCHED 00000001 00001fe0";
+    check_value(&rt, rt.alloc(), 8_160, longest, 8_160);
+    check_value(&rt, rt.alloc(), 8_161, "TO_700 MATCHED ERROR", 0);
 }
 
 // Lets a server hear a call, and go on behind the reply where that is sent.

@@ -1,6 +1,7 @@
 //! Connections one after another by one worker, and the points of its gate.
 
-use crate::given::{assert_same, bytes};
+use crate::given::{assert_same, named};
+use crate::sample::output_of;
 use crate::worker::gate::Recorder;
 use crate::worker::host::{TestHost, host_of};
 use std::alloc::Global;
@@ -16,20 +17,20 @@ const PEER: Peer = Peer {
 };
 
 // MATCH of `alpha` in passwd.byname of `d` (yp.x), and the replies with the values `alpha:1` and `alpha:2`.
-const MATCH: &str = "80000050 00000001 00000000 00000002 000186a4 00000002 00000003
-    00000000 00000000 00000000 00000000 00000001 64000000
-    0000000d 70617373 77642e62 796e616d 65000000 00000005 616c7068 61000000";
-
-const ONE: &str =
-    "80000028 00000001 00000001 00000000 00000000 00000000 00000000 00000001 00000007 616c7068 613a3100";
-
-const TWO: &str =
-    "80000028 00000001 00000001 00000000 00000000 00000000 00000000 00000001 00000007 616c7068 613a3200";
+static NAMES: &str = "\
+MATCH = 80000050 00000001 00000000 00000002 000186a4 00000002 00000003 00000000 00000000 00000000 \
+    00000000 00000001 64000000 0000000d 70617373 77642e62 796e616d 65000000 00000005 616c7068 \
+    61000000
+ONE = 80000028 00000001 00000001 00000000 00000000 00000000 00000000 00000001 00000007 616c7068 \
+    613a3100
+TWO = 80000028 00000001 00000001 00000000 00000000 00000000 00000000 00000001 00000007 616c7068 \
+    613a3200
+";
 
 // A wire with this input. Its sink takes at most 30 bytes in a write.
-fn wire(rt: &impl Abort, alloc: Global, input: &[&str]) -> MemWire {
+fn wire(rt: &impl Abort, alloc: Global, input: &str) -> MemWire {
     Pair {
-        source: MemSource::new(bytes(rt, alloc, input), 1000, Vec::new(alloc)),
+        source: MemSource::new(named(rt, alloc, NAMES, input), 1000, Vec::new(alloc)),
         sink: MemSink::new(alloc, 30, Vec::new(alloc)),
     }
 }
@@ -43,19 +44,18 @@ fn serve<G: Gate + Copy>(
     alloc: Global,
     worker: &mut Worker<TestHost, G>,
     connection: u64,
-    input: &[&str],
+    input: &str,
 ) -> Came {
     let (wire, end) = worker.one(wire(rt, alloc, input), PEER, connection);
-    let output = Vec::from_slice(alloc, wire.sink.taken()).expect(rt, "bytes");
-    (end, worker.calls(), output)
+    (end, worker.calls(), output_of(rt, alloc, &wire))
 }
 
 // Two connections one after the other, behind which others show these values, each before the worker catches up.
 fn served<R: RandomSource + Abort>(rt: &R, alloc: Global, values: &[&[u8]]) -> (Came, Came) {
     let session = Session::new(alloc).expect(rt, "a session");
     let mut worker = Worker::new(host_of(rt, alloc, values), session, OpenGate, 9);
-    let first = serve(rt, alloc, &mut worker, 1, &[MATCH]);
-    let second = serve(rt, alloc, &mut worker, 2, &[MATCH, MATCH]);
+    let first = serve(rt, alloc, &mut worker, 1, "MATCH");
+    let second = serve(rt, alloc, &mut worker, 2, "MATCH MATCH");
     (first, second)
 }
 
@@ -64,15 +64,15 @@ fn served<R: RandomSource + Abort>(rt: &R, alloc: Global, values: &[&[u8]]) -> (
 type Row = (&'static [&'static [u8]], &'static str, &'static str);
 
 static ROWS: [Row; 3] = [
-    (&[], ONE, ONE),
-    (&[b"alpha:2"], TWO, TWO),
-    (&[b"alpha:1", b"alpha:2"], ONE, TWO),
+    (&[], "ONE", "ONE ONE"),
+    (&[b"alpha:2"], "TWO", "TWO TWO"),
+    (&[b"alpha:1", b"alpha:2"], "ONE", "TWO TWO"),
 ];
 
 fn try_row<R: RandomSource + Abort>(rt: &R, alloc: Global, row: &Row) {
     let (values, first, second) = row;
-    let one = (End::Clean, 1, bytes(rt, alloc, &[*first]));
-    let two = (End::Clean, 2, bytes(rt, alloc, &[*second, *second]));
+    let one = (End::Clean, 1, named(rt, alloc, NAMES, first));
+    let two = (End::Clean, 2, named(rt, alloc, NAMES, second));
     let came = served(rt, alloc, values);
     assert_same(rt, &came, &(one, two), "two connections");
 }
@@ -94,8 +94,8 @@ fn points<R: RandomSource + Abort>(rt: &R, alloc: Global) -> Vec<Point> {
 fn pass<R: RandomSource + Abort>(rt: &R, alloc: Global, gate: &Recorder) {
     let session = Session::new(alloc).expect(rt, "a session");
     let mut worker = Worker::new(host_of(rt, alloc, &[]), session, gate, 9);
-    serve(rt, alloc, &mut worker, 1, &[MATCH]);
-    serve(rt, alloc, &mut worker, 2, &[]);
+    serve(rt, alloc, &mut worker, 1, "MATCH");
+    serve(rt, alloc, &mut worker, 2, "");
 }
 
 #[test]

@@ -4,7 +4,8 @@ ghost use Rattle.std.specs.Prelude.{◌≡◌, ◌+◌, None, min};
 ghost use Rattle.std.proofs.Common.{ap};
 ghost use Rattle.yp_io.specs.Counts.{last_count};
 
-use crate::worker::host::{assert_fits, catalog, version};
+use crate::given::assert_fits;
+use crate::worker::host::{catalog, start};
 use std::alloc::Global;
 use std::mem;
 use std::process::Abort;
@@ -110,8 +111,7 @@ pub fn two_readers<'r, N: Naming, R: Wait + RandomSource + Abort>(
     ensures { result.2.catalogue ≡ result.1.catalogue }
 {
     let catalog = catalog(rt, alloc);
-    let first = version(rt, alloc, 7, b"alpha:1");
-    let start = vec![in alloc; Some(first), None].expect(rt, "versions");
+    let start = start(rt, alloc);
     assert_fits(rt, start.len(), &catalog);
     let (writer, mut readers) = board(alloc, rt, opened, catalog, start, 2).expect(rt, "a board");
     let first = readers.pop().expect(rt, "a reader");

@@ -9,7 +9,7 @@ ghost use Rattle.yp_worker.specs.inside.Receptions.{terms_by};
 ghost use Rattle.yp_worker.specs.Summing.{SumsUp, counting_of};
 
 use crate::given::{NEVER, assert_same, named};
-use crate::worker::listener::door;
+use crate::listeners::{listener, taken};
 use crate::worker::reader::{Handed, ReaderHost, two_readers};
 use std::alloc::Global;
 use std::marker::Brand;
@@ -36,12 +36,9 @@ XFR = 80000058 00000005 00000000 00000002 000186a4 00000002 00000006 00000000 00
 TAKEN = 80000020 00000005 00000001 00000000 00000000 00000000 00000000 00000009 00000001
 ";
 
-// What a run counted, what the lock kept, how many transfers its host carried out, how many connections were accepted,
-// and what each that went back had taken.
-type Came = (Tally, Tally, u64, u32, Vec<u8>);
-
-// What the lock kept, how many connections were accepted, and what each that went back had taken.
-type Shared = (Tally, u32, Vec<u8>);
+// What the lock kept, how many transfers hosts carried out, how many connections were accepted, and what each that went
+// back had taken.
+type Came = (Tally, u64, u32, Vec<u8>);
 
 // Runs a worker that reads a board over a listener to the end.
 fn served<J: Reception, E: Ledger, B: Tell, R: Wait + RandomSource + Abort>(
@@ -52,7 +49,7 @@ fn served<J: Reception, E: Ledger, B: Tell, R: Wait + RandomSource + Abort>(
     listen: MemListen,
     writer: &mut B,
     reader: B::Reader,
-) -> Came
+) -> (Tally, Came)
 where
     B::Reader: Drop,
     requires out { (out.name ≡ J.name) × (out.parts ≡ J.parts) × (0 < out.parts) }
@@ -72,14 +69,9 @@ where
         listen, book, ends, none,
     ));
     let own = worker.run(rt, &listening, &mut pass);
-    let (listen, all, sum) = listening.into_inner().close(&mut pass);
-    cover::<J, ReaderHost<B>, MemListen, B>(writer, &listen, &all, &sum, &sum.front);
     (
         own,
-        all,
-        sum.transfers,
-        listen.accepted(),
-        taken(rt, alloc, &listen),
+        closed(rt, alloc, listening.into_inner(), &mut pass, writer),
     )
 }
 
@@ -92,7 +84,7 @@ fn shared<J, E, B, R: Threads + Wait + Sync + RandomSource + Abort>(
     listen: MemListen,
     writer: &mut B,
     readers: (B::Reader, B::Reader),
-) -> Shared
+) -> Came
 where
     J: Reception + Send + Sync,
     E: Ledger + Send + Sync,
@@ -122,9 +114,25 @@ where
     );
     let ((mut pass, _), (other, _)) = run_beside(rt, &listening, first, second);
     pass.merge(other);
-    let (listen, tally, sum) = listening.into_inner().close(&mut pass);
+    closed(rt, alloc, listening.into_inner(), &mut pass, writer)
+}
+
+// Closes what workers listened on, once all of them have ended.
+fn closed<J: Reception, E: Ledger, B: Tell>(
+    rt: &impl Abort,
+    alloc: Global,
+    listening: Listening<J, E, ReaderHost<B>, MemListen>,
+    pass: &mut Pass<J, E>,
+    writer: &mut B,
+) -> Came
+    requires all { pass.old.parts ≡ J.parts }
+    requires none_out { pass.old.out ≡ 0 }
+    requires ended { 0 < pass.old.ended }
+{
+    let (listen, tally, sum) = listening.close(pass);
     cover::<J, ReaderHost<B>, MemListen, B>(writer, &listen, &tally, &sum, &sum.front);
-    (tally, listen.accepted(), taken(rt, alloc, &listen))
+    let output = taken(rt, alloc, &listen);
+    (tally, sum.transfers, listen.accepted(), output)
 }
 
 // What nobody has counted, with what this reader knows.
@@ -173,18 +181,6 @@ fn cover<J: Reception, H: HandsOver, L: Listen, B: Tell>(
 {
     writer.covers(front);
     laws::sums_reach_further::<H>();
-}
-
-// What the connections that were closed had taken, one after the other.
-fn taken(rt: &impl Abort, alloc: Global, listen: &MemListen) -> Vec<u8> {
-    let mut all = Vec::new(alloc);
-    for closer in listen.closers() {
-        for call in closer.calls() {
-            all.extend_from_slice(call.wire.sink.taken())
-                .expect(rt, "memory for bytes");
-        }
-    }
-    all
 }
 
 const SERVED: Tally = Tally {
@@ -252,7 +248,7 @@ fn one<N: Naming, R: Wait + RandomSource + Abort>(
     alloc: Global,
     opened: Opened,
     listen: MemListen,
-) -> Came
+) -> (Tally, Came)
     requires board { opened ≡ N.book }
 {
     let (mut writer, reader, _) = two_readers::<N, R>(rt, alloc, opened);
@@ -261,12 +257,16 @@ fn one<N: Naming, R: Wait + RandomSource + Abort>(
 }
 
 fn try_row<R: Wait + RandomSource + Abort>(rt: &R, alloc: Global, row: &Row) {
-    let input = named(rt, alloc, NAMES, row.input);
     let output = named(rt, alloc, NAMES, row.output);
-    let listen = door(rt, alloc, &input, 2, &[row.failing]);
+    let listen = listener(rt, alloc, NAMES, &[row.input, row.input], row.failing);
     let came = one::<Brand, R>(rt, alloc, Opened::new(), listen);
-    let wanted = (row.tally, row.tally, row.transfers, row.accepted, output);
-    assert_same(rt, &came, &wanted, "the connections of a listener");
+    let all = (row.tally, row.transfers, row.accepted, output);
+    assert_same(
+        rt,
+        &came,
+        &(row.tally, all),
+        "the connections of a listener",
+    );
 }
 
 #[test]
@@ -282,7 +282,7 @@ fn two<N: Naming + Send + Sync, R: Threads + Wait + Sync + RandomSource + Abort>
     alloc: Global,
     opened: Opened,
     listen: MemListen,
-) -> Shared
+) -> Came
     requires board { opened ≡ N.book }
 {
     let (mut writer, first, second) = two_readers::<N, R>(rt, alloc, opened);
@@ -294,10 +294,9 @@ fn two<N: Naming + Send + Sync, R: Threads + Wait + Sync + RandomSource + Abort>
 #[test]
 fn two_workers_in_threads(rt: HostRuntime) {
     let alloc = rt.alloc();
-    let input = named(&rt, alloc, NAMES, "NULL NULL");
     let output = named(&rt, alloc, NAMES, BOTH.output);
-    let listen = door(&rt, alloc, &input, 2, &[]);
+    let listen = listener(&rt, alloc, NAMES, &[BOTH.input, BOTH.input], NEVER);
     let came = two::<Brand, _>(&rt, alloc, Opened::new(), listen);
-    let wanted = (SERVED, 2, output);
+    let wanted = (SERVED, 0, 2, output);
     assert_same(&rt, &came, &wanted, "the connections of two workers");
 }

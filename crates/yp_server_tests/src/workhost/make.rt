@@ -1,7 +1,7 @@
 //! Maps that workers make.
 
 use crate::given::{NEVER, assert_same, named};
-use crate::workhost::desks::*;
+use crate::sample::desk_of;
 use crate::workhost::stage::*;
 use std::alloc::Global;
 use std::marker::Brand;
@@ -9,7 +9,6 @@ use std::process::Abort;
 use std::random::RandomSource;
 use std::sync::Wait;
 use yp_board::readers::Opened;
-use yp_io::MemDisk;
 use yp_messages::XfrStat;
 
 const TEXT: &[u8] = b"10.0.0.1 alpha\n";
@@ -142,14 +141,12 @@ static ROWS: [Row; 9] = [
 // What comes of a row.
 fn came_of<R: RandomSource + Wait + Abort>(rt: &R, alloc: Global, row: &Row) -> Played {
     let file = named(rt, alloc, NAMES, row.file);
-    let disk = MemDisk::new(alloc, file, None, Vec::new(alloc));
-    let desk = desk_of(rt, alloc, TEXT, row.failing, b"m1", Vec::new(alloc), NEVER);
-    let catalog = catalog_of(rt, alloc, row.own);
+    let desk = desk_of(rt, alloc, TEXT, 100, row.failing);
     let script = Script {
         acts: row.acts,
         source: b"m1",
     };
-    staged::<Brand, _, R>(rt, alloc, Opened::new(), catalog, disk, desk, script)
+    staged::<Brand, _, R>(rt, alloc, Opened::new(), row.own, file, desk, script)
 }
 
 fn try_row<R: RandomSource + Wait + Abort>(rt: &R, alloc: Global, row: &Row) {

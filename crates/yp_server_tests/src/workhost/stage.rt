@@ -9,8 +9,8 @@ ghost use Rattle.yp_publisher.specs.sharing.Failures.{disks_of, faults_over};
 ghost use Rattle.yp_host.specs.inside.workers.Desks.{IsSupplied};
 ghost use Rattle.yp_host.specs.inside.workers.Makings.{SiteBuilds};
 
-use crate::given::{assert_same, bytes};
-use crate::workhost::desks::*;
+use crate::publishers::{Maps, publisher};
+use crate::sample::{Posted, posted_by};
 use std::alloc::Global;
 use std::marker::Brand;
 use std::process::Abort;
@@ -19,7 +19,7 @@ use std::sync::ledger::Blank;
 use std::sync::{Mutex, Wait};
 use yp_answer::session::Host;
 use yp_answer::{MakeJob, TransferJob};
-use yp_board::readers::{Naming, Opened, Reader, Writer, board};
+use yp_board::readers::{Naming, Opened, Reader, Writer};
 use yp_board::{Catalog, Tell, View};
 use yp_host::Desk;
 use yp_host::workers::{
@@ -28,23 +28,21 @@ use yp_host::workers::{
 };
 use yp_io::{MemDial, MemDisk, Peer, SetClock, Texts};
 use yp_messages::XfrStat;
-use yp_publisher::laws::starts_are_shown;
 use yp_publisher::sharing::{
     Accounts, BuiltVersions, Debits, FailedFiles, FetchedVersions, Locked, Site,
 };
-use yp_publisher::{Publisher, load_all};
 use yp_texts::Kind;
 use yp_worker::{CatchUp, HandsOver};
 
 /// The locks of a map and its desk.
-type Maps<S, J, R> = Mutex<Locked<S, MemDisk, Writer<J, R>>>;
+type SharedMaps<S, J, R> = Mutex<Locked<S, MemDisk, Writer<J, R>>>;
 
 type Tools<S, T> = Mutex<SharedDesk<S, MemDial, T, SetClock>>;
 
 type Worker<'a, S, J, T, R> = WorkerHost<'a, S, MemDisk, Writer<J, R>, MemDial, T, SetClock, R>;
 
 /// What a worker does.
-#[derive(Clone, Copy, Debug)]
+#[derive(Clone, Copy)]
 pub enum Act {
     Make,
     Transfer,
@@ -54,30 +52,6 @@ pub enum Act {
 
 /// What came of it: the status of a making, and the order that the worker holds then.
 pub type Came = (Option<XfrStat>, Option<u32>);
-
-/// A publisher of the one map of a catalogue, with its file on a disk, and two readers of its board.
-fn open<'r, J: Naming, R: RandomSource + Wait + Abort>(
-    rt: &'r R,
-    alloc: Global,
-    opened: Opened,
-    catalog: &Catalog,
-    disk: MemDisk,
-) -> (Publisher<MemDisk, Writer<J, &'r R>>, Vec<Reader<J>>)
-    requires { opened ≡ J.book }
-    ensures publisher { result.0.catalogue ≡ catalog.now }
-    ensures readers { All (λ reader. reader.catalogue ≡ catalog.now) result.1.items }
-{
-    let disks = vec![in alloc; disk].expect(rt, "a disk");
-    assert_fits(rt, disks.len(), catalog);
-    let loaded = load_all(alloc, rt, disks).expect(rt, "loaded disks");
-    let shown = loaded.shown(alloc).expect(rt, "what is shown");
-    assert_fits(rt, shown.len(), catalog);
-    let seen = catalog.copy(alloc).expect(rt, "a catalogue");
-    let kept = catalog.copy(alloc).expect(rt, "a catalogue");
-    let (writer, readers) = board(alloc, rt, opened, seen, shown, 2).expect(rt, "a board");
-    starts_are_shown();
-    (Publisher::new(loaded, kept, writer), readers)
-}
 
 /// The last two readers of a board.
 fn two_of<J: Naming>(
@@ -95,44 +69,64 @@ fn two_of<J: Naming>(
     (first, second)
 }
 
+/// Makes the map, where it is served.
+fn make<S: Site + Accounts + Supplies, J: Naming, T: Texts + Drop, R: RandomSource + Wait + Drop>(
+    host: &mut Worker<'_, S, J, T, R>,
+) -> Option<XfrStat> {
+    let kind = Kind::HostsByname;
+    let map = host.catalog().find(b"lab", kind.name())?;
+    Some(host.make(MakeJob { map, kind }))
+}
+
+/// Fetches the map from a host, where it is served, and the host has a name of at most 64 bytes.
+fn transfer<
+    S: Site + Accounts + Supplies,
+    J: Naming,
+    T: Texts + Drop,
+    R: RandomSource + Wait + Drop,
+>(host: &mut Worker<'_, S, J, T, R>, source: &[u8]) {
+    if host.catalog().len() == 0 || source.is_empty() || source.len() > 64 {
+        return;
+    }
+    let job = TransferJob {
+        map: 0,
+        source,
+        transid: 9,
+        prog: 0x4000_0000,
+        port: 7_002,
+    };
+    host.transfer(&job, CALLER);
+}
+
+/// Does one thing, and tells the status of a making.
+fn status_of<
+    S: Site + Accounts + Supplies,
+    J: Naming,
+    T: Texts + Drop,
+    R: RandomSource + Wait + Drop,
+>(host: &mut Worker<'_, S, J, T, R>, act: Act, source: &[u8]) -> Option<XfrStat> {
+    match act {
+        Act::Make => return make(host),
+        Act::Transfer => transfer(host, source),
+        Act::CatchUp => {
+            let _ = host.catch_up();
+        }
+        Act::Refresh => host.refresh(),
+    }
+    None
+}
+
 /// Does one thing.
 fn done_by<
     S: Site + Accounts + Supplies,
     J: Naming,
     T: Texts + Drop,
     R: RandomSource + Wait + Drop,
->(host: &mut Worker<'_, S, J, T, R>, act: Act, source: &[u8]) -> Came {
-    if host.catalog().len() == 0 || source.is_empty() || source.len() > 64 {
-        return (None, None);
+>(host: &mut Worker<'_, S, J, T, R>, what: Act, source: &[u8]) -> Came {
+    let stat = status_of(host, what, source);
+    if host.catalog().is_empty() {
+        return (stat, None);
     }
-    let stat = match act {
-        Act::Make => {
-            let kind = Kind::HostsByname;
-            match host.catalog().find(b"lab", kind.name()) {
-                Some(map) => Some(host.make(MakeJob { map, kind })),
-                None => return (None, None),
-            }
-        }
-        Act::Transfer => {
-            let job = TransferJob {
-                map: 0,
-                source,
-                transid: 9,
-                prog: 0x4000_0000,
-                port: 7_002,
-            };
-            host.transfer(&job, CALLER);
-            None
-        }
-        Act::CatchUp => {
-            let _ = host.catch_up();
-            None
-        }
-        Act::Refresh => {
-            host.refresh();
-            None
-        }
-    };
     (stat, host.held(0).map(|version| version.order()))
 }
 
@@ -143,7 +137,7 @@ const CALLER: Peer = Peer {
 };
 
 /// What is done, by the first of two workers or by the second, and the host that transfers fetch from.
-#[derive(Clone, Copy, Debug)]
+#[derive(Clone, Copy)]
 pub struct Script<'a> {
     pub acts: &'a [(bool, Act)],
     pub source: &'a [u8],
@@ -185,7 +179,7 @@ fn meet<
 >(
     rt: &'r R,
     alloc: Global,
-    maps: &Maps<S, J, &'r R>,
+    maps: &SharedMaps<S, J, &'r R>,
     tools: &Tools<S, T>,
     readers: (Reader<J>, Reader<J>),
     charges: Charges<S>,
@@ -209,22 +203,22 @@ fn meet<
 }
 
 /// What came of a stage: of each act, what both workers counted, and what was posted.
-pub type Played = (Vec<Came>, Totals, Vec<(Peer, Vec<u8>)>);
+pub type Played = (Vec<Came>, Totals, Posted);
 
-/// What came of a script over a map with its file on a disk.
+/// What came of a script over a map of a host of this name, with this file.
 pub fn staged<J: Naming, T: Texts + Drop, R: RandomSource + Wait + Abort>(
     rt: &R,
     alloc: Global,
     opened: Opened,
-    catalog: Catalog,
-    disk: MemDisk,
+    own: &[u8],
+    file: Vec<u8>,
     desk: Desk<MemDial, T, SetClock>,
     script: Script<'_>,
 ) -> Played
     requires { opened ≡ J.book }
 {
-    let (publisher, readers) = open(rt, alloc, opened, &catalog, disk);
-    let readers = two_of(rt, readers, &catalog);
+    let (publisher, readers) = publisher::<J, R>(rt, alloc, opened, own, file, 2);
+    let readers = two_of(rt, readers, publisher.catalog());
     under_locks::<Brand, J, T, R>(rt, alloc, publisher, readers, desk, Blanks::new(), script)
 }
 
@@ -269,7 +263,7 @@ fn under_locks<
 >(
     rt: &'r R,
     alloc: Global,
-    publisher: Publisher<MemDisk, Writer<J, &'r R>>,
+    publisher: Maps<'r, J, R>,
     readers: (Reader<J>, Reader<J>),
     desk: Desk<MemDial, T, SetClock>,
     blanks: Blanks,
@@ -309,24 +303,22 @@ fn under_locks<
     let publishers = own_versions.split_off(1, 0);
     let debits = Debits::new(own_failures, own_made, own_versions);
     let charges = Charges::new(own_unread, own_orders, own_sources, debits);
-    let maps: Maps<S, J, &R> = Mutex::new(Locked::new(publisher, failures, made, publishers));
+    let maps: SharedMaps<S, J, &R> = Mutex::new(Locked::new(publisher, failures, made, publishers));
     let tools: Tools<S, T> = Mutex::new(SharedDesk::new(desk, unread, orders, sources, versions));
     let (came, account) = meet(rt, alloc, &maps, &tools, readers, charges, script);
-    let (totals, charges, _) = account.into_parts();
-    let (mut unread, mut orders, mut sources, mut debits) = charges.into_shares();
-    let (_, mut versions) = maps.into_inner().close(&mut debits);
-    let desk = tools
-        .into_inner()
-        .close(&mut unread, &mut orders, &mut sources, &mut versions);
+    let (totals, desk) = closed(maps.into_inner(), tools.into_inner(), account);
     (came, totals, posted_by(rt, alloc, &desk.dial))
 }
 
-// What was posted: to whom, and the bytes.
-fn posted_by(rt: &impl Abort, alloc: Global, dial: &MemDial) -> Vec<(Peer, Vec<u8>)> {
-    let mut posted = Vec::new(alloc);
-    for letter in dial.letters() {
-        let bytes = Vec::from_slice(alloc, &letter.bytes).expect(rt, "bytes");
-        posted.push((letter.peer, bytes)).expect(rt, "a letter");
-    }
-    posted
+/// Takes the desk from under its lock, with what both workers counted.
+fn closed<S: Site + Accounts + Supplies, J: Naming, T: Texts + Drop, R: Wait + Drop>(
+    maps: Locked<S, MemDisk, Writer<J, R>>,
+    tools: SharedDesk<S, MemDial, T, SetClock>,
+    account: Account<S, Writer<J, R>>,
+) -> (Totals, Desk<MemDial, T, SetClock>) {
+    let (totals, charges, _) = account.into_parts();
+    let (mut unread, mut orders, mut sources, mut debits) = charges.into_shares();
+    let (_, mut versions) = maps.close(&mut debits);
+    let desk = tools.close(&mut unread, &mut orders, &mut sources, &mut versions);
+    (totals, desk)
 }

@@ -1,7 +1,7 @@
 //! Maps that workers fetch.
 
 use crate::given::{NEVER, assert_same, named};
-use crate::workhost::desks::*;
+use crate::sample::{PROGRAM, fetching_desk};
 use crate::workhost::stage::*;
 use std::alloc::Global;
 use std::marker::Brand;
@@ -10,7 +10,6 @@ use std::random::RandomSource;
 use std::sync::Wait;
 use yp_board::readers::Opened;
 use yp_host::workers::{Outcomes, Totals};
-use yp_io::{MemDisk, Peer};
 
 // Names of words: what is posted of the transaction 9 to the program 0x40000000 up to its status, the statuses, what
 // the source sends (order 100, master `m1`, the row `alpha`, and the order 100 or 101), and a file of order 100 by the
@@ -119,24 +118,16 @@ static ROWS: [Row; 6] = [
     },
 ];
 
-// The program of the caller.
-const PROGRAM: Peer = Peer {
-    addr: [127, 0, 0, 1],
-    port: 7_002,
-};
-
 // What comes of a row.
 fn came_of<R: RandomSource + Wait + Abort>(rt: &R, alloc: Global, row: &Row) -> Played {
     let file = named(rt, alloc, NAMES, row.file);
-    let disk = MemDisk::new(alloc, file, None, Vec::new(alloc));
     let replies = named(rt, alloc, NAMES, row.replies);
-    let desk = desk_of(rt, alloc, b"", NEVER, b"m1", replies, row.refused);
-    let catalog = catalog_of(rt, alloc, row.own);
+    let desk = fetching_desk(rt, alloc, b"m1", replies, row.refused);
     let script = Script {
         acts: &[(true, Act::Transfer)],
         source: row.source,
     };
-    staged::<Brand, _, R>(rt, alloc, Opened::new(), catalog, disk, desk, script)
+    staged::<Brand, _, R>(rt, alloc, Opened::new(), row.own, file, desk, script)
 }
 
 // What is wanted of a row.

@@ -3,7 +3,7 @@ use Rattle.std.specs.Prelude.{if◌then◌else◌, is_ok}
 use Rattle.std.specs.List.{All}
 use Rattle.std.proofs.lemmas.List.Elements.{All-push}
 use Rattle.yp_io.specs.inside.MemListen.{MemConnection, ConnectionIsNew}
-use Rattle.yp_server_tests.proofs.serve.sample.listener.Goals as goal
+use Rattle.yp_server_tests.proofs.listeners.listener.Goals as goal
 
 -- one more connection that has met no fault and taken nothing, where there is memory for it
 added : (calls : List MemConnection) (call : MemConnection) (pushed : Bool) → All ConnectionIsNew calls → ConnectionIsNew call
