@@ -9,7 +9,7 @@ use yp_answer::session::End;
 use yp_board::Catalog;
 use yp_host::*;
 use yp_io::{MemDial, MemDisk, MemTexts, MemWire, SetClock, Source, Trail};
-use yp_map_file::{Slot, SlotFault};
+use yp_map_file::SlotFault;
 use yp_publisher::OpenFault;
 
 // A disk with this file. From call `stop` on its calls fail, and the call `failing` fails.
@@ -25,7 +25,7 @@ fn disk_of(
 }
 
 // What came of a connection: its end, what it wrote, and what it left of its input.
-type Came = (Result<End, OpenFault>, Vec<u8>, Vec<u8>);
+pub type Came = (Result<End, OpenFault>, Vec<u8>, Vec<u8>);
 
 // What a connection left of its input.
 fn input_left(rt: &impl Abort, alloc: Global, wire: &mut MemWire) -> Vec<u8> {
@@ -34,28 +34,22 @@ fn input_left(rt: &impl Abort, alloc: Global, wire: &mut MemWire) -> Vec<u8> {
     Vec::from_slice(alloc, &left[..count]).expect(rt, "bytes")
 }
 
-// The order of the version that a file stands for, and 0 where there is none.
-fn order_of<R: RandomSource + Abort>(rt: &R, alloc: Global, file: Vec<u8>) -> u32 {
-    let mut slot = Slot::new(sound_disk(alloc, file));
-    match slot.load(alloc, rt).expect(rt, "a sound file") {
-        Some(version) => version.order(),
-        None => 0,
-    }
-}
-
 // How many files of a disk are looked at that a crash may leave: with each of three writes kept or dropped.
 const CRASHES: u64 = 8;
 
-// The order that one of them stands for.
+// The order that one of them stands for, and 0 where it has no version.
 fn order_left<R: RandomSource + Abort>(rt: &R, alloc: Global, disk: &MemDisk, kept: u64) -> u32 {
     let file = disk.crashed(kept).expect(rt, "a file");
-    order_of(rt, alloc, file)
+    match stored_on(rt, rt, alloc, sound_disk(alloc, file)) {
+        (Some((order, _)), _) => order,
+        (None, _) => 0,
+    }
 }
 
 type Resources = ConnectionResources<MemDisk, MemDial, MemTexts, SetClock>;
 
 // Serves calls over a wire to the own host.
-pub fn serve_all<R: RandomSource + Abort>(
+fn serve_all<R: RandomSource + Abort>(
     rt: &R,
     alloc: Global,
     catalog: Catalog,
@@ -69,6 +63,21 @@ pub fn serve_all<R: RandomSource + Abort>(
     serve_wire(alloc, rt, catalog, OWN_HOST, wire, resources, &mut trail)
 }
 
+// Serves calls with this input, and hands back what they are served from.
+pub fn served_by<R: RandomSource + Abort>(
+    rt: &R,
+    alloc: Global,
+    catalog: Catalog,
+    disks: Vec<MemDisk>,
+    desk: MemDesk,
+    input: &str,
+) -> (Came, Resources) {
+    let mut wire = wire_of(alloc, words(rt, alloc, input));
+    let (end, resources) = serve_all(rt, alloc, catalog, &mut wire, disks, desk);
+    let left = input_left(rt, alloc, &mut wire);
+    ((end, output_of(rt, alloc, &wire), left), resources)
+}
+
 // Serves calls from these disks, and hands them back. Each is of the map at its place.
 fn served<R: RandomSource + Abort>(
     rt: &R,
@@ -79,11 +88,8 @@ fn served<R: RandomSource + Abort>(
 ) -> (Came, Vec<MemDisk>) {
     let catalog = catalog_of(rt, alloc, b"m1", maps);
     let desk = desk_of(rt, alloc, TEXT, 100, NEVER);
-    let mut wire = wire_of(alloc, words(rt, alloc, input));
-    let (end, resources) = serve_all(rt, alloc, catalog, &mut wire, disks, desk);
-    let left = input_left(rt, alloc, &mut wire);
-    let output = output_of(rt, alloc, &wire);
-    ((end, output, left), resources.disks)
+    let (came, resources) = served_by(rt, alloc, catalog, disks, desk, input);
+    (came, resources.disks)
 }
 
 // Disks with the files of these texts. From call `stop` on their calls fail, and the call `failing` fails.

@@ -8,7 +8,6 @@ use yp_answer::session::{End, Session};
 use yp_board::{Catalog, PlainBoard};
 use yp_host::*;
 use yp_io::{MemDial, MemDisk, MemTexts, Peer, SetClock, Trail};
-use yp_map_file::Slot;
 use yp_publisher::open_publisher;
 
 type MemHost = LocalHost<MemDisk, PlainBoard, MemDial, MemTexts, SetClock, HostRuntime>;
@@ -46,26 +45,11 @@ fn run_session(
     (end, output_of(rt, alloc, &wire))
 }
 
-// What a file stands for: the order of its version and whether that is secure, and its generation.
-type Stored = (Option<(u32, bool)>, u64);
-
-fn load_stored(
-    rt: &impl Abort,
-    runtime: HostRuntime,
-    alloc: Global,
-    slot: &mut Slot<MemDisk>,
-) -> Stored {
-    let version = slot.load(alloc, &runtime).expect(rt, "a file");
-    let shown = version.map(|version| (version.order(), version.secure()));
-    (shown, slot.generation())
-}
-
-// What the file of a host stands for.
-fn stored_by(rt: &impl Abort, runtime: HostRuntime, alloc: Global, host: MemHost) -> Stored {
+// The disk of a host.
+fn disk_of(rt: &impl Abort, host: MemHost) -> MemDisk {
     let (publisher, _) = host.into_parts();
     let (mut disks, _) = publisher.into_parts();
-    let mut slot = Slot::new(disks.pop().expect(rt, "a disk"));
-    load_stored(rt, runtime, alloc, &mut slot)
+    disks.pop().expect(rt, "a disk")
 }
 
 // A host, a call of MAKE and what is wanted of it: its reply, the reply to MATCH behind it, and what the file stands
@@ -121,7 +105,8 @@ fn made_by(
 fn came_of(rt: &impl Abort, runtime: HostRuntime, alloc: Global, making: &Making<'_>) -> Came {
     let mut host = host_before(rt, runtime, alloc, making);
     let (made, looked_up) = made_by(rt, alloc, &mut host, making);
-    (made, looked_up, stored_by(rt, runtime, alloc, host))
+    let stored = stored_on(rt, &runtime, alloc, disk_of(rt, host));
+    (made, looked_up, stored)
 }
 
 // Makes a map, and compares what comes.

@@ -6,11 +6,13 @@ ghost use Rattle.yp_io.specs.inside.MemDial.{WireIsNew};
 use crate::given::{NEVER, named};
 use std::alloc::Global;
 use std::process::Abort;
+use std::random::RandomSource;
 use yp_board::{Catalog, MapName};
 use yp_host::Desk;
 use yp_io::{
     MemDial, MemDisk, MemSink, MemSource, MemTexts, MemWire, Pair, Peer, SetClock, TextFile,
 };
+use yp_map_file::Slot;
 use yp_transfer::Hosts;
 
 // Names of words of calls, replies and files.
@@ -115,6 +117,33 @@ pub fn catalog_of(rt: &impl Abort, alloc: Global, own: &[u8], maps: &[Map]) -> C
 // A disk with this file, whose calls don't fail.
 pub fn sound_disk(alloc: Global, file: Vec<u8>) -> MemDisk {
     MemDisk::new(alloc, file, None, Vec::new(alloc))
+}
+
+// What a file stands for: the order of its version and whether that is secure, and its generation.
+pub type Stored = (Option<(u32, bool)>, u64);
+
+fn load_stored(
+    rt: &impl Abort,
+    random: &impl RandomSource,
+    alloc: Global,
+    slot: &mut Slot<MemDisk>,
+) -> Stored {
+    let shown = match slot.load(alloc, random).expect(rt, "a file") {
+        Some(version) => Some((version.order(), version.secure())),
+        None => None,
+    };
+    (shown, slot.generation())
+}
+
+// What the file of a disk stands for.
+pub fn stored_on(
+    rt: &impl Abort,
+    random: &impl RandomSource,
+    alloc: Global,
+    disk: MemDisk,
+) -> Stored {
+    let mut slot = Slot::new(disk);
+    load_stored(rt, random, alloc, &mut slot)
 }
 
 // Texts of hosts. The read with this number fails.

@@ -1,6 +1,6 @@
 //! Calls of XFR on a connection: the map is fetched behind the reply, stored and shown, and the caller is told.
 
-use crate::connection::serve_all;
+use crate::connection::{Came, served_by};
 use crate::given::{NEVER, assert_same};
 use crate::sample::*;
 use std::alloc::Global;
@@ -8,7 +8,6 @@ use std::process::Abort;
 use std::random::RandomSource;
 use yp_answer::session::End;
 use yp_io::MemDisk;
-use yp_publisher::OpenFault;
 
 // The host that the table has, what the source sends, and the calls of XFR and MATCH. What comes of it: what is posted,
 // if anything, the replies, and the file.
@@ -64,20 +63,18 @@ static ROWS: [Row; 5] = [
     },
 ];
 
-// What came of a connection: its end, what it wrote, what was posted, and the file.
-type Came = (Result<End, OpenFault>, Vec<u8>, Posted, Vec<u8>);
+// What came of a connection, what was posted, and the file.
+type Transferred = (Came, Posted, Vec<u8>);
 
 // Serves the calls from an empty disk, by the host `s1`.
-fn play<R: RandomSource + Abort>(rt: &R, alloc: Global, row: &Row) -> Came {
+fn play<R: RandomSource + Abort>(rt: &R, alloc: Global, row: &Row) -> Transferred {
     let replies = words(rt, alloc, row.replies);
     let desk = fetching_desk(rt, alloc, row.host, replies, NEVER);
     let disks = vec![in alloc; sound_disk(alloc, Vec::new(alloc))].expect(rt, "a disk");
     let catalog = catalog_of(rt, alloc, b"s1", &[LAB]);
-    let mut wire = wire_of(alloc, words(rt, alloc, row.input));
-    let (end, left) = serve_all(rt, alloc, catalog, &mut wire, disks, desk);
+    let (came, left) = served_by(rt, alloc, catalog, disks, desk, row.input);
     let posted = posted_by(rt, alloc, &left.desk.dial);
-    let file = file_of(rt, alloc, &left.disks);
-    (end, output_of(rt, alloc, &wire), posted, file)
+    (came, posted, file_of(rt, alloc, &left.disks))
 }
 
 // The file on the one disk.
@@ -87,7 +84,7 @@ fn file_of(rt: &impl Abort, alloc: Global, disks: &[MemDisk]) -> Vec<u8> {
 }
 
 // What is wanted of a row.
-fn wanted_of(rt: &impl Abort, alloc: Global, row: &Row) -> Came {
+fn wanted_of(rt: &impl Abort, alloc: Global, row: &Row) -> Transferred {
     let output = words(rt, alloc, row.output);
     let file = words(rt, alloc, row.file);
     let mut posted = Vec::new(alloc);
@@ -95,7 +92,7 @@ fn wanted_of(rt: &impl Abort, alloc: Global, row: &Row) -> Came {
         let letter = (PROGRAM, words(rt, alloc, row.posted));
         posted.push(letter).expect(rt, "a letter");
     }
-    (Ok(End::Clean), output, posted, file)
+    ((Ok(End::Clean), output, Vec::new(alloc)), posted, file)
 }
 
 fn try_row<R: RandomSource + Abort>(rt: &R, alloc: Global, row: &Row) {

@@ -111,8 +111,16 @@ fn sent(rt: &impl Abort, alloc: Global, letters: &[Letter]) -> Vec<u8> {
 // How turns end, how many were taken, how many transfers were carried out, and what was sent.
 type Came = (Result<Ended, Failed>, u64, u64, Vec<u8>);
 
-fn room(rt: &impl Abort, alloc: Global) -> Room {
-    Room::new(alloc).expect(rt, "memory for turns")
+// Takes so many turns at most.
+fn serve_turns(
+    rt: &impl Abort,
+    alloc: Global,
+    inbox: &mut MemInbox,
+    server: &mut MailServer<TestHost>,
+    most: u32,
+) -> Result<Ended, Failed> {
+    let mut room = Room::new(alloc).expect(rt, "memory for turns");
+    serve_mail(inbox, server, &mut room, most)
 }
 
 // Takes turns of an inbox with these letters, of which this call fails.
@@ -125,10 +133,9 @@ fn take_turns(
     most: u32,
 ) -> Came {
     let failing = vec![in alloc; failing].expect(rt, "memory for a number");
-    let mut room = room(rt, alloc);
     let mut inbox = MemInbox::new(alloc, mail, failing);
     let mut server = MailServer::new(host);
-    let ended = serve_mail(&mut inbox, &mut server, &mut room, most);
+    let ended = serve_turns(rt, alloc, &mut inbox, &mut server, most);
     let sent = sent(rt, alloc, inbox.letters());
     (ended, inbox.turns(), server.into_host().transfers(), sent)
 }

@@ -50,12 +50,19 @@ fn serve<G: Gate + Copy>(
     (end, worker.calls(), output_of(rt, alloc, &wire))
 }
 
-// Two connections one after the other, behind which others show these values, each before the worker catches up.
-fn served<R: RandomSource + Abort>(rt: &R, alloc: Global, values: &[&[u8]]) -> (Came, Came) {
+// Two connections one after the other, the second with this input, behind which others show these values, each before
+// the worker catches up.
+fn served<R: RandomSource + Abort, G: Gate + Copy>(
+    rt: &R,
+    alloc: Global,
+    values: &[&[u8]],
+    gate: G,
+    input: &str,
+) -> (Came, Came) {
     let session = Session::new(alloc).expect(rt, "a session");
-    let mut worker = Worker::new(host_of(rt, alloc, values), session, OpenGate, 9);
+    let mut worker = Worker::new(host_of(rt, alloc, values), session, gate, 9);
     let first = serve(rt, alloc, &mut worker, 1, "MATCH");
-    let second = serve(rt, alloc, &mut worker, 2, "MATCH MATCH");
+    let second = serve(rt, alloc, &mut worker, 2, input);
     (first, second)
 }
 
@@ -73,7 +80,7 @@ fn try_row<R: RandomSource + Abort>(rt: &R, alloc: Global, row: &Row) {
     let (values, first, second) = row;
     let one = (End::Clean, 1, named(rt, alloc, NAMES, first));
     let two = (End::Clean, 2, named(rt, alloc, NAMES, second));
-    let came = served(rt, alloc, values);
+    let came = served(rt, alloc, values, OpenGate, "MATCH MATCH");
     assert_same(rt, &came, &(one, two), "two connections");
 }
 
@@ -87,15 +94,8 @@ fn two_connections(rt: HostRuntime) {
 // The points of a worker that serves two connections.
 fn points<R: RandomSource + Abort>(rt: &R, alloc: Global) -> Vec<Point> {
     let gate = Recorder::new(alloc);
-    pass(rt, alloc, &gate);
+    served(rt, alloc, &[], &gate, "");
     gate.into_points()
-}
-
-fn pass<R: RandomSource + Abort>(rt: &R, alloc: Global, gate: &Recorder) {
-    let session = Session::new(alloc).expect(rt, "a session");
-    let mut worker = Worker::new(host_of(rt, alloc, &[]), session, gate, 9);
-    serve(rt, alloc, &mut worker, 1, "MATCH");
-    serve(rt, alloc, &mut worker, 2, "");
 }
 
 #[test]

@@ -69,64 +69,44 @@ fn two_of<J: Naming>(
     (first, second)
 }
 
-/// Makes the map, where it is served.
-fn make<S: Site + Accounts + Supplies, J: Naming, T: Texts + Drop, R: RandomSource + Wait + Drop>(
-    host: &mut Worker<'_, S, J, T, R>,
-) -> Option<XfrStat> {
-    let kind = Kind::HostsByname;
-    let map = host.catalog().find(b"lab", kind.name())?;
-    Some(host.make(MakeJob { map, kind }))
-}
-
-/// Fetches the map from a host, where it is served, and the host has a name of at most 64 bytes.
-fn transfer<
-    S: Site + Accounts + Supplies,
-    J: Naming,
-    T: Texts + Drop,
-    R: RandomSource + Wait + Drop,
->(host: &mut Worker<'_, S, J, T, R>, source: &[u8]) {
-    if host.catalog().len() == 0 || source.is_empty() || source.len() > 64 {
-        return;
-    }
-    let job = TransferJob {
-        map: 0,
-        source,
-        transid: 9,
-        prog: 0x4000_0000,
-        port: 7_002,
-    };
-    host.transfer(&job, CALLER);
-}
-
-/// Does one thing, and tells the status of a making.
-fn status_of<
-    S: Site + Accounts + Supplies,
-    J: Naming,
-    T: Texts + Drop,
-    R: RandomSource + Wait + Drop,
->(host: &mut Worker<'_, S, J, T, R>, act: Act, source: &[u8]) -> Option<XfrStat> {
-    match act {
-        Act::Make => return make(host),
-        Act::Transfer => transfer(host, source),
-        Act::CatchUp => {
-            let _ = host.catch_up();
-        }
-        Act::Refresh => host.refresh(),
-    }
-    None
-}
-
 /// Does one thing.
 fn done_by<
     S: Site + Accounts + Supplies,
     J: Naming,
     T: Texts + Drop,
     R: RandomSource + Wait + Drop,
->(host: &mut Worker<'_, S, J, T, R>, what: Act, source: &[u8]) -> Came {
-    let stat = status_of(host, what, source);
-    if host.catalog().is_empty() {
-        return (stat, None);
+>(host: &mut Worker<'_, S, J, T, R>, act: Act, source: &[u8]) -> Came {
+    if host.catalog().len() == 0 || source.is_empty() || source.len() > 64 {
+        return (None, None);
     }
+    let stat = match act {
+        Act::Make => {
+            let kind = Kind::HostsByname;
+            match host.catalog().find(b"lab", kind.name()) {
+                Some(map) => Some(host.make(MakeJob { map, kind })),
+                None => return (None, None),
+            }
+        }
+        Act::Transfer => {
+            let job = TransferJob {
+                map: 0,
+                source,
+                transid: 9,
+                prog: 0x4000_0000,
+                port: 7_002,
+            };
+            host.transfer(&job, CALLER);
+            None
+        }
+        Act::CatchUp => {
+            let _ = host.catch_up();
+            None
+        }
+        Act::Refresh => {
+            host.refresh();
+            None
+        }
+    };
     (stat, host.held(0).map(|version| version.order()))
 }
 
