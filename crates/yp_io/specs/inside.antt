@@ -6,6 +6,7 @@ pub mod MemDial
 pub mod MemDisk
 pub mod MemDiskLaws
 pub mod MemSteps
+pub mod Ready
 pub mod Streams
 pub mod Texts
 pub mod MemInbox

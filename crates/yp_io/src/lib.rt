@@ -1,12 +1,13 @@
 //! What the program reaches outside itself, as traits, with forms in memory for tests.
 //!
-//! A source gives bytes and a sink takes them; a disk keeps bytes through a crash; texts and a clock are read; a dial
-//! opens wires and sends datagrams; an inbox receives datagrams at a port, and sends them from there; a listener hands
-//! out the connections that come, each with its caller, up to a number that is stated, and closers, by which they are
-//! closed. Each says what it holds, has taken or shows where that can be known: a disk what a crash may leave of it at
-//! each moment, a dial which wires came, an inbox what arrived and was sent in one order, and a listener which
-//! connections came, of which callers, and which its closers have closed, with what each told then. All but the clock
-//! count their faults, so that a failure always has a cause. These promises stand on the clauses of [`Source`],
+//! A source gives bytes and a sink takes them, and those that are never waited for say where nothing can go on now; a
+//! disk keeps bytes through a crash; texts and a clock are read; a dial opens wires and sends datagrams; an inbox
+//! receives datagrams at a port, and sends them from there; a listener hands out the connections that come, each with
+//! its caller, up to a number that is stated, and closers, by which they are closed. Each says what it holds, has taken
+//! or shows where that can be known: a disk what a crash may leave of it at each moment, a dial which wires came, an
+//! inbox what arrived and was sent in one order, and a listener which connections came, of which callers, and which its
+//! closers have closed, with what each told then. All but the clock count their faults, so that a failure always has a
+//! cause. These promises stand on the clauses of [`Source`], [`TrySource`], [`TrySink`],
 //! [`Sink`], [`Disk`], [`Texts`], [`Clock`], [`Dial`], [`Inbox`] and [`Listen`], and on [`write_all`] and [`read_all`].
 #![tactic(auto)]
 
@@ -24,6 +25,9 @@ mod mem_inbox;
 mod mem_listen;
 mod mem_texts;
 mod plan;
+mod ready;
+mod scheduled;
+mod slice_source;
 mod stream;
 mod texts;
 mod trail;
@@ -43,6 +47,9 @@ pub use mem_inbox::MemInbox;
 pub use mem_listen::{MemCall, MemListen};
 pub use mem_texts::MemTexts;
 pub use plan::Plan;
+pub use ready::{TrySink, TrySource};
+pub use scheduled::Scheduled;
+pub use slice_source::SliceSource;
 pub use stream::{
     Failed, NoMemory, OWN_HOST, Pair, Peer, Sink, Source, count_fault, write_all, write_through,
 };

@@ -8,6 +8,7 @@ pub mod CutPieces
 pub mod Fragments
 pub mod Giving
 pub mod Holding
+pub mod Coming
 pub mod Sending
 pub mod Stream
 pub mod Whole

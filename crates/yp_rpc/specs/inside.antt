@@ -3,6 +3,8 @@ pub mod Pieces
 pub mod Waiting
 pub mod Laws
 pub mod Call
+pub mod Incoming
+pub mod Outgoing
 pub mod Called
 pub mod Read
 pub mod Judging

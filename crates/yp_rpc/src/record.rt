@@ -5,9 +5,13 @@ ghost use Rattle.yp_rpc.specs.declared.record.RecordFault.TheVariants.{ReadFault
 
 mod batch;
 mod head;
+mod incoming;
+mod outgoing;
 mod reader;
 mod writer;
 
+pub use incoming::Incoming;
+pub use outgoing::{Outgoing, Payment};
 pub use reader::RecordReader;
 use thiserror::Error;
 pub use writer::RecordWriter;
