@@ -1,7 +1,7 @@
 -- Further words, read one after the other.
 use Rattle.std.proofs.Common.{◌≡◌, ℕ, ◌+◌, ◌<◌, ◌≤◌, Bool, true, false, cond, List, [], ◌∷◌, ◌++◌, length, drop, take}
 use Rattle.std.proofs.Common.{Option, Some, None, Result, Ok, Err, refl, sym, ◌∙◌, ap, subst, add-one, arith, length-drop}
-use Rattle.std.specs.Prelude.{slice_get, nat_lt, nat_le, ◌==◌, map}
+use Rattle.std.specs.Prelude.{slice_get, nat_lt, nat_le, ◌==◌, ◌||◌, map}
 use Rattle.std.specs.List.{list_any}
 use Rattle.std.specs.Option.{ok_or, option_and_then}
 use Rattle.std.proofs.Math.Seq.{drop-cons}
@@ -150,6 +150,12 @@ room_left n within other = grind (arith, nat_tests)
 
 pub no_room : (n : ℕ) → (n == maps_max) ≡ true → n ≡ maps_max
 no_room n same = grind (arith, nat_tests)
+
+-- a test of views is a test of what is viewed
+pub any_viewed : {X : Type 0} (test : Name → Bool) (view : X → Name) (all : List X)
+    → list_any test (map view all) ≡ list_any (λ one. test (view one)) all
+any_viewed test view [] = refl
+any_viewed test view (one ∷ all) = ap (λ b. test (view one) || b) (any_viewed test view all)
 
 -- a map that isn't one of those before it, which are fewer than 64
 pub new_store : (stores : List Name) (store : Name) → list_any (is_same store) stores ≡ false

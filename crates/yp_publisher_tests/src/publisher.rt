@@ -423,8 +423,8 @@ fn reopen_that_fails(rt: HostRuntime) {
     play_failing(&rt, rt.alloc(), &[22, 23], &REOPEN_FAILS);
 }
 
-// What is offered to a host of this own name whose map has this file, of order 100 and master `m1`: where a version comes
-// from, its order, and whether it is forced. Then what comes of it.
+// What is offered to a host of this own name whose map has this file, of order 100 and master `m1`: where a version
+// comes from, its order, and whether it is forced. Then what comes of it.
 type Offered = (
     &'static str,
     &'static [u8; 2],

@@ -24,8 +24,8 @@ fn call(alloc: Global, port: u16, input: Vec<u8>) -> MemCall
     }
 }
 
-/// A listener to which connections with inputs of these names of words call in turn, the first from port 1, the next from port 2, and so
-/// on. It is to accept all of them. This call of it fails.
+/// A listener to which connections with inputs of these names of words call in turn, the first from port 1, the next
+/// from port 2, and so on. It is to accept all of them. This call of it fails.
 pub fn listener(
     rt: &impl Abort,
     alloc: Global,

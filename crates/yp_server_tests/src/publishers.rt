@@ -47,7 +47,8 @@ fn shown<R: Abort>(rt: &R, alloc: Global, loaded: &Loaded<MemDisk>) -> Vec<Optio
     shown
 }
 
-/// A publisher of hosts.byname of `lab` with this file, on a host of this name, and so many readers of its board, 1 to 9.
+/// A publisher of hosts.byname of `lab` with this file, on a host of this name, and so many readers of its board, 1 to
+/// 9.
 pub fn publisher<'r, J: Naming, R: Wait + RandomSource + Abort>(
     rt: &'r R,
     alloc: Global,

@@ -1,11 +1,11 @@
 -- What is owed to a sink that is never waited for.
-use Rattle.std.specs.Prelude.{◌≡◌, ℕ, Bool, IsTrue, List, [], ◌++◌, Option, ⊤}
+use Rattle.std.specs.Prelude.{◌≡◌, ◌<◌, ℕ, Bool, IsTrue, List, [], ◌++◌, length, Option}
 use Rattle.std.specs.Io.KnownBytes.{Appends}
 use Rattle.yp_rpc.specs.declared.record.outgoing.Payment.{Payment}
 use Rattle.yp_rpc.specs.declared.record.outgoing.Payment.TheVariants.{Whole, Part, NotNow}
 
--- all that was written since nothing was owed, how much of that is owed, whether it was flushed, and how often memory ran
--- out
+-- all that was written since nothing was owed, how much of that is owed, whether it was flushed, and how often memory
+-- ran out
 pub record Owing : Type 0 where
   pub written : List ℕ
   pub owed : List ℕ
@@ -19,8 +19,8 @@ pub record Pays (before after : Option (List ℕ)) (old new : Owing) : Type 0 wh
   pub owed : old.owed ≡ gave ++ new.owed
   pub same : new ≡ record old { owed = new.owed }
 
--- where all is paid, nothing is owed, and the sink has passed it on
-abbrev pub IsPaid : Owing → Bool → Payment → Type 0
-IsPaid now flushed Whole = (now.owed ≡ []) × IsTrue flushed
-IsPaid now flushed Part = ⊤
-IsPaid now flushed NotNow = ⊤
+-- Where all is paid, nothing is owed, and the sink has passed it on; where a part is, less is owed; and else as much.
+abbrev pub IsPaid : Owing → Owing → Bool → Payment → Type 0
+IsPaid old new flushed Whole = (new.owed ≡ []) × IsTrue flushed
+IsPaid old new flushed Part = length new.owed < length old.owed
+IsPaid old new flushed NotNow = new ≡ old

@@ -51,8 +51,8 @@ impl Incoming {
         }
     }
 
-    /// Reads some of what is there, and answers how many bytes: 0 exactly at the end of input, and `None` where none are
-    /// there now or memory has run out.
+    /// Reads some of what is there, and answers how many bytes: 0 exactly at the end of input, and `None` where none
+    /// are there now or memory has run out.
     pub fn fill<S: TrySource>(&mut self, source: &mut S) -> Result<Option<usize>, Failed>
         ensures fills { Fills (S.input source.old) (S.input source.new) self.old self.new result }
         ensures cause { CountsFaults (S.faults source.old) (S.faults source.new) result }

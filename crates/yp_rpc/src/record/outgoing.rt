@@ -3,6 +3,7 @@
 ghost use Rattle.std.specs.Prelude.{◌≡◌, ◌<◌, ◌≤◌, ◌++◌, [], true, false, IsTrue, Some, length, IfOk, OnOk};
 ghost use Rattle.std.specs.Io.KnownBytes.{Keeps, WriteAppends};
 ghost use Rattle.yp_io.specs.Counts.{CountsFaults};
+ghost use Rattle.yp_rpc.specs.declared.record.outgoing.Payment.TheVariants.{NotNow};
 ghost use Rattle.yp_rpc.specs.inside.Outgoing.{Pays, IsPaid};
 
 use std::alloc::Global;
@@ -61,13 +62,6 @@ impl Outgoing {
         }
     }
 
-    /// Whether nothing is owed.
-    pub fn is_paid(&self) -> bool
-        ensures { IsTrue result → self.now.owed ≡ [] }
-    {
-        self.paid == self.written.len()
-    }
-
     /// Begins anew, with no memory.
     pub fn clear(&mut self)
         ensures { self.new ≡ record self.old { written = []; owed = []; flushed = true } }
@@ -80,7 +74,8 @@ impl Outgoing {
     /// Has a sink take what it can of what is owed, in one write, or pass on what it took where nothing more is owed.
     pub fn pay<K: TrySink>(&mut self, sink: &mut K) -> Result<Payment, Failed>
         ensures pays { Pays (K.output sink.old) (K.output sink.new) self.old self.new }
-        ensures paid { IfOk result (IsPaid self.new (K.flushed sink.new)) }
+        ensures paid { IfOk result (IsPaid self.old self.new (K.flushed sink.new)) }
+        ensures not_now { IfOk result (λ paid. paid ≡ NotNow → Keeps (K.output sink.old) (K.output sink.new)) }
         ensures cause { CountsFaults (K.faults sink.old) (K.faults sink.new) result }
     {
         if self.paid == self.written.len() {

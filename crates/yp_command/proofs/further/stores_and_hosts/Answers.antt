@@ -5,11 +5,10 @@ use Rattle.std.specs.List.{list_any}
 use Rattle.std.proofs.lemmas.List.{length-map, map-append}
 use Rattle.std.proofs.lemmas.Result.{err_from_is_err_and}
 use Rattle.yp_board.specs.Catalogues.{Name, is_same, maps_max}
-use Rattle.yp_board.proofs.Mapped.{list_any-map}
 use Rattle.yp_command.specs.Forms.{Host}
 use Rattle.yp_command.specs.Words.{texts, served, is_new_store}
 use Rattle.yp_command.proofs.Reading.{served_store, served_known, served_host, served_wrong, new_store, known_store}
-use Rattle.yp_command.proofs.Reading.{last_store, room_left, no_room, all_read}
+use Rattle.yp_command.proofs.Reading.{last_store, room_left, no_room, all_read, any_viewed}
 use Rattle.yp_command.proofs.further.stores_and_hosts.Goals as goal
 use Rattle.yp_command.proofs.further.stores_and_hosts.Goals.{then-is_named-via-then-is_named, then-is_named-via-else-is_named+then-is_full}
 use Rattle.yp_command.proofs.further.stores_and_hosts.Goals.{in-Ok+else-is_named+else-is_full, in_default+in_ok-host}
@@ -27,7 +26,7 @@ loop-i-preserved c =
       | in-Ok+else-is_named+else-is_full w ↦
           let store = w.in-Ok.store in
           let value : Name = (store.0.now, store.1.now) in
-          let same = list_any-map (is_same value) (λ store. (store.0.now, store.1.now)) c.loop-i.stores.items in
+          let same = any_viewed (is_same value) (λ store. (store.0.now, store.1.now)) c.loop-i.stores.items in
           let other : list_any (is_same value) stores ≡ false = cc in
           let room = room_left (length c.loop-i.stores.items) w.is_full.ensures.fits
           (sym w.is_full.ensures.value ∙ w.if-is_full.false) in
@@ -75,7 +74,7 @@ returns-then-is_named c =
     length-map c.loop-i.stores.items (λ store. (store.0.now, store.1.now)) in
     let store = c.in-Ok.store in
     let value : Name = (store.0.now, store.1.now) in
-    let same = list_any-map (is_same value) (λ store. (store.0.now, store.1.now)) c.loop-i.stores.items in
+    let same = any_viewed (is_same value) (λ store. (store.0.now, store.1.now)) c.loop-i.stores.items in
     let old : is_new_store stores value ≡ false =
     elim c.then-is_named.branch [
       | then-is_named-via-then-is_named w ↦
