@@ -7,12 +7,13 @@
                                 named, or all
     live.py push [STORE ..]     has the slaves of YP_PUSH fetch maps: those that are named, or all. `yp push` tells how
                                 that went, of copies of the maps in the folder `push`, since the server keeps its own
-    live.py orders [STORE ..]   prints the order of each map at this server, at the hosts behind the maps of YP_SERVE and
-                                at the slaves of YP_PUSH; where one isn't as at this server, that didn't go well
+    live.py orders [STORE ..]   prints the order of each map at this server, at the hosts behind the maps of YP_SERVE
+                                and at the slaves of YP_PUSH; where one isn't as at this server, that didn't go well
 
-STORE is DOMAIN/MAP. It runs in the folder of the server, and takes YP_SERVE and YP_PUSH from the environment, where it
-has YP_SERVE, and else from yp.env. What was done is written to standard output, a line each, and what wasn't to standard
-error. It ends with status 0 where all went well, and else with 1. It needs the standard library alone.
+A secure map is neither pulled nor pushed: a server gives its rows to ports under 1,024 alone. STORE is DOMAIN/MAP. It
+runs in the folder of the server, and takes YP_SERVE and YP_PUSH from the environment, where it has YP_SERVE, and else
+from yp.env. What was done is written to standard output, a line each, and what failed to standard error. It ends with
+status 0 where all went well, and else with 1. It needs the standard library alone.
 """
 
 import os
@@ -44,7 +45,7 @@ KINDS = {
     "netgroup": (9, "netgroup"),
     "ypservers": (10, "ypservers"),
 }
-SUCC, AGE = 1, 2
+SUCC, AGE, YPERR = 1, 2, -6
 STATUSES = {2: "AGE", -1: "NOMAP", -2: "NODOM", -3: "RSRC", -4: "RPC", -5: "MADDR", -6: "YPERR", -7: "BADARGS"}
 STATUSES |= {-8: "DBM", -9: "FILE", -10: "SKEW", -13: "XFRERR", -14: "REFUSED"}
 CALL_BACK = (0x40000000, 1)
@@ -126,19 +127,25 @@ def keep_time(path, moment):
     os.utime(path, ns=(moment, moment))
 
 
+def is_made(store, changed):
+    """Whether there is a version of a map that was made of its text since that was changed."""
+    return changed == time_of(f"made/{store}") and os.path.exists(f"ypdata/{store}")
+
+
 def make(site, stores):
     for store in stores or site.stores:
         domain, name = store.split("/", 1)
         kind, text = KINDS.get(name, (0, ""))
         changed = time_of(f"ypsrc/{text}") if kind else None
-        if not stores and changed in (None, time_of(f"made/{store}")):
+        if not stores and (changed is None or is_made(store, changed)):
             continue
         results = ask(site, rpc.MAKE_PROGRAM, rpc.MAKE, opaques(domain) + rpc.word(kind))
         if number(results) != SUCC:
             fail(f"{store} isn't made: {status_of(results)}")
         else:
             print(f"{store} made", flush=True)
-            keep_time(f"made/{store}", changed)
+            if changed is not None:
+                keep_time(f"made/{store}", changed)
 
 
 # pull
@@ -165,6 +172,8 @@ def pull(site, stores):
         results = transfer(site, store, peer)
         if number(results) == SUCC:
             print(f"{store} fetched", flush=True)
+        elif number(results) == YPERR:
+            print(f"{store} isn't given by {peer}, as a secure map isn't", flush=True)
         elif number(results) != AGE:
             fail(f"{store} isn't fetched: {status_of(results)}")
 
@@ -181,7 +190,9 @@ def run(*words, folder=None):
 def copy(site, store):
     """Whether the folder `push` now has the version of a map that the server shows."""
     status, _, note = run("xfr", "copy", "force", store, f"{site.name}@{site.own}", folder="push")
-    if status:
+    if note == f"yp: transfer {YPERR}":
+        print(f"{store} isn't pushed, since it is secure", flush=True)
+    elif status:
         fail(f"{store} isn't copied: {note}")
     return status == 0
 
@@ -232,6 +243,8 @@ def main(words):
         VERBS[words[0]](Site(), words[1:])
     except (OSError, ValueError, LookupError) as error:
         fail(f"{words[0]} ends: {error}")
+    except KeyboardInterrupt:
+        fail(f"{words[0]} ends")
     sys.exit(failed)
 
 
