@@ -3,10 +3,13 @@
 
 README.md, docs/FORMATS.md and man/yp.8 list all sentences, the pages man/yp-*.8 those of their commands, and
 docs/COMMANDS.md has each command in a heading. These have to be the same, and so do the sentences of the code, whose
-words are known by the functions that read them. Then the program is asked. It is given words with which a sentence goes on, words with
-which it doesn't, and words of which the last ones are missing, and has to tell the number of the wrong word; nothing is
-done then. It is given each whole sentence, too, which has to be one: in the folder where this runs that finds or makes
-next to nothing. The statuses of docs/FORMATS.md are compared with those of man/yp.8 and of the code.
+words are known by the functions that read them. What README.md, docs/COMMANDS.md, docs/ADMIN.md and the manual pages
+show to be typed has to be such sentences, and so have the words of `serve` in docs/ADMIN.md and in yp.env. The
+completion for bash has to offer what a sentence goes on with. Then the program is asked. It is given words with which a
+sentence goes on, words with which it doesn't, and words of which the last ones are missing, and has to tell the number
+of the wrong word; nothing is done then. It is given each whole sentence, too, which has to be one: in the folder where
+this runs that finds or makes next to nothing. The statuses of docs/FORMATS.md are compared with those of man/yp.8 and
+of the code.
 
 The program has to be built. It prints what differs, and ends with status 1 where anything does.
 """
@@ -14,6 +17,7 @@ The program has to be built. It prints what differs, and ends with status 1 wher
 import glob
 import os
 import re
+import shlex
 import subprocess
 import sys
 from concurrent.futures import ThreadPoolExecutor
@@ -242,6 +246,99 @@ def further_words(sentence):
         sentence[2], ["lab/m", "h@127.0.0.1:1", "lab/n"])
 
 
+# What is shown to be typed.
+
+
+def shown_texts():
+    """Each text with commands that a document shows, with the name of the document."""
+    for path in ("README.md", "docs/COMMANDS.md", "docs/ADMIN.md"):
+        source = read(path)
+        spans = re.findall(r"^```sh.*?\n(.*?)^```$", source, re.MULTILINE | re.DOTALL)
+        source = re.sub(r"^```.*?^```$", "", source, flags=re.MULTILINE | re.DOTALL)
+        spans += re.findall(r"^ {4,}(.*)$", source, re.MULTILINE)
+        spans += re.findall(r"`([^`\n]+)`", re.sub(r"^ {4,}.*$", "", source, flags=re.MULTILINE))
+        yield from ((path, span) for span in spans)
+    for page in sorted(glob.glob(os.path.join(server.TOP, "man/*.8"))):
+        name = os.path.relpath(page, server.TOP)
+        shown = re.findall(r"^\.Dl (.*)$", read(name), re.MULTILINE)
+        shown += re.findall(r"^\.Bd -literal.*?\n(.*?)^\.Ed$", read(name), re.MULTILINE | re.DOTALL)
+        yield from ((name, re.sub(r"\\e$", r"\\", text, flags=re.MULTILINE)) for text in shown)
+
+
+def typed(text):
+    """The words of each command of the program in a text that is typed."""
+    text = re.sub(r"\\\n\s*", " ", text)
+    for found in re.finditer(r"(?:^|[\s(/])yp ([a-z](?:\"[^\"]*\"|'[^']*'|[^|<>&;()\"'\n])*)", text):
+        words = shlex.split(re.sub(r"\$\{?map[%.*]*\}?", "hosts.byname", found[1]))
+        yield [word for word in words if word != "#"]
+
+
+def may_be_typed(words, sentences, written):
+    """Whether words are a sentence, or name one: by its command, or as the documents write it."""
+    named = {sentence.split()[0] for sentence in written}
+    form = " ".join(words)
+    return (
+        any(is_whole(sentence, words) for sentence in sentences)
+        or len(words) == 1 and words[0] in named
+        or any(form in (sentence, re.sub(r" \[.*", "", sentence)) for sentence in written)
+        or words[0] == "build" and words[1:] == ["NAME", "DOMAIN/ypservers"]
+    )
+
+
+def same_typed(sentences, written):
+    """Tells what is shown to be typed, and is no sentence."""
+    for place, text in shown_texts():
+        for words in typed(text):
+            if words and not may_be_typed(words, sentences, written):
+                tell(f"`yp {' '.join(words)}` of {place} is no sentence of the documents")
+    for place in ("docs/ADMIN.md", "site/systemd/yp.env"):
+        given = re.findall(r'^YP_SERVE="(.*?)"$', read(place), re.MULTILINE | re.DOTALL)
+        if not given:
+            tell(f"{place} has no words of serve")
+        for words in given:
+            if not any(is_whole(sentence, ["serve", *words.split()]) for sentence in sentences):
+                tell(f"`serve {words}` of {place} is no sentence of the documents")
+
+
+# What the completion offers.
+
+OFFERS = """
+. "$0"
+offer() {
+    COMP_WORDS=(yp "$@") COMP_CWORD=$# COMPREPLY=()
+    _yp
+    printf '%s\\n' "${COMPREPLY[@]}" ''
+}
+"""
+ALTERNATIVES = {"Flag": "secure plain", "Mode": "newer force", "Policy": "fixed ypsetme ypset"}
+ALTERNATIVES |= {"ReverseStore": "lab/netgroup.byuser lab/netgroup.byhost"}
+
+
+def offered(asked):
+    """What the completion offers behind each of these lists of words, the last of which is begun, where no map is."""
+    script = OFFERS + "".join(f"offer {shlex.join(words)}\necho .\n" for words in asked)
+    completion = os.path.join(server.TOP, "site/completion/yp")
+    command = ["bash", "--norc", "-c", script, completion]
+    said = subprocess.run(command, cwd="/", capture_output=True, encoding="utf-8", check=True).stdout
+    return [set(part.split()) for part in said.split(".\n")[:-1]]
+
+
+def same_completion(sentences):
+    """Tells where the completion doesn't offer what a sentence goes on with."""
+    kinds = re.sub(r"(\w+\\.by)\((.*?)\|(.*?)\)", r"\1\2|\1\3", KINDS).replace("\\", "").split("|")
+    wanted = {("",): {sentence[0] for sentence in sentences}}
+    for command, forms, further in sentences:
+        words = [command] + [FORMS[form][1] for form in forms]
+        for at, form in enumerate(forms, 1):
+            begun = "lab/" if form in ("KindStore", "ReverseStore") else ""
+            ends = {f"lab/{kind}" for kind in kinds} if form == "KindStore" else set(ALTERNATIVES.get(form, "").split())
+            # Behind the last word of a shorter sentence a longer one may go on.
+            wanted.setdefault((*words[:at], begun), set()).update(ends)
+    for (words, ends), found in zip(wanted.items(), offered(wanted)):
+        if found != ends:
+            tell(f"behind `yp {' '.join(words)}` the completion offers {sorted(found)}, and not {sorted(ends)}")
+
+
 # What the program says of them.
 
 
@@ -320,7 +417,10 @@ def same_statuses():
         tell(f"status {number} {name} is one of the code alone, or of docs/FORMATS.md alone")
 
 
-sentences = same_table(same_listings())
+written = same_listings()
+sentences = same_table(written)
+same_typed(sentences, written)
+same_completion(sentences)
 asks(sentences)
 same_statuses()
 print("\n".join(differences), end="\n" * bool(differences))
