@@ -4,7 +4,7 @@
 README.md, docs/FORMATS.md and man/yp.8 list all sentences, the pages man/yp-*.8 those of their commands, and
 docs/COMMANDS.md has each command in a heading. These have to be the same, and so do the sentences of the code, whose
 words are known by the functions that read them. What README.md, docs/COMMANDS.md, docs/ADMIN.md and the manual pages
-show to be typed has to be such sentences, and so have the words of `serve` in docs/ADMIN.md and in yp.env. The
+show to be typed has to be such sentences, and so have the words of `serve` in README.md, docs/ADMIN.md and yp.env. The
 completion for bash has to offer what a sentence goes on with. Then the program is asked. It is given words with which a
 sentence goes on, words with which it doesn't, and words of which the last ones are missing, and has to tell the number
 of the wrong word; nothing is done then. It is given each whole sentence, too, which has to be one: in the folder where
@@ -291,8 +291,8 @@ def same_typed(sentences, written):
         for words in typed(text):
             if words and not may_be_typed(words, sentences, written):
                 tell(f"`yp {' '.join(words)}` of {place} is no sentence of the documents")
-    for place in ("docs/ADMIN.md", "site/systemd/yp.env"):
-        given = re.findall(r'^YP_SERVE="(.*?)"$', read(place), re.MULTILINE | re.DOTALL)
+    for place in ("README.md", "docs/ADMIN.md", "site/systemd/yp.env"):
+        given = re.findall(r'\bYP_SERVE="(.*?)"', read(place), re.DOTALL)
         if not given:
             tell(f"{place} has no words of serve")
         for words in given:
