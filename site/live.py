@@ -23,12 +23,14 @@ import subprocess
 import sys
 
 sys.dont_write_bytecode = True
+HERE = os.path.dirname(os.path.realpath(__file__))
 # Where rpc.py is in a checkout; installed, it is beside this file.
-sys.path.append(os.path.join(os.path.dirname(os.path.realpath(__file__)), "../examples"))
+sys.path.append(os.path.join(HERE, "../examples"))
 import rpc
 
 WORDS = "/usr/local/etc/yp.env"
-PROGRAM = "/usr/local/bin/yp"
+INSTALLED = os.path.join(HERE, "../../bin/yp")
+PROGRAM = INSTALLED if os.path.exists(INSTALLED) else "yp"
 SECONDS = 60
 # As many slaves are asked at once, and so many turns taken, at each push.
 WINDOW, TURNS = 10, 60
@@ -167,6 +169,8 @@ def transfer(site, store, peer):
 
 
 def pull(site, stores):
+    if not site.hosts:
+        raise ValueError("YP_SERVE has no host behind its maps")
     peer = site.hosts[0].split("@")[0]
     for store in stores or site.stores:
         results = transfer(site, store, peer)
