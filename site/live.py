@@ -193,7 +193,8 @@ def run(*words, folder=None):
 
 def copy(site, store):
     """Whether the folder `push` now has the version of a map that the server shows."""
-    status, _, note = run("xfr", "copy", "force", store, f"{site.name}@{site.own}", folder="push")
+    # No host has this name, so none is the master of the copy.
+    status, _, note = run("xfr", "-", "force", store, f"{site.name}@{site.own}", folder="push")
     if note == f"yp: transfer {YPERR}":
         print(f"{store} isn't pushed, since it is secure", flush=True)
     elif status:
