@@ -50,7 +50,7 @@ KINDS = {
 SUCC, AGE, YPERR = 1, 2, -6
 STATUSES = {2: "AGE", -1: "NOMAP", -2: "NODOM", -3: "RSRC", -4: "RPC", -5: "MADDR", -6: "YPERR", -7: "BADARGS"}
 STATUSES |= {-8: "DBM", -9: "FILE", -10: "SKEW", -13: "XFRERR", -14: "REFUSED"}
-CALL_BACK = (0x40000000, 1)
+CALL_BACK = 0x40000000
 
 failed = False
 
@@ -158,7 +158,7 @@ def transfer(site, store, peer):
     with socket.socket(socket.AF_INET, socket.SOCK_DGRAM) as hearing:
         hearing.bind(("127.0.0.1", 0))
         hearing.settimeout(SECONDS)
-        program = rpc.word(CALL_BACK[0]) + rpc.word(hearing.getsockname()[1])
+        program = rpc.word(CALL_BACK) + rpc.word(hearing.getsockname()[1])
         arguments = opaques(*store.split("/", 1)) + rpc.word(0) + opaques(peer) + rpc.word(1) + program
         results = ask(site, rpc.YP, rpc.XFR, arguments)[4:]
         if number(results) != SUCC:
