@@ -9,7 +9,7 @@ completion for bash has to offer what a sentence goes on with. Then the program 
 sentence goes on, words with which it doesn't, and words of which the last ones are missing, and has to tell the number
 of the wrong word; nothing is done then. It is given each whole sentence, too, which has to be one: in the folder where
 this runs that finds or makes next to nothing. The statuses of docs/FORMATS.md are compared with those of man/yp.8 and
-of the code.
+of the code, and those of docs/ADMIN.md have to be among them.
 
 The program has to be built. It prints what differs, and ends with status 1 where anything does.
 """
@@ -20,6 +20,7 @@ import re
 import shlex
 import subprocess
 import sys
+import tempfile
 from concurrent.futures import ThreadPoolExecutor
 
 sys.dont_write_bytecode = True
@@ -319,7 +320,8 @@ def offered(asked):
     script = OFFERS + "".join(f"offer {shlex.join(words)}\necho .\n" for words in asked)
     completion = os.path.join(server.TOP, "site/completion/yp")
     command = ["bash", "--norc", "-c", script, completion]
-    said = subprocess.run(command, cwd="/", capture_output=True, encoding="utf-8", check=True).stdout
+    with tempfile.TemporaryDirectory() as empty:
+        said = subprocess.run(command, cwd=empty, capture_output=True, encoding="utf-8", check=True).stdout
     return [set(part.split()) for part in said.split(".\n")[:-1]]
 
 
@@ -411,6 +413,9 @@ def same_statuses():
     page = set(re.findall(r'^\.It (\d+)(?: Ql "(.*)")?$', items, re.MULTILINE))
     for code, line in sorted(documents ^ page):
         tell(f"status {code} {line} is one of {'docs/FORMATS.md' if (code, line) in documents else 'man/yp.8'} alone")
+    for line, code in re.findall(r"^\| `(yp: .*?)` \| (\d+) \|", read("docs/ADMIN.md"), re.MULTILINE):
+        if (code, line) not in documents:
+            tell(f"status {code} {line} of docs/ADMIN.md is none of docs/FORMATS.md")
     told = between(read("crates/yp_command/src/office/status.rt"), "pub fn code", "pub fn ")
     code = set(re.findall(r"Status::(\w+).*? => (\d+),", told))
     for name, number in sorted(code ^ {(name, number) for number, name, _ in rows}):
