@@ -1,11 +1,12 @@
 -- Bytes that come behind others.
-use Rattle.std.proofs.Common.{◌≡◌, ◌≤◌, ◌<◌, List, [], ◌++◌, length, take, drop, ℕ, ◌+◌, ◌-◌, refl, sym, ◌∙◌, ap, subst, arith}
-use Rattle.std.proofs.Common.{Option, Some, None, Result, Ok, Err, Bool}
+use Rattle.std.proofs.Common.{◌≡◌, ◌≤◌, ◌<◌, List, [], ◌++◌, length, take, drop, ℕ, ◌+◌, ◌-◌, sym, ◌∙◌, ap, subst, arith}
+use Rattle.std.proofs.Common.{Option, Some, None, Result, Ok, Err}
 use Rattle.std.proofs.Math.Seq.{take-add, take-append_seam, drop-drop}
 use Rattle.std.proofs.lemmas.List.{append-nil, length-take-le, length-drop, take-append-drop, take_all}
 use Rattle.yp_io.specs.inside.Ready.{TriesToRead, TriesToWrite}
+use Rattle.std.specs.Io.KnownBytes.{Keeps, append_known}
+use Rattle.std.proofs.KnownBytes.{append_known-moved}
 use Rattle.yp_rpc.specs.inside.Incoming.{Fills, count_of}
-use Rattle.yp_rpc.specs.inside.Outgoing.{Pays}
 
 none_behind : (old full : List ℕ) (len : ℕ) → take len full ≡ old → take (len + 0) full ≡ old
 none_behind old full len front = take-add len 0 full ∙ ap (λ (l : List ℕ). l ++ []) front ∙ append-nil old
@@ -30,26 +31,19 @@ pub put_back : (n : ℕ) (full rest : List ℕ) → length full ≡ n → take n
 put_back n full rest e = ap (λ (k : ℕ). take k (full ++ rest)) (sym e) ∙ take-append_seam full rest
 
 -- what is behind a place, cut at another
-pub split_front : (n k : ℕ) (xs : List ℕ) → drop n xs ≡ take k (drop n xs) ++ drop (n + k) xs
+split_front : (n k : ℕ) (xs : List ℕ) → drop n xs ≡ take k (drop n xs) ++ drop (n + k) xs
 split_front n k xs =
     sym (take-append-drop k (drop n xs)) ∙ ap (λ (l : List ℕ). take k (drop n xs) ++ l) (drop-drop k n xs)
 
 -- a front of what is owed was taken
-pub pays : (E : Type 0) (before after : Option (List ℕ)) (written : List ℕ) (paid taken : ℕ) (flushed : Bool) (faults : ℕ)
-    (r : Option ℕ) (piece : List ℕ) → piece ≡ drop paid written → r ≡ Some taken
-    → TriesToWrite {E = E} before after (Ok r) piece
-    → Pays before after (record { written = written; owed = drop paid written; flushed = flushed; faults = faults })
-    (record { written = written; owed = drop (paid + taken) written; flushed = flushed; faults = faults })
-pays E before after written paid taken flushed faults r piece lent is wrote =
-    let wrote' : TriesToWrite {E = E} before after (Ok (Some taken)) piece =
+pub pays : (E : Type 0) (before after : Option (List ℕ)) (written : List ℕ) (paid taken : ℕ) (r : Option ℕ)
+    (piece : List ℕ) → piece ≡ drop paid written → r ≡ Some taken → TriesToWrite {E = E} before after (Ok r) piece
+    → Keeps (append_known before (drop paid written)) (append_known after (drop (paid + taken) written))
+pays E before after written paid taken r piece lent is wrote =
+    let gone : TriesToWrite {E = E} before after (Ok (Some taken)) piece =
     subst (λ (q : Option ℕ). TriesToWrite {E = E} before after (Ok q) piece) is wrote in
-    record {
-      gave = take taken piece;
-      took = wrote';
-      owed = split_front paid taken written
-          ∙ ap (λ (l : List ℕ). take taken l ++ drop (paid + taken) written) (sym lent);
-      same = refl;
-    }
+    append_known-moved before after (take taken piece) (drop (paid + taken) written) (drop paid written) gone
+    (split_front paid taken written ∙ ap (λ (l : List ℕ). take taken l ++ drop (paid + taken) written) (sym lent))
 
 -- a slice up to the end
 pub sliced : (n : ℕ) (xs ys : List ℕ) → xs ≡ ys → take (length xs - n) (drop n xs) ≡ drop n ys

@@ -3,7 +3,7 @@
 //!
 //! That a stream is its records, however it is cut, stands on [`RecordReader::next`] and the laws of [`laws`]; what is
 //! sent of a record on [`RecordWriter::put`], `end` and `send`; what came of a wire that is never waited for on
-//! [`Incoming::take`], and what is owed to one on [`Outgoing::pay`]; what a record is heard as on [`read_call`]; how
+//! [`Incoming::first`], and what is owed to one on [`Outgoing::pay`]; what a record is heard as on [`read_call`]; how
 //! a call and a reply begin on [`write_call`] and [`write_reply`]; how a reply is read on [`read_reply`]; and whether a
 //! call is let to a procedure of the [`Programs`] that are answered, by its bytes alone, on [`judge`].
 //!
@@ -26,6 +26,6 @@ mod turns;
 pub use call::{CallHead, Heard, read_call, write_call};
 pub use handler::{DATAGRAM_MAX, Handler, Wish};
 pub use judging::{Judged, Programs, judge};
-pub use record::{Incoming, Outgoing, Payment, RecordFault, RecordReader, RecordWriter};
+pub use record::{First, Incoming, Outgoing, Payment, RecordFault, RecordReader, RecordWriter};
 pub use reply::{ReplyHead, ReplyRead, read_reply, read_reply_at, write_reply};
 pub use turns::{Ended, Room, take_turns};

@@ -10,7 +10,7 @@ mod outgoing;
 mod reader;
 mod writer;
 
-pub use incoming::Incoming;
+pub use incoming::{First, Incoming};
 pub use outgoing::{Outgoing, Payment};
 pub use reader::RecordReader;
 use thiserror::Error;

@@ -1,11 +1,9 @@
 -- Records of a stream that is never waited for.
-use Rattle.std.specs.Prelude.{◌≡◌, ℕ, ◌+◌, min, List, ◌++◌, length, Option, Some, None, Result, Ok, Err}
+use Rattle.std.specs.Prelude.{◌≡◌, ◌≤◌, ℕ, List, ◌++◌, length, take, Option, Some, None, Result, Ok, Err}
 use Rattle.std.specs.Io.KnownBytes.{Consumes, IsAtEnd, Keeps}
-use Rattle.yp_io.specs.Counts.{last_count}
-use Rattle.yp_rpc.specs.declared.record.RecordFault.{RecordFault}
-use Rattle.yp_rpc.specs.declared.record.RecordFault.TheVariants.{Torn, TooLong, ReadFault}
-use Rattle.yp_rpc.specs.Pieces.{ReaderState}
-use Rattle.yp_rpc.specs.Records.{Fragments, IsLong}
+use Rattle.yp_rpc.specs.declared.record.incoming.First.{First}
+use Rattle.yp_rpc.specs.declared.record.incoming.First.TheVariants.{Whole, Part, TooLong}
+use Rattle.yp_rpc.specs.Records.{Fragments, IsLong, IsUnfinished}
 
 -- how many bytes came
 abbrev pub count_of : {E : Type 0} → Result (Option ℕ) E → ℕ
@@ -20,15 +18,17 @@ Fills before after old new (Ok (Some n)) =
 Fills before after old new (Ok None) = Keeps before after × (new ≡ old)
 Fills before after old new (Err e) = Keeps before after × (new ≡ old)
 
--- a record was taken from the front of what came, and the reader counted its bytes
-pub record TakesWhole (limit : ℕ) (message old new : List ℕ) (before after : ReaderState) : Type 0 where
+-- a whole record stands at the front of what came, spelled in so many bytes, and at the front of a buffer
+pub record IsRecord (limit len spelled : ℕ) (came buf : List ℕ) : Type 0 where
+  pub within : len ≤ length buf
   pub bytes : List ℕ
-  pub fragments : Fragments limit message bytes
-  pub taken : old ≡ bytes ++ new
-  pub counted : after ≡ record before { place = min (before.place + length bytes) last_count }
+  pub fragments : Fragments limit (take len buf) bytes
+  pub rest : List ℕ
+  pub came_is : came ≡ bytes ++ rest
+  pub count : length bytes ≡ spelled
 
--- what came begins with a record that is too long
-abbrev pub IsCutOff : ℕ → ReaderState → List ℕ → RecordFault → Type 0
-IsCutOff limit reader came (TooLong at) = (at ≡ reader.place) × IsLong limit came
-IsCutOff limit reader came (Torn at) = ⊥
-IsCutOff limit reader came ReadFault = ⊥
+-- What came begins with a whole record, with less than one, or with one that is too long.
+abbrev pub BeginsWith : ℕ → First → List ℕ → List ℕ → Type 0
+BeginsWith limit (Whole len spelled) came buf = IsRecord limit len spelled came buf
+BeginsWith limit Part came buf = IsUnfinished limit came
+BeginsWith limit TooLong came buf = IsLong limit came

@@ -1,12 +1,9 @@
 //! Records of a stream that is never waited for.
 
-ghost use Rattle.std.specs.Prelude.{◌≡◌, ◌+◌, ◌≤◌, ◌<◌, List, [], ◌++◌, length, take, drop, Some, IfOk, IfErr, IfSome, IfNone, OnErr};
-ghost use Rattle.std.specs.Io.KnownBytes.{Keeps, IsAtEnd};
+ghost use Rattle.std.specs.Prelude.{◌≡◌, ◌+◌, ◌≤◌, ◌<◌, List, [], length, take, drop, Some};
 ghost use Rattle.yp_io.specs.Counts.{CountsFaults};
 ghost use Rattle.yp_io.specs.inside.Ready.{TriesToRead};
-ghost use Rattle.yp_rpc.specs.Pieces.{not_begun};
-ghost use Rattle.yp_rpc.specs.Records.{IsUnfinished};
-ghost use Rattle.yp_rpc.specs.inside.Incoming.{Fills, TakesWhole, IsCutOff, count_of};
+ghost use Rattle.yp_rpc.specs.inside.Incoming.{BeginsWith, Fills, count_of};
 
 use crate::record::RecordFault;
 use crate::record::reader::RecordReader;
@@ -19,6 +16,17 @@ const READ_MAX: usize = 4_096;
 
 /// The room for them.
 static ROOM: [u8; READ_MAX] = [0; READ_MAX];
+
+/// What the bytes that came begin with.
+#[derive(Clone, Copy, Debug, PartialEq, Eq)]
+pub enum First {
+    /// A whole record: `len` bytes, which are spelled in so many.
+    Whole { len: usize, spelled: usize },
+    /// Less than a record, or nothing.
+    Part,
+    /// A record of which the heads that came name more than there is room for, or too many empty fragments.
+    TooLong,
+}
 
 /// The bytes that came of a stream and belong to no record that was taken. It is seen as these bytes, and has memory
 /// for them alone while there are some, and else for none.
@@ -62,35 +70,37 @@ impl Incoming {
         came
     }
 
-    /// Takes the first record to the front of `buf`, and answers its length, where all of it came. `TooLong` comes
-    /// where the heads that came name more than `buf` holds or too many empty fragments.
-    pub fn take(
-        &mut self,
-        reader: &mut RecordReader,
-        buf: &mut [u8],
-    ) -> Result<Option<usize>, RecordFault>
-        requires { reader.old.part ≡ not_begun }
-        ensures within { IfOk result (λ found. IfSome found (λ n. n ≤ length buf.new)) }
-        ensures taken { IfOk result (λ found. IfSome found (λ n.
-            TakesWhole (length buf.new) (take n buf.new) self.old self.new reader.old reader.new)) }
-        ensures none { IfOk result (λ found. IfNone found (IsUnfinished (length buf.new) self.old
-            × (self.new ≡ self.old) × (reader.new ≡ reader.old))) }
-        ensures cause { IfErr result (IsCutOff (length buf.new) reader.old self.old) }
-        ensures stays { OnErr result ((self.new ≡ self.old) × (reader.new ≡ reader.old)) }
+    /// Copies the first record to the front of `buf`, where all of it came.
+    pub fn first(&self, buf: &mut [u8]) -> First
+        ensures { BeginsWith (length buf.new) result self.now buf.new }
     {
         let came = &self.bytes[self.at..];
         let mut source = SliceSource { left: came };
-        match reader.next(&mut source, buf) {
-            Ok(Some(len)) => {
-                let taken = came.len() - source.left.len();
-                self.at += taken;
-                self.let_go();
-                Ok(Some(len))
-            }
-            Ok(None) => Ok(None),
-            Err(RecordFault::Torn { .. }) => Ok(None),
-            Err(fault) => Err(fault),
+        match RecordReader::new().next(&mut source, buf) {
+            Ok(Some(len)) => First::Whole {
+                len,
+                spelled: came.len() - source.left.len(),
+            },
+            Ok(None) | Err(RecordFault::Torn { .. }) => First::Part,
+            Err(RecordFault::TooLong { .. }) => First::TooLong,
+            Err(RecordFault::ReadFault) => unreachable!(),
         }
+    }
+
+    /// Takes so many of the bytes away, from the front.
+    pub fn pass(&mut self, count: usize)
+        requires { count ≤ length self.old }
+        ensures { self.new ≡ drop count self.old }
+    {
+        self.at += count;
+        self.let_go();
+    }
+
+    /// How many there are.
+    pub fn len(&self) -> usize
+        ensures { result ≡ length self.now }
+    {
+        self.bytes.len() - self.at
     }
 
     /// Lets the memory go where nothing is left in it.
