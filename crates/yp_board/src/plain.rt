@@ -9,7 +9,7 @@ ghost use Rattle.yp_board.specs.Logs.{starts};
 
 use crate::catalog::Catalog;
 use crate::log::PlainLog;
-use crate::view::{Show, ShowRefused, View};
+use crate::view::{Show, ShowRefused, View, share};
 use std::alloc::Global;
 use std::marker::Model;
 use std::sync::Arc;
@@ -110,6 +110,13 @@ impl View for PlainBoard {
         match &self.last[map as usize] {
             Some(version) => Some(&**version),
             None => None,
+        }
+    }
+
+    fn share(&self, map: u32) -> Result<Option<Arc<Version>>, NoMemory> {
+        match share(&self.last[map as usize]) {
+            Ok(version) => Ok(version),
+            Err(_) => Err(NoMemory),
         }
     }
 }

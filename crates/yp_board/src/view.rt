@@ -1,12 +1,13 @@
 //! How a board is read, and how a version is shown on it.
 
-ghost use Rattle.std.specs.Prelude.{◌≡◌, ℕ, ◌<◌, [], ◌∷◌, ◌++◌, length, option_map, OnOk, IfErr, OnErr};
+ghost use Rattle.std.specs.Prelude.{◌≡◌, ℕ, ◌<◌, [], ◌∷◌, ◌++◌, length, option_map, IfOk, OnOk, IfErr, OnErr};
 ghost use Rattle.std.specs.Arc.{arc_value};
 ghost use Rattle.yp_version.specs.Versions.{MapVersion};
 ghost use Rattle.yp_board.specs.Logs.{Log, shown};
 ghost use Rattle.yp_board.specs.Views.{Seen, IsFront, Refreshes};
 
 use crate::catalog::Catalog;
+use std::alloc::AllocError;
 use std::sync::Arc;
 use yp_io::NoMemory;
 use yp_version::Version;
@@ -34,6 +35,22 @@ pub trait View {
     fn held(&self, map: u32) -> Option<&Version>
         requires { map < length (seen self.now).catalogue.maps }
         ensures { option_map (λ version. version.now) result ≡ shown map (seen self.now).known };
+
+    /// The same version with one more owner, who has it for as long as he likes. It makes no step, and is refused where
+    /// the version has too many owners.
+    fn share(&self, map: u32) -> Result<Option<Arc<Version>>, NoMemory>
+        requires { map < length (seen self.now).catalogue.maps }
+        ensures { IfOk result (λ version. option_map arc_value version ≡ shown map (seen self.now).known) };
+}
+
+/// A version, if there is one, with one more owner.
+pub(crate) fn share(version: &Option<Arc<Version>>) -> Result<Option<Arc<Version>>, AllocError>
+    ensures { IfOk result (λ shared. option_map arc_value shared ≡ option_map arc_value version.now) }
+{
+    match version {
+        None => Ok(None),
+        Some(version) => Ok(Some(Arc::try_clone(version)?)),
+    }
 }
 
 /// Memory ran out, so the version wasn't shown. It is handed back.

@@ -9,10 +9,11 @@ ghost use Rattle.yp_board.specs.Catalogues.{IsCatalogue};
 ghost use Rattle.yp_command_serve.specs.Served.{fixed};
 
 use std::marker::Model;
+use std::sync::Arc;
 use yp_answer::session::Host;
 use yp_answer::{MakeJob, TransferJob};
 use yp_board::{Catalog, PlainBoard, View};
-use yp_io::Peer;
+use yp_io::{NoMemory, Peer};
 use yp_messages::XfrStat;
 use yp_version::Version;
 
@@ -68,6 +69,10 @@ impl View for FixedHost {
 
     fn held(&self, map: u32) -> Option<&Version> {
         self.board.held(map)
+    }
+
+    fn share(&self, map: u32) -> Result<Option<Arc<Version>>, NoMemory> {
+        self.board.share(map)
     }
 }
 

@@ -2,6 +2,7 @@
 
 ghost use Rattle.std.specs.Prelude.{◌≡◌, ◌<◌, false, None, length, option_map, OnOk, IfOk, IfErr, IsTrue};
 ghost use Rattle.std.proofs.Common.{ap};
+ghost use Rattle.std.specs.Arc.{arc_value};
 ghost use Rattle.yp_io.specs.Counts.{next_count};
 ghost use Rattle.yp_board.specs.Logs.{shown};
 ghost use Rattle.yp_board.specs.Views.{IsFront};
@@ -24,10 +25,11 @@ use crate::steps::{install, reopen};
 use std::alloc::Global;
 use std::marker::Model;
 use std::random::RandomSource;
+use std::sync::Arc;
 use yp_answer::session::Host;
 use yp_answer::{MakeJob, TransferJob};
 use yp_board::{Catalog, Show, View};
-use yp_io::{Clock, Dial, Disk, Peer, Texts};
+use yp_io::{Clock, Dial, Disk, NoMemory, Peer, Texts};
 use yp_messages::XfrStat;
 use yp_publisher::Publisher;
 use yp_texts::Kind;
@@ -194,6 +196,23 @@ fn held<D: Disk, B: Show>(publisher: &Publisher<D, B>, map: u32) -> Option<&Vers
     }
 }
 
+/// The version that is shown of a map, with one more owner.
+fn share<D: Disk, B: Show>(
+    publisher: &Publisher<D, B>,
+    map: u32,
+) -> Result<Option<Arc<Version>>, NoMemory>
+    requires { map < length publisher.now.maps }
+    ensures { IfOk result (λ version. option_map arc_value version ≡ shown map (B.log publisher.now.board)) }
+{
+    match publisher.shown(map) {
+        None => Ok(None),
+        Some(version) => match Arc::try_clone(version) {
+            Ok(version) => Ok(Some(version)),
+            Err(_) => Err(NoMemory),
+        },
+    }
+}
+
 impl<D: Disk, B: Show, A: Dial, T: Texts, C: Clock, R: RandomSource + Drop> View
     for LocalHost<D, B, A, T, C, R> {
     ghost seen = { λ host. seen_of B.log host };
@@ -210,6 +229,10 @@ impl<D: Disk, B: Show, A: Dial, T: Texts, C: Clock, R: RandomSource + Drop> View
 
     fn held(&self, map: u32) -> Option<&Version> {
         held(&self.publisher, map)
+    }
+
+    fn share(&self, map: u32) -> Result<Option<Arc<Version>>, NoMemory> {
+        share(&self.publisher, map)
     }
 }
 

@@ -14,7 +14,7 @@ use std::sync::Arc;
 use yp_answer::session::Host;
 use yp_answer::{MakeJob, TransferJob};
 use yp_board::{Catalog, PlainBoard, Show, View};
-use yp_io::Peer;
+use yp_io::{NoMemory, Peer};
 use yp_messages::XfrStat;
 use yp_texts::{AfterFault, BuildFault, Kind, build_after, other_master};
 use yp_version::Version;
@@ -107,6 +107,10 @@ impl View for TestHost {
 
     fn held(&self, map: u32) -> Option<&Version> {
         self.board.held(map)
+    }
+
+    fn share(&self, map: u32) -> Result<Option<Arc<Version>>, NoMemory> {
+        self.board.share(map)
     }
 }
 

@@ -112,4 +112,8 @@ impl<J: Naming> View for Reader<J> {
     fn held(&self, map: u32) -> Option<&Version> {
         self.table.get(map)
     }
+
+    fn share(&self, map: u32) -> Result<Option<Arc<Version>>, NoMemory> {
+        self.table.share(map)
+    }
 }

@@ -3,6 +3,7 @@
 ghost use Rattle.std.specs.Prelude.{◌≡◌, ◌<◌, None, Some, map, length, option_map, slice_index_or, slice_set, IfOk};
 ghost use Rattle.std.specs.Arc.{arc_value};
 
+use crate::view::share;
 use std::alloc::{AllocError, Global};
 use std::marker::Model;
 use std::sync::Arc;
@@ -49,6 +50,16 @@ impl Slots {
         }
     }
 
+    /// The version of a map, if there is one, with one more owner.
+    pub(crate) fn share(&self, map: u32) -> Result<Option<Arc<Version>>, AllocError>
+        ensures { IfOk result (λ version. option_map arc_value version ≡ slice_index_or self.now map None) }
+    {
+        match self.versions.get(map as usize) {
+            Some(version) => share(version),
+            None => Ok(None),
+        }
+    }
+
     /// A copy of the slots with another version of one map. Each version has one more owner.
     pub(crate) fn with(
         &self,
@@ -78,14 +89,4 @@ fn shared(
         copies.push(share(version)?)?;
     }
     Ok(copies)
-}
-
-/// A copy of a version, if there is one, with one more owner.
-fn share(version: &Option<Arc<Version>>) -> Result<Option<Arc<Version>>, AllocError>
-    ensures { IfOk result (λ copy. option_map arc_value copy ≡ option_map arc_value version.now) }
-{
-    match version {
-        None => Ok(None),
-        Some(version) => Ok(Some(Arc::try_clone(version)?)),
-    }
 }

@@ -12,6 +12,7 @@ use left_right::Absorb;
 use std::alloc::AllocError;
 use std::marker::Model;
 use std::sync::Arc;
+use yp_io::NoMemory;
 use yp_version::Version;
 
 /// A front of the log of a board, and the last versions in it, which are shared. Contracts see it as a log.
@@ -59,6 +60,16 @@ impl<J: Naming> Table<J> {
         ensures { option_map (λ version. version.now) result ≡ shown map self.now }
     {
         self.slots.get(map)
+    }
+
+    /// The same, with one more owner.
+    pub(crate) fn share(&self, map: u32) -> Result<Option<Arc<Version>>, NoMemory>
+        ensures { IfOk result (λ version. option_map arc_value version ≡ shown map self.now) }
+    {
+        match self.slots.share(map) {
+            Ok(version) => Ok(version),
+            Err(_) => Err(NoMemory),
+        }
     }
 
     /// A copy of the table. It takes no memory, and is refused where its versions have too many owners.

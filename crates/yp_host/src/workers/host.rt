@@ -16,7 +16,7 @@ use crate::workers::outcome::{Outcomes, Totals, files_after, made_after};
 use std::alloc::Global;
 use std::marker::Model;
 use std::random::RandomSource;
-use std::sync::{Mutex, Wait};
+use std::sync::{Arc, Mutex, Wait};
 use yp_answer::session::Host;
 use yp_answer::{MakeJob, TransferJob};
 use yp_board::{Catalog, Tell, View};
@@ -180,6 +180,10 @@ impl<
 
     fn held(&self, map: u32) -> Option<&Version> {
         self.reader.held(map)
+    }
+
+    fn share(&self, map: u32) -> Result<Option<Arc<Version>>, NoMemory> {
+        self.reader.share(map)
     }
 }
 

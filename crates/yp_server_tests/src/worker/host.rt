@@ -43,6 +43,10 @@ impl View for TestHost {
     fn held(&self, map: u32) -> Option<&Version> {
         self.board.held(map)
     }
+
+    fn share(&self, map: u32) -> Result<Option<Arc<Version>>, NoMemory> {
+        self.board.share(map)
+    }
 }
 
 impl Host for TestHost {

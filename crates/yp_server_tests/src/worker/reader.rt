@@ -10,7 +10,7 @@ use std::alloc::Global;
 use std::mem;
 use std::process::Abort;
 use std::random::RandomSource;
-use std::sync::Wait;
+use std::sync::{Arc, Wait};
 use yp_answer::session::Host;
 use yp_answer::{MakeJob, TransferJob};
 use yp_board::readers::{Naming, Opened, Reader, Writer, board};
@@ -42,6 +42,10 @@ impl<B: Tell> View for ReaderHost<B> {
 
     fn held(&self, map: u32) -> Option<&Version> {
         self.reader.held(map)
+    }
+
+    fn share(&self, map: u32) -> Result<Option<Arc<Version>>, NoMemory> {
+        self.reader.share(map)
     }
 }
 
