@@ -27,5 +27,5 @@ pub use calls::{Answered, answer, answer_datagram};
 pub use limits::RECORD_MAX;
 pub use make::{MakeJob, make_reply};
 pub use procedure::{Path, Procedure};
-pub use stream::AllStream;
+pub use stream::{AllStream, HeldStream};
 pub use transfer::TransferJob;

@@ -6,11 +6,19 @@
 //! record on [`Session::step`]. That no record is read before the reply to the one before it is flushed is what the
 //! [`Witness`] of a run has seen.
 
+mod buffers;
+mod conversation;
+mod errand;
 mod host;
+mod open;
+mod put;
 mod send;
 mod session;
 mod witness;
 
+pub use buffers::Buffers;
+pub use conversation::{Advance, Conversation, Terms};
+pub use errand::Errand;
 pub use host::Host;
 pub use session::{CALLS_MAX, End, Session, Step, calls_max_is_defined};
 pub use witness::Witness;

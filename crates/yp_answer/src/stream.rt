@@ -1,12 +1,14 @@
 //! The reply of ALL, given in pieces.
 
-ghost use Rattle.std.specs.Prelude.{◌≡◌, ◌+◌, ◌<◌, ◌≤◌, ◌↔◌, ◌++◌, [], length, take, slice_get, option_map, IfSome};
+ghost use Rattle.std.specs.Prelude.{◌≡◌, ◌+◌, ◌<◌, ◌≤◌, ◌↔◌, ◌++◌, [], length, take, drop, slice_get, option_map, IfOk, IfSome};
+ghost use Rattle.std.specs.Arc.{arc_value};
 ghost use Rattle.yp_version.specs.Limits.{rows_max};
 ghost use Rattle.yp_xdr.specs.inside.Writing.{Sets};
 ghost use Rattle.yp_answer.specs.Numbers.{record_max};
 ghost use Rattle.yp_answer.specs.Maps.{maps_of};
 ghost use Rattle.yp_rpc.specs.Records.{joined};
-ghost use Rattle.yp_answer.specs.inside.Streams.{GivesParts, item_parts, parts_left, source_of, between};
+ghost use Rattle.yp_answer.specs.inside.Streams.{GivesParts, item_parts, parts, parts_left, source_of, between};
+ghost use Rattle.yp_answer.specs.inside.Streams.{held_by, held_of, held_parts, piece_max};
 ghost use Rattle.yp_answer.specs.declared.stream.TheConstants.{ITEM_MAX};
 ghost use Rattle.yp_answer.specs.inside.Answers.{StreamIsInside};
 ghost use Rattle.yp_answer.specs.inside.Items.{items_view, item_bytes, IsWithin};
@@ -14,7 +16,9 @@ ghost use Rattle.yp_answer.specs.inside.Items.{items_view, item_bytes, IsWithin}
 use crate::caller::{copy, put_head};
 use crate::look_up::no_row;
 use std::marker::Model;
+use std::sync::Arc;
 use yp_board::View;
+use yp_io::NoMemory;
 use yp_messages::{AllItem, Message, YpStat};
 use yp_rpc::ReplyHead;
 use yp_version::{KEY_MAX, VALUE_MAX, Version};
@@ -23,6 +27,9 @@ use yp_xdr::laws::sets_join;
 /// The bytes that are enough for one item: its two first words, and its value and key, each behind its length and
 /// padded.
 const ITEM_MAX: usize = 8 + (8 + VALUE_MAX) + (8 + KEY_MAX);
+
+/// The bytes that a buffer for a piece needs: room for a head, and for the longest item.
+pub const PIECE_MAX: usize = 135_168;
 
 /// What stands before each row: that an item follows, and its status.
 const ROW_HEAD: [u8; 8] = [0, 0, 0, 1, 0, 0, 0, 1];
@@ -137,6 +144,24 @@ fn put_items(items: &Items<'_>, buf: &mut [u8], at: usize, first: usize) -> (usi
     (end, next)
 }
 
+/// Puts the next parts of a reply at the front of the buffer, as many whole ones as fit, where so many were given. It
+/// answers their length in bytes, 0 exactly at the end, and how many were given then.
+fn put_parts(items: &Items<'_>, xid: u32, given: usize, buf: &mut [u8]) -> (usize, usize)
+    requires room { piece_max ≤ length buf.old }
+    ensures gives { GivesParts (take result.0 buf.new) (drop given (parts xid (items_view items.now)))
+        (drop result.1 (parts xid (items_view items.now))) }
+    ensures end { (result.0 ≡ 0) ↔ (drop given (parts xid (items_view items.now)) ≡ []) }
+    ensures within { result.0 ≤ length buf.new }
+{
+    if given == 0 {
+        let at = put_head(buf, xid, &ReplyHead::Success);
+        let (end, next) = put_items(items, buf, at, 0);
+        return (end, next + 1);
+    }
+    let (end, next) = put_items(items, buf, 0, given - 1);
+    (end, next + 1)
+}
+
 impl AllStream {
     /// The whole reply to a call: the rows of a map, or the status that refuses it.
     pub(crate) fn new(xid: u32, source: Result<u32, YpStat>) -> AllStream
@@ -161,16 +186,81 @@ impl AllStream {
         ensures within { result ≤ length buf.new }
     {
         let items = items_of(view, self.source);
-        let given = self.given;
-        if given == 0 {
-            let at = put_head(buf, self.xid, &ReplyHead::Success);
-            let (end, next) = put_items(&items, buf, at, 0);
-            self.given = next + 1;
-            return end;
-        }
-        let (end, next) = put_items(&items, buf, 0, given - 1);
-        self.given = next + 1;
+        let (end, given) = put_parts(&items, self.xid, self.given, buf);
+        self.given = given;
         end
+    }
+
+    /// The same stream with the version for itself, so that the view may go on. It is refused where the version has
+    /// too many owners.
+    pub fn hold<V: View>(self, view: &V) -> Result<HeldStream, NoMemory>
+        requires { StreamIsInside (maps_of (V.seen view.now)) self.source }
+        ensures { IfOk result (λ held. held ≡ held_of (V.seen view.now).known self) }
+    {
+        let AllStream { xid, source, given } = self;
+        let source = held_source(view, source)?;
+        Ok(HeldStream { xid, source, given })
+    }
+}
+
+/// The version of a source, or the status that refuses it.
+fn held_source<V: View>(
+    view: &V,
+    source: Result<u32, YpStat>,
+) -> Result<Result<Arc<Version>, YpStat>, NoMemory>
+    requires { StreamIsInside (maps_of (V.seen view.now)) source }
+    ensures { IfOk result (λ held. held_by arc_value held ≡ source_of (V.seen view.now).known source) }
+{
+    match source {
+        Err(stat) => Ok(Err(stat)),
+        Ok(map) => match view.share(map)? {
+            Some(version) => Ok(Ok(version)),
+            None => Ok(Err(YpStat::Nomap)),
+        },
+    }
+}
+
+/// The reply of ALL on a version that it has for itself, which goes out in pieces of whole items.
+#[derive(Drop)]
+pub struct HeldStream {
+    xid: u32,
+    source: Result<Arc<Version>, YpStat>,
+    given: usize,
+}
+
+impl Model for HeldStream {
+    ghost use Rattle.std.specs.Arc.{arc_value};
+    ghost use Rattle.yp_answer.specs.inside.Streams.{Held, held_by};
+
+    ghost Value = { Held };
+
+    ghost view = { λ h. record { xid = h.xid; source = held_by arc_value h.source; given = h.given } };
+}
+
+impl HeldStream {
+    /// Puts the next parts of the reply at the front of the buffer, as many whole ones as fit, and answers their length
+    /// in bytes: 0 exactly at the end.
+    pub fn piece(&mut self, buf: &mut [u8]) -> usize
+        requires { piece_max ≤ length buf.old }
+        ensures gives { GivesParts (take result buf.new) (held_parts self.old) (held_parts self.new) }
+        ensures end { (result ≡ 0) ↔ (held_parts self.old ≡ []) }
+        ensures same { self.new ≡ record self.old { given = self.new.given } }
+        ensures within { result ≤ length buf.new }
+    {
+        let items = held_items(&self.source);
+        let (end, given) = put_parts(&items, self.xid, self.given, buf);
+        self.given = given;
+        end
+    }
+}
+
+/// What is listed of a version, or of the status that refuses it.
+fn held_items(source: &Result<Arc<Version>, YpStat>) -> Items<'_>
+    ensures { items_view result ≡ held_by arc_value source.now }
+{
+    match source {
+        Ok(version) => Items::Rows(&**version),
+        Err(stat) => Items::Refused(*stat),
     }
 }
 

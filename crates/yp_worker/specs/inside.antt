@@ -1,4 +1,3 @@
 pub mod Receptions
 pub mod Summing
 pub mod Laws
-pub mod datagrams

@@ -42,6 +42,29 @@ parts xid source = reply_head xid Success ∷ item_parts source
 abbrev pub parts_left : Log → Streamed → List (List ℕ)
 parts_left log stream = drop stream.given (parts stream.xid (source_of log stream.source))
 
+-- a version that a stream has for itself, or the status that refuses it
+abbrev pub held_by : {A : Type 0} → (A → MapVersion) → Result A YpStat → Result MapVersion YpStat
+held_by value (Ok version) = Ok (value version)
+held_by value (Err stat) = Err stat
+
+-- a reply of ALL on a version that it has for itself: for which call, of what, and how many parts were given
+pub record Held : Type 0 where
+  pub xid : ℕ
+  pub source : Result MapVersion YpStat
+  pub given : ℕ
+
+-- a stream on what a log shows
+abbrev pub held_of : Log → Streamed → Held
+held_of log stream = record { xid = stream.xid; source = source_of log stream.source; given = stream.given }
+
+-- the parts that are still to be given
+abbrev pub held_parts : Held → List (List ℕ)
+held_parts held = drop held.given (parts held.xid held.source)
+
+-- the bytes that a buffer for a piece needs
+abbrev pub piece_max : ℕ
+piece_max = 135168
+
 -- the parts from one place up to another
 abbrev pub between : ℕ → ℕ → List (List ℕ) → List (List ℕ)
 between start end parts = take (end - start) (drop start parts)

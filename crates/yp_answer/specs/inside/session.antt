@@ -1,2 +1,5 @@
 pub mod Hosts
 pub mod Runs
+pub mod Errands
+pub mod Cuts
+pub mod Puts

@@ -12,10 +12,11 @@ ghost use Rattle.yp_answer.specs.session.Hosts.{Turn, Fulfils};
 ghost use Rattle.yp_answer.specs.inside.session.Hosts.{conduct_by};
 ghost use Rattle.yp_answer.specs.session.Runs.{dialogue_at, RepliesTo, DoesStep, Runs};
 
+use crate::session::buffers::zeros;
 use crate::session::host::Host;
 use crate::session::send::send_stream;
 use crate::session::witness::Witness;
-use crate::{Answered, MakeJob, RECORD_MAX, answer, make_reply};
+use crate::{Answered, MakeJob, answer, make_reply};
 use std::alloc::Global;
 use std::marker::Model;
 use yp_io::{Failed, NoMemory, Pair, Peer, Sink, Source};
@@ -209,7 +210,7 @@ fn reply_to<K: Sink, H: Host>(
 }
 
 /// Has a map made, puts the reply with the status of that at the front of the buffer, and answers its length.
-fn make<H: Host>(host: &mut H, job: MakeJob, xid: u32, buf: &mut [u8]) -> usize
+pub(crate) fn make<H: Host>(host: &mut H, job: MakeJob, xid: u32, buf: &mut [u8]) -> usize
     requires room { record_max ≤ length buf.old }
     requires inside { job.map < length (H.seen host.old).catalogue.maps }
     requires kind { IsKindOf (H.seen host.old).catalogue job.map job.kind }
@@ -234,15 +235,5 @@ impl From<RecordFault> for End {
             RecordFault::TooLong { at } => End::TooLong { at },
             RecordFault::ReadFault => End::ReadFault,
         }
-    }
-}
-
-/// Room for the longest call, or a piece of its reply.
-fn zeros(alloc: Global) -> Result<Vec<u8>, NoMemory>
-    ensures { IfOk result (λ bytes. length bytes.items ≡ record_max) }
-{
-    match vec![in alloc; 0; RECORD_MAX] {
-        Ok(bytes) => Ok(bytes),
-        Err(_) => Err(NoMemory),
     }
 }

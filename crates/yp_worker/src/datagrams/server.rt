@@ -2,52 +2,19 @@
 
 ghost use Rattle.std.specs.Prelude.{◌≡◌, ℕ, ◌≤◌, false, None, length, option_map, IfSome};
 ghost use Rattle.yp_answer.specs.declared.procedure.Path.TheVariants as paths;
-ghost use Rattle.yp_answer.specs.inside.Transfer.{taken_view};
+ghost use Rattle.yp_answer.specs.inside.session.Errands.{IsDue};
 ghost use Rattle.yp_answer.specs.session.Hosts.{Turn, Link};
 ghost use Rattle.yp_answer.specs.inside.session.Hosts.{conduct_by};
 ghost use Rattle.yp_rpc.specs.Turns.{datagram_max};
 ghost use Rattle.yp_rpc.specs.inside.Turns.{reply_of};
 ghost use Rattle.yp_worker.specs.datagrams.Mailing.{Clears, Goes, Hears, Rests};
-ghost use Rattle.yp_worker.specs.inside.datagrams.Mailing.{awaited_of, IsDue};
 
 use crate::CatchUp;
-use arrayvec::ArrayVec;
 use std::marker::Model;
-use yp_answer::session::Host;
-use yp_answer::{Answered, TransferJob, answer_datagram, make_reply};
-use yp_board::NAME_MAX;
+use yp_answer::session::{Errand, Host};
+use yp_answer::{Answered, answer_datagram, make_reply};
 use yp_io::Peer;
 use yp_rpc::{Handler, Wish};
-
-/// A transfer that waits until its reply is out, and its caller.
-#[derive(Drop)]
-pub(crate) struct WaitingTransfer {
-    map: u32,
-    source: ArrayVec<u8, NAME_MAX>,
-    transid: u32,
-    prog: u32,
-    port: u32,
-    peer: Peer,
-}
-
-impl WaitingTransfer {
-    /// Takes no memory.
-    fn new(transfer: &TransferJob<'_>, peer: Peer) -> WaitingTransfer
-        requires { length transfer.now.source.now ≤ NAME_MAX }
-        ensures { awaited_of result ≡ (taken_view transfer.now, peer) }
-    {
-        let mut source = ArrayVec::new();
-        let _ = source.try_extend_from_slice(transfer.source);
-        WaitingTransfer {
-            map: transfer.map,
-            source,
-            transid: transfer.transid,
-            prog: transfer.prog,
-            port: transfer.port,
-            peer,
-        }
-    }
-}
 
 /// A host that answers datagrams. It takes no memory for that. A transfer that it took waits until the next turn is
 /// wanted, when the reply is out; what still waits where a datagram is heard is dropped.
@@ -56,20 +23,20 @@ impl WaitingTransfer {
 #[derive(Drop)]
 pub struct MailServer<H: CatchUp> {
     host: H,
-    waiting: Option<WaitingTransfer>,
+    waiting: Option<(Errand, Peer)>,
 }
 
 impl<H: CatchUp> Model for MailServer<H> {
-    ghost use Rattle.std.specs.Prelude.{length, option_map, IfSome};
+    ghost use Rattle.std.specs.Prelude.{length, IfSome};
+    ghost use Rattle.yp_answer.specs.inside.session.Errands.{IsDue};
     ghost use Rattle.yp_worker.specs.datagrams.Mailing.{Mailing};
-    ghost use Rattle.yp_worker.specs.inside.datagrams.Mailing.{awaited_of, IsDue};
 
     ghost Value = { Mailing H };
 
-    ghost view = { λ s. record { host = s.host; waiting = option_map awaited_of s.waiting } };
+    ghost view = { λ s. record { host = s.host; waiting = s.waiting } };
 
     ghost invariant = { λ s. IfSome s.waiting
-        (λ waiting. IsDue (length (H.seen s.host).catalogue.maps) (awaited_of waiting)) };
+        (λ awaited. IsDue (length (H.seen s.host).catalogue.maps) awaited.0) };
 }
 
 impl<H: CatchUp> MailServer<H> {
@@ -95,15 +62,8 @@ impl<H: CatchUp> MailServer<H> {
     pub(crate) fn carry_out(&mut self)
         ensures { Clears (conduct_by H.Host) self.old self.new }
     {
-        if let Some(waiting) = self.waiting.take() {
-            let transfer = TransferJob {
-                map: waiting.map,
-                source: &waiting.source,
-                transid: waiting.transid,
-                prog: waiting.prog,
-                port: waiting.port,
-            };
-            self.host.transfer(&transfer, waiting.peer);
+        if let Some((errand, peer)) = self.waiting.take() {
+            self.host.transfer(&errand.job(), peer);
         }
     }
 
@@ -122,18 +82,18 @@ fn reply_to<H: Host>(
     mail: &[u8],
     peer: Peer,
     buf: &mut [u8],
-) -> (usize, Option<WaitingTransfer>)
+) -> (usize, Option<(Errand, Peer)>)
     requires { datagram_max ≤ length buf.old }
     ensures replied { (turn : Turn) × (turn.message ≡ mail.now) × (turn.answer ≡ reply_of result.0 buf.new)
-        × (turn.flushed ≡ false) × (option_map awaited_of result.1 ≡ option_map (λ taken. (taken, peer)) turn.taken)
+        × (turn.flushed ≡ false) × (result.1 ≡ option_map (λ taken. (taken, peer)) turn.taken)
         × Link (conduct_by H.Host) paths.Datagram peer turn host.old host.new }
     ensures within { result.0 ≤ length buf.new }
-    ensures due { IfSome result.1 (λ waiting. IsDue (length (H.seen host.new).catalogue.maps) (awaited_of waiting)) }
+    ensures due { IfSome result.1 (λ awaited. IsDue (length (H.seen host.new).catalogue.maps) awaited.0) }
 {
     match answer_datagram(host, mail, peer, buf) {
         Answered::Silent => (0, None),
         Answered::Reply { len } => (len, None),
-        Answered::Transfer { len, job } => (len, Some(WaitingTransfer::new(&job, peer))),
+        Answered::Transfer { len, job } => (len, Some((Errand::new(&job), peer))),
         Answered::Make { xid, job } => {
             let stat = host.make(job);
             (make_reply(buf, xid, stat), None)

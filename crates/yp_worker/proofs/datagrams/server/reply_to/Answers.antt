@@ -1,4 +1,5 @@
 use Rattle.std.proofs.Common.{ℕ, List, Some, refl, sym, ap, ◌∙◌, take}
+use Rattle.yp_answer.specs.Transfer.{Taken}
 use Rattle.yp_answer.specs.inside.Transfer.{taken_view}
 use Rattle.yp_answer.specs.session.Hosts.{conduct_of}
 use Rattle.yp_worker.proofs.datagrams.Answering.{link_silent, link_bytes, link_takes, link_open, reply_is}
@@ -37,7 +38,7 @@ returns-in-Transfer-clause-replied g c =
       refl,
       sym (reply_is c.in-Transfer.len buf c.in-Transfer.ensures.reply.some),
       refl,
-      ap (λ w. Some w) c.new.ensures,
+      ap (λ (t : Taken). Some (t, c.args.peer)) c.new.ensures,
       link_takes conduct c.args.peer c.args.mail.now g.met.H.Host.step_counts_nothing (take c.in-Transfer.len buf) (taken_view c.in-Transfer.job)
           c.args.host.now c.answer_datagram.new.view c.in-Transfer.ensures.step c.in-Transfer.ensures.reply.takes,
     )
