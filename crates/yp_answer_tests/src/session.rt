@@ -1,5 +1,6 @@
 //! Sessions over wires in memory.
 
+mod conversations;
 mod host;
 mod make;
 mod runs;

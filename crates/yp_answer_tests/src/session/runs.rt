@@ -215,9 +215,9 @@ fn run_over<R: RandomSource + Abort>(
 }
 
 // The head of a reply to `ALL` whose first fragment has 8,192 bytes, and the second fragment, behind its items.
-const ALL_REPLY: &str = "00002000 00000004 00000001 00000000 00000000 00000000 00000000";
+pub const ALL_REPLY: &str = "00002000 00000004 00000001 00000000 00000000 00000000 00000000";
 
-const LAST_FRAGMENT: &str = "80000004 00000000";
+pub const LAST_FRAGMENT: &str = "80000004 00000000";
 
 #[test]
 fn all_in_two_fragments(rt: HostRuntime) {

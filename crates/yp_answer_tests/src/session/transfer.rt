@@ -54,7 +54,7 @@ static ROWS: [[Row; 1]; 4] = [
 ];
 
 // A host that shows a version of the map `m`, and has none of the map `n`.
-fn host<R: RandomSource + Abort>(rt: &R, runtime: HostRuntime, alloc: Global) -> TestHost {
+pub fn host<R: RandomSource + Abort>(rt: &R, runtime: HostRuntime, alloc: Global) -> TestHost {
     let shown = shared(rt, alloc, version_of(rt, alloc, 7, b"m1", &[]));
     let start = vec![in alloc; Some(shown), None].expect(rt, "versions");
     host_of(rt, runtime, alloc, &[(b"d", b"m"), (b"d", b"n")], start)
