@@ -2,3 +2,4 @@ mod Growing
 mod Serving
 mod Receiving
 mod Summing
+mod Guesting

@@ -1,3 +1,4 @@
 pub mod Receptions
 pub mod Summing
 pub mod Laws
+pub mod Guests

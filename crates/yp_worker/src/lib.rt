@@ -7,7 +7,8 @@
 //! is a front of one log. That a worker ends by an end of the listener alone stands on [`Worker::run`], and of two in
 //! threads on [`run_beside`].
 //!
-//! [`datagrams`] answers the datagrams of a server.
+//! [`datagrams`] answers the datagrams of a server. What a worker of many callers at once does to each of them, as it
+//! goes on with one, stands on [`Guest::advance`].
 #![tactic(auto)]
 
 mod beside;
@@ -15,6 +16,7 @@ mod catch_up;
 pub mod datagrams;
 mod gate;
 mod gated;
+mod guest;
 pub mod laws;
 mod listening;
 mod run;
@@ -25,6 +27,7 @@ pub use beside::run_beside;
 pub use catch_up::{CatchUp, HandsOver};
 pub use gate::{Gate, OpenGate, Point};
 pub use gated::Gated;
+pub use guest::Guest;
 pub use listening::{Admission, Listening, Pass, Reception};
 pub use tally::Tally;
 pub use worker::Worker;

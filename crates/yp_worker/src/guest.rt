@@ -1,0 +1,107 @@
+//! A caller of a worker that has many, and the conversation with it.
+
+ghost use Rattle.std.specs.Prelude.{◌≡◌, [], true, false, None, length, IfSome};
+ghost use Rattle.yp_answer.specs.session.Progress.{begun};
+ghost use Rattle.yp_answer.specs.inside.session.Hosts.{conduct_by};
+ghost use Rattle.yp_answer.specs.inside.session.Cuts.{ComesTo, cut_of};
+ghost use Rattle.yp_answer.specs.inside.session.Errands.{IsDue};
+ghost use Rattle.yp_worker.specs.inside.Guests.{WorksOn};
+
+use crate::catch_up::CatchUp;
+use std::alloc::Global;
+use std::marker::Model;
+use yp_answer::session::{Advance, Buffers, Conversation, Terms};
+use yp_io::{CallOrigin, Called, Pair, TrySink, TrySource};
+
+/// A caller, and the conversation with it. Its number tells it from all others of its worker.
+#[derive(Drop)]
+pub struct Guest<S, K> {
+    origin: CallOrigin<S, K>,
+    number: u64,
+    conversation: Conversation<S, K>,
+}
+
+impl<S, K> Model for Guest<S, K> {
+    ghost use Rattle.yp_worker.specs.inside.Guests.{GuestState};
+
+    ghost Value = { GuestState S K };
+
+    ghost view = { λ g. record { origin = g.origin; number = g.number; talk = g.conversation } };
+}
+
+impl<S, K> Guest<S, K> {
+    /// Before the first record of a connection.
+    pub fn new(alloc: Global, number: u64, call: Called<S, K>) -> Guest<S, K>
+        ensures origin { result.origin ≡ call.origin }
+        ensures number { result.number ≡ number }
+        ensures talk { result.talk ≡ record {
+          source = call.wire.source;
+          sink = call.wire.sink;
+          progress = begun;
+          incoming = [];
+          owed = [];
+          stream = None;
+          waiting = None;
+          settled = true;
+          broken = false;
+        } }
+    {
+        let Called { origin, wire } = call;
+        Guest {
+            origin,
+            number,
+            conversation: Conversation::new(alloc, wire),
+        }
+    }
+
+    /// How many of its records were read whole.
+    pub fn calls(&self) -> u64
+        ensures { result ≡ self.now.talk.progress.calls }
+    {
+        self.conversation.calls()
+    }
+
+    /// The connection. What is owed to it is dropped.
+    pub fn into_call(self) -> Called<S, K>
+        ensures origin { result.origin ≡ self.origin }
+        ensures source { result.wire.source ≡ self.talk.source }
+        ensures sink { result.wire.sink ≡ self.talk.sink }
+    {
+        let Guest {
+            origin,
+            number: _,
+            conversation,
+        } = self;
+        let Pair { source, sink } = conversation.into_wire();
+        Called {
+            origin,
+            wire: Pair { source, sink },
+        }
+    }
+}
+
+impl<S: TrySource, K: TrySink> Guest<S, K> {
+    /// Goes on by at most so many steps. At most `most` of its records are answered, and transfers are carried out
+    /// where that is said.
+    pub fn advance<H: CatchUp>(
+        &mut self,
+        host: &mut H,
+        buffers: &mut Buffers,
+        most: u64,
+        carries: bool,
+        steps: u32,
+    ) -> Advance
+        requires due { IfSome self.old.talk.waiting (IsDue (length (H.seen host.old).catalogue.maps)) }
+        ensures works { WorksOn (conduct_by H.Host) H.counted S.TrySource K.TrySink self.old self.new
+            host.old host.new }
+        ensures comes_to { ComesTo most result (cut_of S.TrySource K.TrySink self.new.talk) }
+        ensures due { IfSome self.new.talk.waiting (IsDue (length (H.seen host.new).catalogue.maps)) }
+    {
+        let terms = Terms {
+            peer: self.origin.peer(),
+            most,
+            carries,
+        };
+        self.conversation.advance(host, buffers, &terms, steps)
+    }
+}
