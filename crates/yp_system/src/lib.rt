@@ -7,25 +7,34 @@
 #![tactic(auto)]
 
 mod caller;
+mod chain;
 mod clock;
 mod dial;
 mod disk;
+mod hall;
 mod inbox;
 mod listen;
 mod locked;
 mod patient;
+mod seats;
+mod socket;
 mod streams;
 mod texts;
+mod watch;
 mod words;
 
 pub use caller::CallerReader;
 pub use clock::SystemClock;
 pub use dial::{TcpDial, TcpWire};
 pub use disk::FileDisk;
+pub use hall::{PAYMENT_SECONDS, RECORD_SECONDS, REST_SECONDS, SocketCall, TcpHall};
 pub use inbox::{TURN_SECONDS, UdpInbox};
 pub use listen::{SILENCE_SECONDS, TcpCall, TcpCloser, TcpListen};
 pub use locked::{LockedFile, Locking, MapFile};
 pub use patient::Patient;
+pub use seats::Limits;
+pub use socket::{SocketSink, SocketSource};
 pub use streams::{BlockReader, DirectWriter, StandardStream};
 pub use texts::TextFolder;
+pub use watch::TcpWatch;
 pub use words::{WORD_MAX, read_words};
