@@ -50,8 +50,13 @@ pub enum Awaited {
 /// What watches the connections of one worker, each under a number of its own, and the door by which they come. Memory
 /// goes with the greatest of these numbers, so they are small.
 ///
-/// `Ready` is told when something has changed, and once when a connection is entered. So its worker goes on with it
-/// until its wires say "not now", or says `again` where it stops before that.
+/// What its worker does, so that nobody is forgotten:
+///
+/// - At `Ready` it goes on with the connection until a half of its wire that is needed says "not now", or says `again`
+///   where it stops before that: a change is told once. `Ready` is told once of a connection that was entered, too.
+/// - Behind that it says what is awaited now.
+/// - At `Door` it tries to accept. It is told again while somebody waits there.
+/// - Before it closes a connection, or hands it on, it lets it leave.
 pub trait Watch {
     type In;
 

@@ -1,16 +1,16 @@
 //! A hall in memory.
 
-ghost use Rattle.std.specs.Prelude.{◌≡◌, ℕ, ◌+◌, ◌^◌, ◌<◌, false, [], ◌∷◌, ◌++◌, length, Some, All, Contains, IsErr};
-ghost use Rattle.std.specs.Prelude.{IfSome, IfNone, IfOk, OnErr};
+ghost use Rattle.std.specs.Prelude.{◌≡◌, ◌↔◌, ℕ, ◌+◌, ◌^◌, ◌<◌, false, [], ◌∷◌, ◌++◌, length, Some, All, Contains};
+ghost use Rattle.std.specs.Prelude.{IsErr, IfSome, IfNone, IfOk, OnErr};
 ghost use Rattle.yp_io.specs.Counts.{CountsFaults, capped, next_count};
 ghost use Rattle.yp_io.specs.inside.Counts.{faults_after};
-ghost use Rattle.yp_io.specs.Calls.{ConnectionComes, IsClosed, accepting_of};
+ghost use Rattle.yp_io.specs.Calls.{ConnectionComes, IsClosed};
 ghost use Rattle.yp_io.specs.Calls.{none_closed, closed_then, taken_in};
 ghost use Rattle.yp_io.specs.inside.Hall.{IfComes, OnNotNow, OnNoMore, NoneComes};
 ghost use Rattle.yp_io.specs.inside.MemHall.{HallConnection, MemHallModel, EntryIsNew, entered_of, left_of};
 ghost use Rattle.yp_io.specs.inside.MemListen.{Closing};
 ghost use Rattle.yp_io.specs.inside.MemHall.{all_left_of};
-ghost use Rattle.yp_io.specs.inside.MemHall.{entries_of};
+ghost use Rattle.yp_io.specs.inside.MemHall.{accepting_in, entries_of};
 
 use crate::called::Called;
 use crate::hall::{Coming, Hall, Notice, Watch};
@@ -174,24 +174,18 @@ impl Hall for MemHall {
     ghost closed_count = { λ (c : Closing HallConnection). c.count };
 
     fn try_accept(&mut self) -> Result<Coming<Scheduled<MemSource>, Scheduled<MemSink>>, Failed>
-        ensures came { IfOk result (IfComes (λ call. ConnectionComes (entered_of call)
-            (accepting_of entries_of (λ (l : MemHallModel). l.most) (λ (l : MemHallModel). l.accepted) self.old)
-            (accepting_of entries_of (λ (l : MemHallModel). l.most) (λ (l : MemHallModel). l.accepted) self.new))) }
+        ensures came { IfOk result (IfComes (λ call.
+            ConnectionComes (entered_of call) (accepting_in self.old) (accepting_in self.new))) }
         ensures fresh { IfOk result (IfComes EntryIsNew) }
-        ensures not_now { IfOk result (OnNotNow (NoneComes
-            (accepting_of entries_of (λ (l : MemHallModel). l.most) (λ (l : MemHallModel). l.accepted) self.old)
-            (accepting_of entries_of (λ (l : MemHallModel). l.most) (λ (l : MemHallModel). l.accepted) self.new))) }
-        ensures closed { IfOk result (OnNoMore (IsClosed
-            (accepting_of entries_of (λ (l : MemHallModel). l.most) (λ (l : MemHallModel). l.accepted) self.old)
-            (accepting_of entries_of (λ (l : MemHallModel). l.most) (λ (l : MemHallModel). l.accepted) self.new))) }
-        ensures none { OnErr result
-            (accepting_of entries_of (λ (l : MemHallModel). l.most) (λ (l : MemHallModel). l.accepted) self.new
-            ≡ accepting_of entries_of (λ (l : MemHallModel). l.most) (λ (l : MemHallModel). l.accepted) self.old) }
+        ensures not_now { IfOk result (OnNotNow (NoneComes (accepting_in self.old) (accepting_in self.new))) }
+        ensures closed { IfOk result (OnNoMore (IsClosed (accepting_in self.old) (accepting_in self.new))) }
+        ensures none { OnErr result (accepting_in self.new ≡ accepting_in self.old) }
         ensures returned { self.new.returned ≡ self.old.returned }
         ensures number { self.new.accepted < 2 ^ 64 }
         ensures cause { CountsFaults self.old.faults self.new.faults result }
         ensures fails { Contains self.old.failing self.old.calls → IsErr result }
         ensures pauses { IfOk result (OnNotNow (Contains self.old.pausing self.old.calls)) }
+        ensures comes { IfOk result (IfComes (λ _. Contains self.old.pausing self.old.calls → ⊥)) }
         ensures first { IfOk result (IfComes (λ call. self.old.waiting ≡ call ∷ self.new.waiting)) }
         ensures others { self.new ≡ record self.old {
           waiting = self.new.waiting;
@@ -217,10 +211,10 @@ impl Hall for MemHall {
 
     fn watch(&mut self) -> Result<MemWatch, Failed>
         ensures fresh { IfOk result (λ watch. ⟦<MemWatch as Watch>⟧.faults watch ≡ 0) }
-        ensures same { accepting_of entries_of (λ (l : MemHallModel). l.most) (λ (l : MemHallModel). l.accepted) self.new
-            ≡ accepting_of entries_of (λ (l : MemHallModel). l.most) (λ (l : MemHallModel). l.accepted) self.old }
+        ensures same { accepting_in self.new ≡ accepting_in self.old }
         ensures returned { self.new.returned ≡ self.old.returned }
         ensures cause { CountsFaults self.old.faults self.new.faults result }
+        ensures fails { IsErr result ↔ Contains self.old.failing self.old.calls }
         ensures others { self.new ≡ record self.old {
           calls = next_count self.old.calls;
           faults = faults_after self.old.faults result;

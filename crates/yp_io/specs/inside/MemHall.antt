@@ -5,7 +5,7 @@ use Rattle.yp_io.specs.declared.called.Called.{Called}
 use Rattle.yp_io.specs.declared.scheduled.Scheduled.{Scheduled}
 use Rattle.yp_io.specs.Dials.{Connected}
 use Rattle.yp_io.specs.inside.MemListen.{Closing}
-use Rattle.yp_io.specs.Calls.{ListenerHistory, ClosedConnection, Halves, IsFreshCall, came_by, ended_by}
+use Rattle.yp_io.specs.Calls.{ListenerHistory, ClosedConnection, Accepting, Halves, IsFreshCall, came_by, ended_by}
 
 -- a connection in memory that is never waited for
 abbrev pub HallConnection : Type 0
@@ -55,6 +55,10 @@ entries_of hall = Some (record {
   came = map entered_of hall.came;
   closed = map all_left_of hall.closers;
 })
+
+-- what it tells, how many connections it is to accept, and how many it has accepted
+abbrev pub accepting_in : MemHallModel → Accepting
+accepting_in hall = record { past = entries_of hall; most = hall.most; accepted = hall.accepted }
 
 -- a connection as it comes
 abbrev pub EntryIsNew : HallConnection → Type 0
