@@ -8,7 +8,7 @@ ghost use Rattle.yp_io.specs.inside.Hall.{try_halves_of};
 
 use crate::inbox::peer_of;
 use crate::listen::TcpCloser;
-use crate::seats::Limits;
+use crate::places::Limits;
 use crate::socket::{SocketSink, SocketSource};
 use crate::watch::{Door, TcpWatch};
 use mio::net::{TcpListener, TcpStream};

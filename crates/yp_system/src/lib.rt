@@ -1,9 +1,10 @@
 //! The real outside of the program: standard streams, files, the clock, connections over TCP, dialed and accepted,
-//! datagrams at a port, and texts in a folder.
+//! also many of them that are never waited for, datagrams at a port, and texts in a folder.
 //!
 //! Each is proved to keep the trait of `yp_io` that it stands for. Which bytes the system gives them no
 //! contract says, so they are done with care: a failed sync is never trusted again, a file has one writer, and each
-//! wire that is dialed or accepted has a limit of time.
+//! wire that is dialed or accepted has a limit of time. Nor does one say that a watch tells of every connection that
+//! may go on: that is tested.
 #![tactic(auto)]
 
 mod caller;
@@ -16,7 +17,7 @@ mod inbox;
 mod listen;
 mod locked;
 mod patient;
-mod seats;
+mod places;
 mod socket;
 mod streams;
 mod texts;
@@ -32,7 +33,7 @@ pub use inbox::{TURN_SECONDS, UdpInbox};
 pub use listen::{SILENCE_SECONDS, TcpCall, TcpCloser, TcpListen};
 pub use locked::{LockedFile, Locking, MapFile};
 pub use patient::Patient;
-pub use seats::Limits;
+pub use places::Limits;
 pub use socket::{SocketSink, SocketSource};
 pub use streams::{BlockReader, DirectWriter, StandardStream};
 pub use texts::TextFolder;

@@ -26,12 +26,12 @@ impl Limits {
     }
 }
 
-// How a place is told from those that had its number before.
-const PLACES: usize = 1 << 32;
+// How many numbers places have.
+const PLACE_NUMBERS: usize = 1 << 32;
 
 // Who is at a place: which of all that were entered, what of it is awaited, and since when.
 #[derive(Clone, Copy)]
-struct Seat {
+struct Entry {
     serial: u32,
     what: Awaited,
     since: Instant,
@@ -40,8 +40,8 @@ struct Seat {
 /// The places of a watch. Each that is taken is in line by what of it is awaited, the longest first, so nobody else has
 /// to be looked at.
 #[derive(Drop)]
-pub struct Seats {
-    seats: Vec<Option<Seat>>,
+pub struct Places {
+    entries: Vec<Option<Entry>>,
     records: Chain,
     rests: Chain,
     payments: Chain,
@@ -50,11 +50,11 @@ pub struct Seats {
     serial: u32,
 }
 
-impl Seats {
+impl Places {
     /// No place is taken.
-    pub fn new(alloc: Global) -> Seats {
-        Seats {
-            seats: Vec::new(alloc),
+    pub fn new(alloc: Global) -> Places {
+        Places {
+            entries: Vec::new(alloc),
             records: Chain::new(alloc),
             rests: Chain::new(alloc),
             payments: Chain::new(alloc),
@@ -71,8 +71,8 @@ impl Seats {
         self.ready.make_room(place)?;
         self.again.make_room(place)?;
         let wanted = (place as usize).saturating_add(1);
-        if self.seats.len() < wanted {
-            self.seats.resize(wanted, None)?;
+        if self.entries.len() < wanted {
+            self.entries.resize(wanted, None)?;
         }
         Ok(())
     }
@@ -85,7 +85,7 @@ impl Seats {
         let serial = self.serial;
         self.put(
             place,
-            Seat {
+            Entry {
                 serial,
                 what: Awaited::Record,
                 since: now,
@@ -101,13 +101,13 @@ impl Seats {
         self.payments.remove(place);
         self.ready.remove(place);
         self.again.remove(place);
-        if let Some(seat) = self.seats.get_mut(place as usize) {
-            *seat = None;
+        if let Some(entry) = self.entries.get_mut(place as usize) {
+            *entry = None;
         }
     }
 
-    fn at(&self, place: u32) -> Option<Seat> {
-        *self.seats.get(place as usize)?
+    fn at(&self, place: u32) -> Option<Entry> {
+        *self.entries.get(place as usize)?
     }
 
     fn chain(&mut self, what: Awaited) -> &mut Chain {
@@ -119,29 +119,29 @@ impl Seats {
     }
 
     // Puts who is at a place at the end of the line of what is awaited.
-    fn put(&mut self, place: u32, seat: Seat) {
-        if let Some(here) = self.seats.get_mut(place as usize) {
-            *here = Some(seat);
-            self.chain(seat.what).append(place);
+    fn put(&mut self, place: u32, entry: Entry) {
+        if let Some(here) = self.entries.get_mut(place as usize) {
+            *here = Some(entry);
+            self.chain(entry.what).append(place);
         }
     }
 
     /// Whether the time of who is at a place goes on, where this is awaited.
     pub fn goes_on(&self, place: u32, what: Awaited) -> bool {
         match self.at(place) {
-            Some(seat) => seat.what == what,
+            Some(entry) => entry.what == what,
             None => true,
         }
     }
 
     /// This is awaited of who is at a place, from now on.
     pub fn await_from(&mut self, place: u32, what: Awaited, now: Instant) {
-        if let Some(seat) = self.at(place) {
-            self.chain(seat.what).remove(place);
+        if let Some(entry) = self.at(place) {
+            self.chain(entry.what).remove(place);
             self.put(
                 place,
-                Seat {
-                    serial: seat.serial,
+                Entry {
+                    serial: entry.serial,
                     what,
                     since: now,
                 },
@@ -162,10 +162,10 @@ impl Seats {
     }
 
     /// The system tells of this number. Who has left is passed over.
-    pub fn stir(&mut self, number: usize) {
-        if let Ok(place) = u32::try_from(number % PLACES) {
-            if let Some(seat) = self.at(place) {
-                if number_of(seat.serial, place) == number {
+    pub fn mark_ready(&mut self, number: usize) {
+        if let Ok(place) = u32::try_from(number % PLACE_NUMBERS) {
+            if let Some(entry) = self.at(place) {
+                if number_of(entry.serial, place) == number {
                     self.ready.append(place);
                 }
             }
@@ -174,7 +174,7 @@ impl Seats {
 
     /// Whoever is ready again is ready now, behind the others.
     pub fn begin_turn(&mut self) {
-        for _ in 0..self.seats.len() {
+        for _ in 0..self.entries.len() {
             match self.again.take_first() {
                 Some(place) => self.ready.append(place),
                 None => return,
@@ -236,5 +236,5 @@ impl Seats {
 
 // A number that tells a place from others, and who is there from those who were.
 fn number_of(serial: u32, place: u32) -> usize {
-    (serial as usize) * PLACES + place as usize
+    (serial as usize) * PLACE_NUMBERS + place as usize
 }

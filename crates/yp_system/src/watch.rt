@@ -2,7 +2,7 @@
 
 ghost use Rattle.std.specs.Prelude.{◌≡◌, IfOk};
 
-use crate::seats::{Limits, Seats};
+use crate::places::{Limits, Places};
 use crate::socket::{SocketSink, SocketSource};
 use mio::net::TcpListener;
 use mio::unix::SourceFd;
@@ -39,33 +39,34 @@ const WAIT_MILLIS: u64 = 1000;
 
 // How long a worker isn't told of the door where no descriptor is left and it has nobody to let go, in milliseconds. It
 // is also the pause behind a wait that fails.
-const REST_MILLIS: u64 = 10;
+const PAUSE_MILLIS: u64 = 10;
 
 // What the door has come to.
 #[derive(Clone, Copy, PartialEq, Eq)]
-enum Stage {
+enum DoorState {
     // The system tells where somebody comes.
     Watched,
     // The worker is to be told: first, where the system has told, and behind a quiet wait, so that each worker hears in
     // the end that nobody comes any more, and nothing that the system has told is lost for long.
-    Stirred,
+    Pending,
     // The worker was told. The system is to tell again, also of who has come before.
     Told,
     // As `Told`, but behind a pause.
-    Resting,
+    Pausing,
 }
 
 /// What tells a worker which of its connections can go on, by epoll, and which are over their time. Connections are
-/// told ready in the order in which the system tells of them, each once in a turn. Then comes the door, so a busy worker
-/// is told of it less often. It is told first, behind each quiet wait, and again and again while somebody waits there.
+/// told ready in the order in which the system tells of them, each once in a turn. Then comes the door, so a busy
+/// worker is told of it less often. It is told first, behind each quiet wait, and again and again while somebody waits
+/// there.
 #[derive(Drop)]
 pub struct TcpWatch<R> {
     system: R,
     door: Arc<Door>,
-    stage: Stage,
+    door_state: DoorState,
     poll: Poll,
     events: Events,
-    seats: Seats,
+    places: Places,
     limits: Limits,
     now: Instant,
     faults: u64,
@@ -103,10 +104,10 @@ impl<R: Net + Clock + Drop> TcpWatch<R> {
         Ok(TcpWatch {
             system,
             door,
-            stage: Stage::Stirred,
+            door_state: DoorState::Pending,
             poll,
             events,
-            seats: Seats::new(alloc),
+            places: Places::new(alloc),
             limits,
             now,
             faults: 0,
@@ -127,13 +128,14 @@ impl<R: Net + Clock + Drop> TcpWatch<R> {
     fn relief(&mut self) -> Option<u32>
         ensures faults { self.new.faults ≡ self.old.faults }
     {
-        if !self.door.is_short.swap(false, Ordering::SeqCst) {
+        let is_short = &self.door.is_short;
+        if !is_short.load(Ordering::SeqCst) || !is_short.swap(false, Ordering::SeqCst) {
             return None;
         }
         let now = self.time();
-        let oldest = self.seats.oldest(now);
-        if oldest.is_none() && self.stage == Stage::Told {
-            self.stage = Stage::Resting;
+        let oldest = self.places.oldest(now);
+        if oldest.is_none() && self.door_state == DoorState::Told {
+            self.door_state = DoorState::Pausing;
         }
         oldest
     }
@@ -142,18 +144,18 @@ impl<R: Net + Clock + Drop> TcpWatch<R> {
     fn known(&mut self) -> Option<Notice>
         ensures faults { self.new.faults ≡ self.old.faults }
     {
-        if let Some(place) = self.seats.take_ready() {
+        if let Some(place) = self.places.take_ready() {
             return Some(Notice::Ready { place });
         }
         if let Some(place) = self.relief() {
             return Some(Notice::Late { place });
         }
-        if self.stage == Stage::Stirred {
-            self.stage = Stage::Told;
+        if self.door_state == DoorState::Pending {
+            self.door_state = DoorState::Told;
             return Some(Notice::Door);
         }
         let now = self.time();
-        let place = self.seats.late(now, &self.limits)?;
+        let place = self.places.late(now, &self.limits)?;
         Some(Notice::Late { place })
     }
 
@@ -161,14 +163,14 @@ impl<R: Net + Clock + Drop> TcpWatch<R> {
     fn patience(&mut self) -> Duration
         ensures faults { self.new.faults ≡ self.old.faults }
     {
-        if self.seats.has_again() {
+        if self.places.has_again() {
             return Duration::ZERO;
         }
-        let most = match self.stage {
-            Stage::Resting => Duration::from_millis(REST_MILLIS),
+        let most = match self.door_state {
+            DoorState::Pausing => Duration::from_millis(PAUSE_MILLIS),
             _ => Duration::from_millis(WAIT_MILLIS),
         };
-        self.seats.until_late(self.now, &self.limits, most)
+        self.places.until_late(self.now, &self.limits, most)
     }
 
     // Has the system tell of the door again, unless nobody comes any more.
@@ -180,7 +182,7 @@ impl<R: Net + Clock + Drop> TcpWatch<R> {
         }
         let socket = self.door.listener.as_raw_fd();
         if register(&self.poll, socket, DOOR, Interest::READABLE).is_ok() {
-            self.stage = Stage::Watched;
+            self.door_state = DoorState::Watched;
         }
     }
 
@@ -190,11 +192,11 @@ impl<R: Net + Clock + Drop> TcpWatch<R> {
     {
         for event in &self.events {
             match event.token() {
-                DOOR => self.stage = Stage::Stirred,
-                Token(number) => self.seats.stir(number),
+                DOOR => self.door_state = DoorState::Pending,
+                Token(number) => self.places.mark_ready(number),
             }
         }
-        self.seats.begin_turn();
+        self.places.begin_turn();
     }
 
     // Waits until the system tells anything, or time is up.
@@ -202,11 +204,11 @@ impl<R: Net + Clock + Drop> TcpWatch<R> {
         ensures faults { self.new.faults ≡ self.old.faults }
     {
         let patience = self.patience();
-        if self.stage == Stage::Told {
+        if self.door_state == DoorState::Told {
             self.arm();
         }
         if self.poll.poll(&mut self.events, Some(patience)).is_err() {
-            sleep(&self.system, Duration::from_millis(REST_MILLIS));
+            sleep(&self.system, Duration::from_millis(PAUSE_MILLIS));
         }
         self.take_events();
     }
@@ -222,7 +224,7 @@ impl<R: Net + Clock + Drop> Watch for TcpWatch<R> {
     /// It fails where memory has run out, or the system can't watch so many.
     fn enter(&mut self, place: u32, wire: &Pair<SocketSource, SocketSink>) -> Result<(), Failed> {
         let now = self.time();
-        let Ok(number) = self.seats.enter(place, now) else {
+        let Ok(number) = self.places.enter(place, now) else {
             return Err(count_fault(&mut self.faults));
         };
         let socket = wire.source.descriptor();
@@ -230,25 +232,25 @@ impl<R: Net + Clock + Drop> Watch for TcpWatch<R> {
         match register(&self.poll, socket, Token(number), interests) {
             Ok(()) => Ok(()),
             Err(_) => {
-                self.seats.leave(place);
+                self.places.leave(place);
                 Err(count_fault(&mut self.faults))
             }
         }
     }
 
     fn awaits(&mut self, place: u32, what: Awaited, moved: bool) {
-        if moved || !self.seats.goes_on(place, what) {
+        if moved || !self.places.goes_on(place, what) {
             let now = self.time();
-            self.seats.await_from(place, what, now);
+            self.places.await_from(place, what, now);
         }
     }
 
     fn again(&mut self, place: u32) {
-        self.seats.go_again(place);
+        self.places.go_again(place);
     }
 
     fn leave(&mut self, place: u32) {
-        self.seats.leave(place);
+        self.places.leave(place);
     }
 
     fn next(&mut self) -> Notice {
@@ -259,7 +261,7 @@ impl<R: Net + Clock + Drop> Watch for TcpWatch<R> {
         if let Some(notice) = self.known() {
             return notice;
         }
-        self.stage = Stage::Stirred;
+        self.door_state = DoorState::Pending;
         Notice::Quiet
     }
 }
