@@ -181,7 +181,9 @@ impl<R: Net + Clock + Drop> TcpWatch<R> {
             return;
         }
         let socket = self.door.listener.as_raw_fd();
-        if register(&self.poll, socket, DOOR, Interest::READABLE).is_ok() {
+        let registry = self.poll.registry();
+        let told = registry.reregister(&mut SourceFd(&socket), DOOR, Interest::READABLE);
+        if told.is_ok() {
             self.door_state = DoorState::Watched;
         }
     }
