@@ -1,6 +1,6 @@
 //! Callers of a hall of this machine, none of whom holds up another.
 
-use crate::given::assert_same;
+use crate::given::{assert_same, sent};
 use crate::system::dial::{ANY, address_of, local};
 use std::alloc::Global;
 use std::io::{Read, Write};
@@ -76,7 +76,7 @@ impl<R: Net<Stream = TcpStream, Listener = TcpListener> + Clock + Copy + Drop + 
             Ok(Coming::Came(call)) => {
                 let place = u32::try_from(self.calls.len()).unwrap_or(u32::MAX);
                 let entered = self.watch.enter(place, &call.wire);
-                let is_kept = self.calls.push(call).is_ok();
+                let is_kept = self.calls.push(sent(call)).is_ok();
                 assert_same(&self.rt, &(entered, is_kept), &(Ok(()), true), "a place");
                 false
             }
@@ -372,11 +372,11 @@ fn nobody_comes_any_more(rt: HostRuntime) {
     assert_same(&rt, &came, &wanted, "the end of a hall");
 }
 
-// What two watches of one hall tell first, and once somebody has called; and what comes of trying to accept behind that.
+// What two watches of one hall tell first, and once somebody has called; and what comes of trying to accept then.
 #[test]
 fn two_watches_of_one_door(rt: HostRuntime) {
     let mut worker = Worker::new(rt, rt.alloc(), 1, patient());
-    let mut other = worker.hall.watch().expect(&rt, "a watch");
+    let mut other = sent(worker.hall.watch().expect(&rt, "a watch"));
     let first = [worker.watch.next(), other.next()];
     let _caller = worker.caller();
     let then = [worker.watch.next(), other.next()];
@@ -386,7 +386,7 @@ fn two_watches_of_one_door(rt: HostRuntime) {
     assert_same(&rt, &came, &wanted, "two watches");
 }
 
-// What is told of a connection that goes on by itself, and whether it is told once it has left, though its caller sends.
+// What is told of a connection that goes on by itself, and whether it is told once it has left, though a call comes.
 #[test]
 fn connection_that_goes_on_and_leaves(rt: HostRuntime) {
     let mut worker = Worker::new(rt, rt.alloc(), 1, patient());
@@ -407,7 +407,7 @@ fn connection_that_goes_on_and_leaves(rt: HostRuntime) {
 #[test]
 fn port_that_another_listens_at(rt: HostRuntime) {
     let (_other, port) = listener(&rt);
-    let mut hall = TcpHall::new(rt.alloc(), rt, port, 1);
+    let mut hall = sent(TcpHall::new(rt.alloc(), rt, port, 1));
     hall.open();
     let came = (hall.try_accept().is_err(), hall.watch().is_err());
     assert_same(&rt, &came, &(true, true), "no port");
