@@ -2,6 +2,7 @@
 
 mod dial;
 mod disk;
+mod hall;
 mod inbox;
 mod listen;
 mod streams;

@@ -12,3 +12,5 @@ pub mod Texts
 pub mod MemInbox
 pub mod Trails
 pub mod MemListen
+pub mod Hall
+pub mod MemHall

@@ -10,27 +10,27 @@ use std::marker::Model;
 
 /// What closes connections in memory. It tells each, and keeps each for which there is memory.
 #[derive(Drop)]
-pub struct MemCloser {
-    kept: Vec<MemCall>,
-    closed: Trail<MemCall>,
+pub struct MemCloser<T = MemCall> {
+    kept: Vec<T>,
+    closed: Trail<T>,
     lost: bool,
     count: u64,
 }
 
-impl Model for MemCloser {
+impl<T> Model for MemCloser<T> {
     ghost use Rattle.std.specs.Prelude.{◌≡◌, false};
     ghost use Rattle.yp_io.specs.inside.MemListen.{Closing};
 
-    ghost Value = { Closing };
+    ghost Value = { Closing T };
 
     ghost view = { λ c. record { closed = c.closed; lost = c.lost; count = c.count } };
 
     ghost invariant = { λ c. c.lost ≡ false → c.kept.items ≡ c.closed };
 }
 
-impl MemCloser {
+impl<T: Drop> MemCloser<T> {
     /// A closer that has closed no connection yet.
-    pub(crate) fn new(alloc: Global) -> MemCloser
+    pub(crate) fn new(alloc: Global) -> MemCloser<T>
         ensures { result ≡ record { closed = []; lost = false; count = 0 } }
     {
         MemCloser {
@@ -42,7 +42,7 @@ impl MemCloser {
     }
 
     /// Closes a connection.
-    pub(crate) fn close(&mut self, call: MemCall)
+    pub(crate) fn close(&mut self, call: T)
         ensures closed { self.new.closed ≡ self.old.closed ++ call ∷ [] }
         ensures count { self.new.count ≡ next_count self.old.count }
     {
@@ -61,7 +61,7 @@ impl MemCloser {
     }
 
     /// The connections that it has closed, but for those that there was no memory to keep.
-    pub fn calls(&self) -> &[MemCall]
+    pub fn calls(&self) -> &[T]
         ensures { self.now.lost ≡ false → result.now ≡ self.now.closed }
     {
         &self.kept

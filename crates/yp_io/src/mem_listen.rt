@@ -7,7 +7,7 @@ ghost use Rattle.yp_io.specs.inside.Counts.{faults_after};
 ghost use Rattle.yp_io.specs.Calls.{ConnectionComes, IsClosed, IfCame, OnClosed, accepting_of};
 ghost use Rattle.yp_io.specs.Calls.{none_closed, closed_then, taken_in};
 ghost use Rattle.yp_io.specs.inside.MemListen.{Closing, MemListenModel, ConnectionIsNew, connected_of, ended_of};
-ghost use Rattle.yp_io.specs.inside.MemListen.{closed_of};
+ghost use Rattle.yp_io.specs.inside.MemListen.{MemConnection, closed_of};
 ghost use Rattle.yp_io.specs.inside.MemListen.{calls_of};
 
 use crate::called::Called;
@@ -147,7 +147,7 @@ impl Listen for MemListen {
 
     ghost closed = { λ c. Some (closed_of c) };
 
-    ghost closed_count = { λ (c : Closing). c.count };
+    ghost closed_count = { λ (c : Closing MemConnection). c.count };
 
     fn accept(&mut self) -> Result<Arrival<MemSource, MemSink>, Failed>
         ensures came { IfOk result (IfCame (λ call. ConnectionComes (connected_of call)

@@ -1,31 +1,41 @@
 //! The real outside of the program: standard streams, files, the clock, connections over TCP, dialed and accepted,
-//! datagrams at a port, and texts in a folder.
+//! also many of them that are never waited for, datagrams at a port, and texts in a folder.
 //!
 //! Each is proved to keep the trait of `yp_io` that it stands for. Which bytes the system gives them no
 //! contract says, so they are done with care: a failed sync is never trusted again, a file has one writer, and each
-//! wire that is dialed or accepted has a limit of time.
+//! wire that is dialed or accepted has a limit of time. Nor does one say that a watch tells of every connection that
+//! may go on: that is tested.
 #![tactic(auto)]
 
 mod caller;
+mod chain;
 mod clock;
 mod dial;
 mod disk;
+mod hall;
 mod inbox;
 mod listen;
 mod locked;
 mod patient;
+mod places;
+mod socket;
 mod streams;
 mod texts;
+mod watch;
 mod words;
 
 pub use caller::CallerReader;
 pub use clock::SystemClock;
 pub use dial::{TcpDial, TcpWire};
 pub use disk::FileDisk;
+pub use hall::{PAYMENT_SECONDS, RECORD_SECONDS, REST_SECONDS, SocketCall, TcpHall};
 pub use inbox::{TURN_SECONDS, UdpInbox};
 pub use listen::{SILENCE_SECONDS, TcpCall, TcpCloser, TcpListen};
 pub use locked::{LockedFile, Locking, MapFile};
 pub use patient::Patient;
+pub use places::Limits;
+pub use socket::{SocketSink, SocketSource};
 pub use streams::{BlockReader, DirectWriter, StandardStream};
 pub use texts::TextFolder;
+pub use watch::TcpWatch;
 pub use words::{WORD_MAX, read_words};

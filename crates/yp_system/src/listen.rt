@@ -33,7 +33,7 @@ pub type TcpCall = Called<BlockReader<CallerReader>, DirectWriter<TcpStream>>;
 /// What closes such connections. It counts them, and tells nothing of them.
 #[derive(Drop)]
 pub struct TcpCloser {
-    closed: u64,
+    pub(crate) closed: u64,
 }
 
 // Its two halves.

@@ -1,14 +1,13 @@
 -- What it does to the guests of a worker that it goes on with one of them.
-use Rattle.std.proofs.Common.{◌≡◌, ◌≢◌, ℕ, ◌==◌, if◌then◌else◌, Bool, true, false, List, [], ◌∷◌, ◌++◌, map, Option, refl, sym, ap, subst, ◌∙◌}
+use Rattle.std.proofs.Common.{◌≡◌, ◌≢◌, ℕ, ◌==◌, if◌then◌else◌, Bool, true, false, List, [], ◌∷◌, ◌++◌, map, refl, sym, ap, subst, ◌∙◌}
 use Rattle.std.proofs.lemmas.Bool.{eq-eqb, ne_eqb}
 use Rattle.std.proofs.lemmas.List.{append-nil}
-use Rattle.yp_io.specs.Calls.{ListenerHistory}
 use Rattle.yp_io.specs.declared.stream.Peer.{Peer}
 use Rattle.yp_io.specs.declared.ready.TrySource as try_source
 use Rattle.yp_io.specs.declared.ready.TrySink as try_sink
 use Rattle.yp_answer.specs.session.Hosts.{Conduct}
 use Rattle.yp_answer.specs.inside.session.Cuts.{Deed, DoesDeeds, GoesOn, IsCut, Talk, cut_of}
-use Rattle.yp_worker.specs.inside.Guests.{WorkerStep, Learned, Did, deeds_of, steps_then, TakesSteps, GuestState, IsGuest, came_with, WorksOn}
+use Rattle.yp_worker.specs.inside.Guests.{WorkerStep, Learned, Did, deeds_of, steps_then, TakesSteps, GuestState, came_with, WorksOn}
 
 -- ---- the deeds of a number
 

@@ -11,8 +11,8 @@ MemConnection = Called Feed Drain
 
 -- a closer: the connections that it has closed, whether there was no memory to keep one, and how many it has closed, up
 -- to the last count
-pub record Closing : Type 0 where
-  pub closed : List MemConnection
+pub record Closing (C : Type 0) : Type 0 where
+  pub closed : List C
   pub lost : Bool
   pub count : ℕ
 
@@ -22,7 +22,7 @@ pub record Closing : Type 0 where
 pub record MemListenModel : Type 0 where
   pub waiting : List MemConnection
   pub came : List MemConnection
-  pub closers : List Closing
+  pub closers : List (Closing MemConnection)
   pub lost : Bool
   pub most : ℕ
   pub accepted : ℕ
@@ -49,7 +49,7 @@ abbrev pub ended_of : MemConnection → ClosedConnection
 ended_of call = ended_by mem_halves call
 
 -- the connections that a closer has closed
-abbrev pub closed_of : Closing → List ClosedConnection
+abbrev pub closed_of : Closing MemConnection → List ClosedConnection
 closed_of closer = map ended_of closer.closed
 
 -- its connections

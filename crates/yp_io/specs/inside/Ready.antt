@@ -1,5 +1,5 @@
 -- What a call does that can't wait: where nothing can go on now, nothing changes.
-use Rattle.std.specs.Prelude.{ℕ, Bool, List, Option, Some, None, Result, Ok, Err}
+use Rattle.std.specs.Prelude.{ℕ, List, Option, Some, None, Result, Ok, Err}
 use Rattle.std.specs.Io.KnownBytes.{Keeps, ReadConsumes, WriteAppends}
 
 -- some of the next bytes were read, none exactly at the end; or nothing was

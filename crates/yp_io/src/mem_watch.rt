@@ -1,0 +1,92 @@
+//! A watch in memory.
+
+ghost use Rattle.std.specs.Prelude.{◌≡◌};
+ghost use Rattle.yp_io.specs.Counts.{CountsFaults};
+
+use crate::hall::{Awaited, Notice, Watch};
+use crate::mem::{MemSink, MemSource};
+use crate::scheduled::Scheduled;
+use crate::{Failed, Pair, count_fault};
+use std::alloc::Global;
+
+/// A watch in memory. It gives the notices of a script first, and then the door and each place that was entered, in
+/// turn, for ever. It never waits, and no time passes.
+#[derive(Drop)]
+pub struct MemWatch {
+    script: Vec<Notice>,
+    told: usize,
+    places: Vec<u32>,
+    turn: usize,
+    faults: u64,
+}
+
+impl MemWatch {
+    /// A watch with this script.
+    pub fn new(alloc: Global, script: Vec<Notice>) -> MemWatch
+        ensures { ⟦<MemWatch as Watch>⟧.faults result ≡ 0 }
+    {
+        MemWatch {
+            script,
+            told: 0,
+            places: Vec::new(alloc),
+            turn: 0,
+            faults: 0,
+        }
+    }
+
+    // The next notice of the script, while it lasts.
+    fn scripted(&mut self) -> Option<Notice>
+        ensures faults { self.new.faults ≡ self.old.faults }
+    {
+        let notice = *self.script.get(self.told)?;
+        self.told = self.told.saturating_add(1);
+        Some(notice)
+    }
+}
+
+impl Watch for MemWatch {
+    type In = Scheduled<MemSource>;
+
+    type Out = Scheduled<MemSink>;
+
+    ghost faults = { λ w. w.faults };
+
+    /// It fails only where memory has run out.
+    fn enter(
+        &mut self,
+        place: u32,
+        _wire: &Pair<Scheduled<MemSource>, Scheduled<MemSink>>,
+    ) -> Result<(), Failed> {
+        if self.places.contains(&place) {
+            return Ok(());
+        }
+        match self.places.push(place) {
+            Ok(()) => Ok(()),
+            Err(_) => Err(count_fault(&mut self.faults)),
+        }
+    }
+
+    fn awaits(&mut self, _place: u32, _what: Awaited, _moved: bool) {}
+
+    fn again(&mut self, _place: u32) {}
+
+    fn leave(&mut self, place: u32) {
+        self.places.retain(|entered| *entered != place);
+    }
+
+    fn next(&mut self) -> Notice {
+        if let Some(notice) = self.scripted() {
+            return notice;
+        }
+        match self.places.get(self.turn) {
+            Some(place) => {
+                self.turn = self.turn.saturating_add(1);
+                Notice::Ready { place: *place }
+            }
+            None => {
+                self.turn = 0;
+                Notice::Door
+            }
+        }
+    }
+}

@@ -1,0 +1,269 @@
+//! What tells a worker which of its connections of the system can go on.
+
+ghost use Rattle.std.specs.Prelude.{◌≡◌, IfOk};
+
+use crate::places::{Limits, Places};
+use crate::socket::{SocketSink, SocketSource};
+use mio::net::TcpListener;
+use mio::unix::SourceFd;
+use mio::{Events, Interest, Poll, Token};
+use std::alloc::Global;
+use std::io;
+use std::io::ErrorKind;
+use std::net::Net;
+use std::os::fd::{AsRawFd, RawFd};
+use std::sync::Arc;
+use std::sync::atomic::{AtomicBool, Ordering};
+use std::thread::sleep;
+use std::time::{Clock, Duration, Instant};
+use yp_io::{Awaited, Failed, Notice, Pair, Watch, count_fault};
+
+/// A listening socket that the watches of all workers have in common.
+#[derive(Drop)]
+pub(crate) struct Door {
+    pub listener: TcpListener,
+    /// Whether an accept found no descriptor left.
+    pub is_short: AtomicBool,
+    /// Whether as many were accepted as were to be.
+    pub is_closed: AtomicBool,
+}
+
+// The number by which the system tells of the door.
+const DOOR: Token = Token(usize::MAX);
+
+// How much the system tells at once.
+const EVENTS: usize = 256;
+
+// How long a watch waits for a notice, in milliseconds.
+const WAIT_MILLIS: u64 = 1000;
+
+// How long a worker isn't told of the door where no descriptor is left and it has nobody to let go, in milliseconds. It
+// is also the pause behind a wait that fails.
+const PAUSE_MILLIS: u64 = 10;
+
+// What the door has come to.
+#[derive(Clone, Copy, PartialEq, Eq)]
+enum DoorState {
+    // The system tells where somebody comes.
+    Watched,
+    // The worker is to be told: first, where the system has told, and behind a quiet wait, so that each worker hears in
+    // the end that nobody comes any more, and nothing that the system has told is lost for long.
+    Pending,
+    // The worker was told. The system is to tell again, also of who has come before.
+    Told,
+    // As `Told`, but behind a pause.
+    Pausing,
+}
+
+/// What tells a worker which of its connections can go on, by epoll, and which are over their time. Connections are
+/// told ready in the order in which the system tells of them, each once in a turn. Then comes the door, so a busy
+/// worker is told of it less often. It is told first, behind each quiet wait, and again and again while somebody waits
+/// there.
+#[derive(Drop)]
+pub struct TcpWatch<R> {
+    system: R,
+    door: Arc<Door>,
+    door_state: DoorState,
+    poll: Poll,
+    events: Events,
+    places: Places,
+    limits: Limits,
+    now: Instant,
+    faults: u64,
+}
+
+// Has the system tell of a socket by this number, also of what it has come to before.
+fn register(poll: &Poll, socket: RawFd, token: Token, interests: Interest) -> io::Result<()> {
+    match poll
+        .registry()
+        .register(&mut SourceFd(&socket), token, interests)
+    {
+        Err(error) if error.kind() == ErrorKind::AlreadyExists => poll
+            .registry()
+            .reregister(&mut SourceFd(&socket), token, interests),
+        answer => answer,
+    }
+}
+
+impl<R: Net + Clock + Drop> TcpWatch<R> {
+    /// A watch of the door alone.
+    pub(crate) fn new(
+        alloc: Global,
+        system: R,
+        door: Arc<Door>,
+        limits: Limits,
+    ) -> io::Result<TcpWatch<R>>
+        ensures { IfOk result (λ watch. ⟦<TcpWatch<R> as Watch>⟧.faults watch ≡ 0) }
+    {
+        let poll = Poll::new(&system)?;
+        register(&poll, door.listener.as_raw_fd(), DOOR, Interest::READABLE)?;
+        let Ok(events) = Events::with_capacity(alloc, EVENTS) else {
+            return Err(ErrorKind::OutOfMemory.into());
+        };
+        let now = Instant::now(&system)?;
+        Ok(TcpWatch {
+            system,
+            door,
+            door_state: DoorState::Pending,
+            poll,
+            events,
+            places: Places::new(alloc),
+            limits,
+            now,
+            faults: 0,
+        })
+    }
+
+    // The time by the clock, or by its last reading.
+    fn time(&mut self) -> Instant
+        ensures faults { self.new.faults ≡ self.old.faults }
+    {
+        if let Ok(now) = Instant::now(&self.system) {
+            self.now = now;
+        }
+        self.now
+    }
+
+    // One that is to be let go, where descriptors are short.
+    fn relief(&mut self) -> Option<u32>
+        ensures faults { self.new.faults ≡ self.old.faults }
+    {
+        let is_short = &self.door.is_short;
+        if !is_short.load(Ordering::SeqCst) || !is_short.swap(false, Ordering::SeqCst) {
+            return None;
+        }
+        let now = self.time();
+        let oldest = self.places.oldest(now);
+        if oldest.is_none() && self.door_state == DoorState::Told {
+            self.door_state = DoorState::Pausing;
+        }
+        oldest
+    }
+
+    // What is known without a wait.
+    fn known(&mut self) -> Option<Notice>
+        ensures faults { self.new.faults ≡ self.old.faults }
+    {
+        if let Some(place) = self.places.take_ready() {
+            return Some(Notice::Ready { place });
+        }
+        if let Some(place) = self.relief() {
+            return Some(Notice::Late { place });
+        }
+        if self.door_state == DoorState::Pending {
+            self.door_state = DoorState::Told;
+            return Some(Notice::Door);
+        }
+        let now = self.time();
+        let place = self.places.late(now, &self.limits)?;
+        Some(Notice::Late { place })
+    }
+
+    // How long the next wait may be.
+    fn patience(&mut self) -> Duration
+        ensures faults { self.new.faults ≡ self.old.faults }
+    {
+        if self.places.has_again() {
+            return Duration::ZERO;
+        }
+        let most = match self.door_state {
+            DoorState::Pausing => Duration::from_millis(PAUSE_MILLIS),
+            _ => Duration::from_millis(WAIT_MILLIS),
+        };
+        self.places.until_late(self.now, &self.limits, most)
+    }
+
+    // Has the system tell of the door again, unless nobody comes any more.
+    fn arm(&mut self)
+        ensures faults { self.new.faults ≡ self.old.faults }
+    {
+        if self.door.is_closed.load(Ordering::SeqCst) {
+            return;
+        }
+        let socket = self.door.listener.as_raw_fd();
+        let registry = self.poll.registry();
+        let told = registry.reregister(&mut SourceFd(&socket), DOOR, Interest::READABLE);
+        if told.is_ok() {
+            self.door_state = DoorState::Watched;
+        }
+    }
+
+    // Takes in what the system tells.
+    fn take_events(&mut self)
+        ensures faults { self.new.faults ≡ self.old.faults }
+    {
+        for event in &self.events {
+            match event.token() {
+                DOOR => self.door_state = DoorState::Pending,
+                Token(number) => self.places.mark_ready(number),
+            }
+        }
+        self.places.begin_turn();
+    }
+
+    // Waits until the system tells anything, or time is up.
+    fn wait(&mut self)
+        ensures faults { self.new.faults ≡ self.old.faults }
+    {
+        let patience = self.patience();
+        if self.door_state == DoorState::Told {
+            self.arm();
+        }
+        if self.poll.poll(&mut self.events, Some(patience)).is_err() {
+            sleep(&self.system, Duration::from_millis(PAUSE_MILLIS));
+        }
+        self.take_events();
+    }
+}
+
+impl<R: Net + Clock + Drop> Watch for TcpWatch<R> {
+    type In = SocketSource;
+
+    type Out = SocketSink;
+
+    ghost faults = { λ w. w.faults };
+
+    /// It fails where memory has run out, or the system can't watch so many.
+    fn enter(&mut self, place: u32, wire: &Pair<SocketSource, SocketSink>) -> Result<(), Failed> {
+        let now = self.time();
+        let Ok(number) = self.places.enter(place, now) else {
+            return Err(count_fault(&mut self.faults));
+        };
+        let socket = wire.source.descriptor();
+        let interests = Interest::READABLE | Interest::WRITABLE;
+        match register(&self.poll, socket, Token(number), interests) {
+            Ok(()) => Ok(()),
+            Err(_) => {
+                self.places.leave(place);
+                Err(count_fault(&mut self.faults))
+            }
+        }
+    }
+
+    fn awaits(&mut self, place: u32, what: Awaited, moved: bool) {
+        if moved || !self.places.goes_on(place, what) {
+            let now = self.time();
+            self.places.await_from(place, what, now);
+        }
+    }
+
+    fn again(&mut self, place: u32) {
+        self.places.go_again(place);
+    }
+
+    fn leave(&mut self, place: u32) {
+        self.places.leave(place);
+    }
+
+    fn next(&mut self) -> Notice {
+        if let Some(notice) = self.known() {
+            return notice;
+        }
+        self.wait();
+        if let Some(notice) = self.known() {
+            return notice;
+        }
+        self.door_state = DoorState::Pending;
+        Notice::Quiet
+    }
+}
