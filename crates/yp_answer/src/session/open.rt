@@ -64,25 +64,25 @@ impl OpenReply {
 /// Puts the next piece of the reply that is open, if one is. Behind the last piece none is open any more, nor where
 /// memory has run out.
 pub(crate) fn put_piece<K: Sink>(
-    open: &mut Option<OpenReply>,
+    stream: &mut Option<OpenReply>,
     sink: &mut K,
     buf: &mut [u8],
 ) -> Result<(), Failed>
     requires room { record_max ≤ length buf.old }
-    requires begun { IfSome open.old IsBegun }
+    requires begun { IfSome stream.old IsBegun }
     ensures put { OnOk result ((out : List ℕ)
         × Appends (K.output sink.old) (K.output sink.new) out
-        × (rest_of open.old ≡ out ++ rest_of open.new)) }
+        × (rest_of stream.old ≡ out ++ rest_of stream.new)) }
     ensures prefix { OnErr result ((n : ℕ)
-        × Appends (K.output sink.old) (K.output sink.new) (take n (rest_of open.old))) }
-    ensures none { OnErr result (open.new ≡ None) }
-    ensures begun { IfSome open.new IsBegun }
+        × Appends (K.output sink.old) (K.output sink.new) (take n (rest_of stream.old))) }
+    ensures none { OnErr result (stream.new ≡ None) }
+    ensures begun { IfSome stream.new IsBegun }
 {
-    let Some(mut reply) = open.take() else {
+    let Some(mut reply) = stream.take() else {
         return Ok(());
     };
     if reply.put_next(sink, buf)? {
-        *open = Some(reply);
+        *stream = Some(reply);
     }
     Ok(())
 }

@@ -7,5 +7,5 @@ returns-clause-follows g c =
     let unpaid = rw (← c.self.view_is) at c.requires.unpaid in
     let put = rw c.hold.ensures at c.put_piece-put.ensures.put in
     let front = rw c.hold.ensures at c.put_piece-put.ensures.prefix in
-    rw (← c.self.view_is) (piece_follows g.S.TrySource g.K.TrySink _ c.put_piece-put.new.sink.sink c.put_piece-put.new.sink.owed c.put_piece-put.new.open
+    rw (← c.self.view_is) (piece_follows g.S.TrySource g.K.TrySink _ c.put_piece-put.new.sink.sink c.put_piece-put.new.sink.owed c.put_piece-put.new.stream
     c.put_piece-put.result c.is_err-self-inside.result sound unpaid put front c.put_piece-put.ensures.none c.is_err-self-inside.ensures.value)
