@@ -6,6 +6,7 @@ use Rattle.std.proofs.lemmas.List.{append-nil, length-take-le, length-drop, take
 use Rattle.yp_io.specs.inside.Ready.{TriesToRead, TriesToWrite}
 use Rattle.std.specs.Io.KnownBytes.{Keeps, append_known}
 use Rattle.std.proofs.KnownBytes.{append_known-moved}
+use Rattle.yp_rpc.specs.inside.Outgoing.{Pays}
 use Rattle.yp_rpc.specs.inside.Incoming.{Fills, count_of}
 
 none_behind : (old full : List ℕ) (len : ℕ) → take len full ≡ old → take (len + 0) full ≡ old
@@ -36,6 +37,17 @@ split_front n k xs =
     sym (take-append-drop k (drop n xs)) ∙ ap (λ (l : List ℕ). take k (drop n xs) ++ l) (drop-drop k n xs)
 
 -- a front of what is owed was taken
+pub paid : (E : Type 0) (before after : Option (List ℕ)) (written : List ℕ) (count taken : ℕ) (r : Option ℕ)
+    (piece : List ℕ) → piece ≡ drop count written → r ≡ Some taken → TriesToWrite {E = E} before after (Ok r) piece
+    → Pays before after (drop count written) (drop (count + taken) written)
+paid E before after written count taken r piece lent is wrote = record {
+  gave = take taken piece;
+  took = subst (λ (q : Option ℕ). TriesToWrite {E = E} before after (Ok q) piece) is wrote;
+  owed = split_front count taken written
+      ∙ ap (λ (l : List ℕ). take taken l ++ drop (count + taken) written) (sym lent);
+}
+
+-- the same, seen as a whole
 pub pays : (E : Type 0) (before after : Option (List ℕ)) (written : List ℕ) (paid taken : ℕ) (r : Option ℕ)
     (piece : List ℕ) → piece ≡ drop paid written → r ≡ Some taken → TriesToWrite {E = E} before after (Ok r) piece
     → Keeps (append_known before (drop paid written)) (append_known after (drop (paid + taken) written))

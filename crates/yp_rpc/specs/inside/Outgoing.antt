@@ -1,5 +1,5 @@
 -- What is owed to a sink that is never waited for.
-use Rattle.std.specs.Prelude.{◌≡◌, ◌<◌, ◌≤◌, ℕ, Bool, IsTrue, List, [], length, take, Option, Some, None}
+use Rattle.std.specs.Prelude.{◌≡◌, ◌<◌, ◌≤◌, ℕ, Bool, IsTrue, List, [], ◌++◌, length, take, Option, Some, None}
 use Rattle.std.specs.Io.KnownBytes.{Appends, Keeps}
 use Rattle.yp_rpc.specs.declared.record.outgoing.Payment.{Payment}
 use Rattle.yp_rpc.specs.declared.record.outgoing.Payment.TheVariants.{Whole, Part, NotNow}
@@ -10,6 +10,12 @@ pub record Owing (K : Type 0) : Type 0 where
   pub owed : List ℕ
   pub flushed : Bool
   pub faults : ℕ
+
+-- some of what was owed was taken
+pub record Pays (before after : Option (List ℕ)) (old new : List ℕ) : Type 0 where
+  pub gave : List ℕ
+  pub took : Appends before after gave
+  pub owed : old ≡ gave ++ new
 
 -- Where all is paid, nothing is owed, and the sink has passed it on; where a part is, less is owed; and else as much.
 abbrev pub IsPaid : {K : Type 0} → (K → Bool) → Owing K → Owing K → Payment → Type 0

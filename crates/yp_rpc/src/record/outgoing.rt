@@ -4,7 +4,7 @@ ghost use Rattle.std.specs.Prelude.{◌≡◌, ◌<◌, ◌≤◌, [], true, fal
 ghost use Rattle.std.specs.Io.KnownBytes.{Keeps, WriteAppends, append_known};
 ghost use Rattle.yp_io.specs.Counts.{CountsFaults};
 ghost use Rattle.yp_rpc.specs.declared.record.outgoing.Payment.TheVariants.{NotNow};
-ghost use Rattle.yp_rpc.specs.inside.Outgoing.{IsPaid, Passes};
+ghost use Rattle.yp_rpc.specs.inside.Outgoing.{IsPaid, Passes, Pays};
 
 use std::alloc::Global;
 use std::marker::Model;
@@ -112,12 +112,13 @@ impl<K> Outgoing<K> {
 impl<K: TrySink> Outgoing<K> {
     /// Has the sink take what it can of what is owed, in one write, or pass on what it took where nothing more is owed.
     pub fn pay(&mut self) -> Result<Payment, Failed>
+        ensures pays { Pays (K.output self.old.sink) (K.output self.new.sink) self.old.owed self.new.owed }
         ensures kept { Keeps (append_known (K.output self.old.sink) self.old.owed)
             (append_known (K.output self.new.sink) self.new.owed) }
         ensures paid { IfOk result (IsPaid K.flushed self.old self.new) }
         ensures not_now { IfOk result (λ paid. paid ≡ NotNow
             → Keeps (K.output self.old.sink) (K.output self.new.sink)) }
-        ensures faults { self.new.faults ≡ self.old.faults }
+        ensures same { self.new ≡ record self.old { sink = self.new.sink; owed = self.new.owed } }
         ensures cause { CountsFaults (K.faults self.old.sink) (K.faults self.new.sink) result }
     {
         if self.paid == self.written.len() {

@@ -104,8 +104,8 @@ rest_of None = []
 rest_of (Some stream) = sent (stream.waits ++ joined (held_parts stream.held))
 
 -- a conversation: its source and its sink, how far records were read, what came behind them, what is owed to the sink,
--- the reply that is open, the transfer that waits until its reply is out, whether all is paid and passed on, and whether
--- memory ran out in a reply
+-- the reply that is open, the transfer that waits until its reply is out, whether all is paid and passed on, and
+-- whether memory ran out in a reply
 pub record Talk (S K : Type 0) : Type 0 where
   pub source : S
   pub sink : K
