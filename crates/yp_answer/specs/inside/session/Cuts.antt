@@ -14,7 +14,7 @@ use Rattle.yp_answer.specs.declared.procedure.Path.TheVariants.{Stream}
 use Rattle.yp_answer.specs.declared.session.session.End.{End}
 use Rattle.yp_answer.specs.declared.session.session.End.TheVariants.{Clean, Torn, TooLong, ReadFault, WriteFault, Enough}
 use Rattle.yp_answer.specs.declared.session.conversation.Advance.{Advance}
-use Rattle.yp_answer.specs.declared.session.conversation.Advance.TheVariants.{Ended, NoMemory}
+use Rattle.yp_answer.specs.declared.session.conversation.Advance.TheVariants.{TakesLong, Ended, NoMemory}
 use Rattle.yp_answer.specs.session.Progress.{Progress}
 use Rattle.yp_answer.specs.session.Wires.{Wire}
 use Rattle.yp_answer.specs.session.Hosts.{Conduct, Turn, Link, CarriesOut}
@@ -224,4 +224,5 @@ EndsSo most Enough now = IsAtRest now × (now.progress.calls ≡ most)
 abbrev pub ComesTo : ℕ → Advance → Cut → Type 0
 ComesTo most (Ended end) now = EndsSo most end now
 ComesTo most NoMemory now = now.broken ≡ true
+ComesTo most TakesLong now = (now.settled ≡ true) × (now.waiting ≢ None)
 ComesTo most _ now = ⊤
