@@ -11,14 +11,14 @@ ghost use Rattle.yp_command.specs.inside.Words.{connections_of, port_of};
 use std::alloc::{AllocError, Global};
 use std::process::ExitCode;
 use yp_board::MapName;
-use yp_io::{Listen, NoMemory, Sink, Trail};
+use yp_io::{Hall, NoMemory, Sink, Trail};
 use yp_program::{
     Command, NamedDisk, Outside, ParseFault, Status, connections_of, named_disks, parse, port_of,
     run_command, stores_of, tell,
 };
 use yp_system::{
     BlockReader, DirectWriter, FileDisk, Locking, Patient, StandardStream, SystemClock, TcpDial,
-    TcpListen, TextFolder, UdpInbox, read_words,
+    TcpHall, TextFolder, UdpInbox, read_words,
 };
 
 /// When the file of a map is locked, which a command reads or writes. A session answers from what it loaded, and may
@@ -60,15 +60,15 @@ fn ports(
     alloc: Global,
     net: HostRuntime,
     command: &Command,
-) -> (TcpListen<HostRuntime>, UdpInbox<HostRuntime>)
-    ensures most { ⟦<TcpListen<HostRuntime> as Listen>⟧.most result.0 ≡ connections_of (meaning command.now) }
-    ensures accepted { ⟦<TcpListen<HostRuntime> as Listen>⟧.accepted result.0 ≡ 0 }
+) -> (TcpHall<HostRuntime>, UdpInbox<HostRuntime>)
+    ensures most { ⟦<TcpHall<HostRuntime> as Hall>⟧.most result.0 ≡ connections_of (meaning command.now) }
+    ensures accepted { ⟦<TcpHall<HostRuntime> as Hall>⟧.accepted result.0 ≡ 0 }
     ensures ports { (result.0.port ≡ unwrap_or (port_of (meaning command.now)) 0)
         × (result.1.port ≡ unwrap_or (port_of (meaning command.now)) 0) }
 {
     let wanted = port_of(command);
     let port = wanted.unwrap_or(0);
-    let mut listen = TcpListen::new(alloc, net, port, connections_of(command));
+    let mut listen = TcpHall::new(alloc, net, port, connections_of(command));
     let mut inbox = UdpInbox::new(net, port);
     if let Command::Serve(_) = command {
         listen.open();

@@ -3,3 +3,4 @@ pub mod Progress
 pub mod Hosts
 pub mod LogRuns
 pub mod Runs
+pub mod Cuts

@@ -14,7 +14,7 @@ use yp_xdr::laws::written_is_joined;
 use yp_xdr::{NoRoom, set_bool};
 
 /// Whom a reply is for: how the call came, its xid, and where the caller is.
-#[derive(Clone, Copy, Debug)]
+#[derive(Clone, Copy)]
 pub struct Caller {
     pub path: Path,
     pub xid: u32,

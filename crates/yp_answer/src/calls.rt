@@ -28,7 +28,7 @@ use yp_rpc::{Judged, ReplyHead, judge};
 use yp_xdr::XdrFault;
 
 /// The answer to a record.
-#[derive(Debug, Drop)]
+#[derive(Drop)]
 pub enum Answered<'a> {
     /// No reply goes out.
     Silent,

@@ -19,7 +19,7 @@ pub enum Path {
 }
 
 /// A procedure that is answered.
-#[derive(Clone, Copy, Debug, PartialEq, Eq)]
+#[derive(Clone, Copy)]
 pub enum Procedure {
     Null,
     Domain,

@@ -36,7 +36,7 @@ const ROW_HEAD: [u8; 8] = [0, 0, 0, 1, 0, 0, 0, 1];
 
 /// The reply of ALL, which goes out in pieces of whole items. It is the reply on the one version that was shown when
 /// the call was answered, as long as the view that it is taken from makes no read step.
-#[derive(Debug, Drop)]
+#[derive(Drop)]
 pub struct AllStream {
     xid: u32,
     source: Result<u32, YpStat>,

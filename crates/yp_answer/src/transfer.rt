@@ -21,7 +21,7 @@ use yp_xdr::XdrFault;
 
 /// A transfer that was taken: the number of its map from 0, the name of the host that has the map, and how to call
 /// back: the transaction, the program and its port.
-#[derive(Clone, Copy, Debug)]
+#[derive(Clone, Copy)]
 pub struct TransferJob<'a> {
     pub map: u32,
     pub source: &'a [u8],

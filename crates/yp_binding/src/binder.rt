@@ -48,7 +48,7 @@ pub enum Policy {
 }
 
 /// A ping that is to be sent now.
-#[derive(Clone, Copy, Debug, PartialEq, Eq)]
+#[derive(Clone, Copy)]
 pub struct Ping {
     pub xid: u32,
     pub server: Peer,

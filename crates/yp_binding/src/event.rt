@@ -6,14 +6,14 @@ use std::marker::Model;
 use yp_io::{Peer, Trail};
 
 /// A server for a domain, which goes by its number from 0.
-#[derive(Clone, Copy, Debug, PartialEq, Eq)]
+#[derive(Clone, Copy)]
 pub struct Binding {
     pub domain: u32,
     pub server: Peer,
 }
 
 /// What happens to a binder.
-#[derive(Clone, Copy, Debug, PartialEq, Eq)]
+#[derive(Clone, Copy)]
 pub enum Event {
     /// A datagram came, and may have set a binding.
     Called { set: Option<Binding> },

@@ -13,7 +13,7 @@ use yp_rpc::{Judged, Programs, ReplyHead, judge};
 use yp_xdr::Cursor;
 
 /// A procedure of the binder.
-#[derive(Clone, Copy, Debug)]
+#[derive(Clone, Copy)]
 enum Procedure {
     Null,
     Domain,
@@ -46,7 +46,7 @@ impl Programs for BindProgram {
 }
 
 /// What a datagram asks of the binder.
-#[derive(Clone, Copy, Debug)]
+#[derive(Clone, Copy)]
 pub(crate) enum Request<'a> {
     /// Nothing that is answered.
     Nothing,

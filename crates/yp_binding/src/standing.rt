@@ -9,7 +9,7 @@ use yp_io::Peer;
 const QUIET_MAX: u32 = 3;
 
 /// How a domain is bound.
-#[derive(Clone, Copy, Debug, PartialEq, Eq)]
+#[derive(Clone, Copy)]
 pub(crate) struct BindingState {
     /// The server of the last SETDOM that was let, or offer that was taken.
     pub(crate) latest: Option<Peer>,

@@ -1,9 +1,9 @@
 //! What is outside, in memory.
 
+mod accepts;
 mod dial;
 mod disk;
 mod hall;
 mod inbox;
-mod listen;
 mod streams;
 mod texts;

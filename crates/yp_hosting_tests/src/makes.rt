@@ -335,7 +335,8 @@ fn disk_stops_at_each_call(rt: HostRuntime) {
 
 // ---- a connection
 
-/// MAKE and MATCH over a connection that fails, and behind it MATCH over another one, of the same worker.
+/// MAKE and MATCH over a connection that fails, and behind it MATCH over another one, of the same worker. Both go in
+/// pieces of 40 bytes at most.
 const SERVED: Row = Row {
     name: "nothing fails",
     words: &["serve", "m1", "7001", "1", "2", "0", "lab/hosts.byname"],
@@ -344,22 +345,25 @@ const SERVED: Row = Row {
         &["8000004c 00000006", MATCH],
     ],
     most: 2,
+    piece: 40,
     hosts: "10.0.0.1 alpha\n",
     moment: 100,
     output: "connections 2 calls 3\n",
-    takes: &[
-        &["8000001c 00000004", MADE, "80000030 00000005", ADDRESS],
-        &["80000030 00000006", ADDRESS],
-    ],
+    takes: TOLD_OF_BOTH,
     stands: FIRST,
     left: FILE,
     ..FAIR
 };
 
-/// No call of the first connection is read. Each record takes a read for its head and one for its body, and the end of
-/// the input one.
+const TOLD_OF_BOTH: &[Words] = &[
+    &["8000001c 00000004", MADE, "80000030 00000005", ADDRESS],
+    &["80000030 00000006", ADDRESS],
+];
+
+/// No call of the first connection is read. Two reads bring all of MAKE, two more all of MATCH, and one the end of the
+/// input.
 const UNREAD: Row = Row {
-    name: "the head of MAKE isn't read",
+    name: "the front of MAKE isn't read",
     call_reads: 0,
     output: "connections 2 calls 1\n",
     takes: &[&[], &["80000020 00000006", NOMAP]],
@@ -375,14 +379,14 @@ const TOLD_OF_MAKE: &[Words] = &[
 ];
 
 const UNREAD_BEHIND: Row = Row {
-    name: "the head of MATCH isn't read",
+    name: "more of MATCH isn't read",
     call_reads: 2,
     output: "connections 2 calls 2\n",
     takes: TOLD_OF_MAKE,
     ..SERVED
 };
 
-/// Each reply takes a write and a flush, and MAKE is carried out before its reply.
+/// The reply to MAKE takes a write and a flush, and MAKE is carried out before it.
 const UNWRITTEN: Row = Row {
     name: "the reply to MAKE isn't written",
     call_writes: 0,
@@ -391,14 +395,32 @@ const UNWRITTEN: Row = Row {
     ..SERVED
 };
 
+/// The same calls, and the front of a record behind them, in pieces of 84 bytes at most: the reply to MATCH is held
+/// back until that front was looked at, and then takes a write and a flush.
+const FOLLOWED: Row = Row {
+    name: "the front of a third call comes",
+    calls: &[
+        &[
+            "80000034 00000004",
+            MAKE,
+            "8000004c 00000005",
+            MATCH,
+            "80000028",
+        ],
+        &["8000004c 00000006", MATCH],
+    ],
+    piece: 84,
+    ..SERVED
+};
+
 const UNWRITTEN_BEHIND: Row = Row {
     name: "the reply to MATCH isn't written",
     call_writes: 2,
     takes: TOLD_OF_MAKE,
-    ..SERVED
+    ..FOLLOWED
 };
 
-/// Writes of 48 bytes at most.
+/// Pieces of 48 bytes at most.
 const IN_PIECES: Row = Row {
     name: "the second piece of the reply to MATCH isn't written",
     piece: 48,
@@ -412,20 +434,29 @@ const IN_PIECES: Row = Row {
         ],
         &["80000030 00000006", ADDRESS],
     ],
+    ..FOLLOWED
+};
+
+/// All that the first connection sends comes at once, and so both replies go out together, in a write and a flush.
+const TOGETHER: Row = Row {
+    name: "both replies aren't written",
+    piece: 4_096,
+    call_writes: 0,
+    takes: &[&[], &["80000030 00000006", ADDRESS]],
     ..SERVED
 };
 
-static CONNECTIONS: [Row; 13] = [
+static CONNECTIONS: [Row; 17] = [
     SERVED,
     UNREAD,
     Row {
-        name: "the body of MAKE isn't read",
+        name: "the rest of MAKE isn't read",
         call_reads: 1,
         ..UNREAD
     },
     UNREAD_BEHIND,
     Row {
-        name: "the body of MATCH isn't read",
+        name: "the rest of MATCH isn't read",
         call_reads: 3,
         ..UNREAD_BEHIND
     },
@@ -446,18 +477,32 @@ static CONNECTIONS: [Row; 13] = [
         takes: TOLD_OF_MAKE,
         ..UNWRITTEN
     },
+    FOLLOWED,
     UNWRITTEN_BEHIND,
     Row {
         name: "the reply to MATCH isn't flushed",
         call_writes: 3,
-        ..SERVED
+        ..FOLLOWED
     },
     Row {
         name: "no fifth call of the output",
         call_writes: 4,
-        ..SERVED
+        ..FOLLOWED
     },
     IN_PIECES,
+    TOGETHER,
+    Row {
+        name: "both replies aren't flushed",
+        call_writes: 1,
+        takes: TOLD_OF_BOTH,
+        ..TOGETHER
+    },
+    Row {
+        name: "no third call of the output",
+        call_writes: 2,
+        takes: TOLD_OF_BOTH,
+        ..TOGETHER
+    },
 ];
 
 /// The same calls over what a crash may leave.

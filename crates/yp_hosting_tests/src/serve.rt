@@ -30,10 +30,10 @@ const TWO_CONNECTIONS: Row = Row {
     ..FAIR
 };
 
-/// One accept fails. Behind each that doesn't, a connection is served.
+/// One accept fails. Behind each that doesn't, a connection is served. The worker asks for its watch before the first.
 const UNACCEPTED: Row = Row {
     name: "the first accept fails",
-    accepts: 0,
+    accepts: 1,
     code: 21,
     output: "",
     note: "yp: listen fault\n",
@@ -48,23 +48,28 @@ fn two_connections(rt: HostRuntime) {
     try_rows_after(&rt, rt.alloc(), &TWO, &[]);
 }
 
-static LISTENS: [Row; 4] = [
+static LISTENS: [Row; 5] = [
+    Row {
+        name: "there is no watch",
+        accepts: 0,
+        ..UNACCEPTED
+    },
     UNACCEPTED,
     Row {
         name: "the second accept fails",
-        accepts: 1,
+        accepts: 2,
         takes: &[REPLY],
         ..UNACCEPTED
     },
     Row {
         name: "the accept fails that would tell that all were accepted",
-        accepts: 2,
+        accepts: 3,
         takes: &[REPLY, REPLY],
         ..UNACCEPTED
     },
     Row {
         name: "no fourth accept",
-        accepts: 3,
+        accepts: 4,
         ..TWO_CONNECTIONS
     },
 ];
@@ -206,7 +211,7 @@ static ENDS: [Row; 6] = [
     },
     Row {
         name: "an accept and a turn fail",
-        accepts: 0,
+        accepts: 1,
         code: 21,
         note: "yp: listen fault\n",
         takes: &[],

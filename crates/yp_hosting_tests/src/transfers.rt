@@ -220,7 +220,8 @@ fn each_disk_call_fails(rt: HostRuntime) {
 
 // ---- the connection
 
-/// XFR and MATCH over a connection that fails, and behind it MATCH over another one, of the same worker.
+/// XFR and MATCH over a connection that fails, and behind it MATCH over another one, of the same worker. All go in
+/// pieces of 52 bytes at most: two reads bring all of XFR, two more all of MATCH, and one the end of the input.
 const SERVED: Row = Row {
     words: &[
         "serve",
@@ -237,6 +238,7 @@ const SERVED: Row = Row {
         &["8000004c 00000006", MATCH],
     ],
     most: 2,
+    piece: 52,
     output: "connections 2 calls 3\n",
     takes: &[
         &["80000020 00000002", TAKEN, "80000030 00000003", ADDRESS],
@@ -263,7 +265,7 @@ const TOLD_OF_XFR: &[Words] = &[
 ];
 
 const UNREAD_BEHIND: Row = Row {
-    name: "the head of MATCH isn't read",
+    name: "more of MATCH isn't read",
     call_reads: 2,
     output: "connections 2 calls 2\n",
     takes: TOLD_OF_XFR,
@@ -277,21 +279,39 @@ const UNWRITTEN: Row = Row {
     ..UNASKED
 };
 
-static CONNECTIONS: [Row; 12] = [
+/// The same calls, and the front of a record behind them, in pieces of 100 bytes at most: the reply to MATCH is held
+/// back until that front was looked at, and then takes a write and a flush.
+const FOLLOWED: Row = Row {
+    name: "the front of a third call comes",
+    calls: &[
+        &[
+            "80000058 00000002",
+            XFR,
+            "8000004c 00000003",
+            MATCH,
+            "80000028",
+        ],
+        &["8000004c 00000006", MATCH],
+    ],
+    piece: 100,
+    ..SERVED
+};
+
+static CONNECTIONS: [Row; 13] = [
     SERVED,
     Row {
-        name: "the head of XFR isn't read",
+        name: "the front of XFR isn't read",
         call_reads: 0,
         ..UNASKED
     },
     Row {
-        name: "the body of XFR isn't read",
+        name: "the rest of XFR isn't read",
         call_reads: 1,
         ..UNASKED
     },
     UNREAD_BEHIND,
     Row {
-        name: "the body of MATCH isn't read",
+        name: "the rest of MATCH isn't read",
         call_reads: 3,
         ..UNREAD_BEHIND
     },
@@ -312,21 +332,22 @@ static CONNECTIONS: [Row; 12] = [
         takes: &[&["80000020 00000002", TAKEN], &["80000020 00000006", NOMAP]],
         ..UNWRITTEN
     },
+    FOLLOWED,
     Row {
         name: "the reply to MATCH isn't written",
         call_writes: 2,
         takes: TOLD_OF_XFR,
-        ..SERVED
+        ..FOLLOWED
     },
     Row {
         name: "the reply to MATCH isn't flushed",
         call_writes: 3,
-        ..SERVED
+        ..FOLLOWED
     },
     Row {
         name: "no fifth call of the output",
         call_writes: 4,
-        ..SERVED
+        ..FOLLOWED
     },
 ];
 

@@ -1,11 +1,7 @@
 -- Connections that are accepted and closed, and what is told of them.
 use Rattle.std.specs.Prelude.{◌≡◌, ℕ, ◌+◌, ◌<◌, Bool, List, [], ◌∷◌, ◌++◌, Option, None, Some, ⊤}
-use Rattle.yp_io.specs.declared.stream.Source as source
-use Rattle.yp_io.specs.declared.stream.Sink as sink
 use Rattle.yp_io.specs.Dials.{Connected, connected, WireState, wire_state, IsFresh}
 use Rattle.yp_io.specs.declared.called.Called.{Called}
-use Rattle.yp_io.specs.declared.listen.Arrival.{Arrival}
-use Rattle.yp_io.specs.declared.listen.Arrival.TheVariants.{Came, Closed}
 
 -- a connection that was closed: what it told as it came, what its wire tells, and how often its source and its sink
 -- have failed
@@ -46,15 +42,6 @@ pub record Halves (S K : Type 0) : Type 0 where
   pub output : K → Option (List ℕ)
   pub flushed : K → Bool
   pub writes : K → ℕ
-
-abbrev pub halves_of : {S K : Type 0} → source.Ghosts S → sink.Ghosts K → Halves S K
-halves_of source sink = record {
-  input = source.input;
-  reads = source.faults;
-  output = sink.output;
-  flushed = sink.flushed;
-  writes = sink.faults;
-}
 
 -- what a connection tells of how it came, and when it is closed
 abbrev pub came_by : {S K : Type 0} → Halves S K → Called S K → Connected
@@ -103,13 +90,3 @@ pub record ConnectionComes (wire : Connected) (old new : Accepting) : Type 0 whe
 pub record IsClosed (old new : Accepting) : Type 0 where
   pub all : old.accepted ≡ old.most
   pub same : new ≡ old
-
--- P holds of the connection that came, if one did
-abbrev pub IfCame : {S K : Type 0} → (Called S K → Type 0) → Arrival S K → Type 0
-IfCame P (Came call) = P call
-IfCame P Closed = ⊤
-
--- P holds where none came
-abbrev pub OnClosed : {S K : Type 0} → Type 0 → Arrival S K → Type 0
-OnClosed P (Came call) = ⊤
-OnClosed P Closed = P

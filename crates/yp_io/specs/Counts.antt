@@ -1,5 +1,5 @@
 -- Counts of faults, as each object of the outside has one.
-use Rattle.std.specs.Prelude.{ℕ, ◌+◌, ◌≤◌, min, Result, OnErr}
+use Rattle.std.specs.Prelude.{ℕ, ◌+◌, ◌≤◌, min, if◌then◌else◌, is_ok, Result, OnErr}
 
 -- the last value of a count, at which it stays
 abbrev pub last_count : ℕ
@@ -21,3 +21,7 @@ HasRisen before now = next_count before ≤ now
 pub record CountsFaults {T E : Type 0} (before now : ℕ) (result : Result T E) : Type 0 where
   pub never_falls : before ≤ now
   pub risen : OnErr result (HasRisen before now)
+
+-- the count of faults after a call: one more where the call failed
+abbrev pub faults_after : {T E : Type 0} → ℕ → Result T E → ℕ
+faults_after before result = if is_ok result then before else next_count before

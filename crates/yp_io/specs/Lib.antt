@@ -7,4 +7,6 @@ pub mod Streams
 pub mod Texts
 pub mod Callers
 pub mod Calls
+pub mod Ready
+pub mod Hall
 pub mod inside

@@ -1,4 +1,3 @@
-pub mod Counts
 pub mod DiskLaws
 pub mod Inboxes
 pub mod Mem
@@ -6,11 +5,8 @@ pub mod MemDial
 pub mod MemDisk
 pub mod MemDiskLaws
 pub mod MemSteps
-pub mod Ready
 pub mod Streams
 pub mod Texts
 pub mod MemInbox
 pub mod Trails
-pub mod MemListen
-pub mod Hall
 pub mod MemHall

@@ -1,12 +1,12 @@
 //! What accepts connections without waiting, and what tells which of them can go on.
 
 ghost use Rattle.std.specs.Prelude.{◌≡◌, ℕ, ◌<◌, ◌^◌, List, [], ◌∷◌, Option, IfOk, OnErr};
-ghost use Rattle.yp_io.specs.Counts.{CountsFaults, capped, next_count};
+ghost use Rattle.yp_io.specs.Counts.{CountsFaults, capped, next_count, faults_after};
 ghost use Rattle.yp_io.specs.Calls.{ListenerHistory, ClosedConnection, ConnectionComes, IsClosed, ended_by};
 ghost use Rattle.yp_io.specs.Calls.{came_by};
 ghost use Rattle.yp_io.specs.Calls.{none_closed, closed_then, taken_in};
 ghost use Rattle.yp_io.specs.Calls.{accepting_of, IsFreshCall};
-ghost use Rattle.yp_io.specs.inside.Hall.{try_halves_of, IfComes, OnNotNow, OnNoMore, NoneComes};
+ghost use Rattle.yp_io.specs.Hall.{try_halves_of, IfComes, OnNotNow, OnNoMore, NoneComes, let_go_behind};
 
 use crate::called::Called;
 use crate::ready::{TrySink, TrySource};
@@ -62,39 +62,39 @@ pub trait Watch {
 
     type Out;
 
-    /// How often it has failed, up to 2^64 - 1.
-    ghost faults: { Self → ℕ };
+    /// How many connections it has let go, up to 2^64 - 1: those that it couldn't watch, and those that it told late.
+    ghost let_go: { Self → ℕ };
 
     /// Watches a connection under this place from now on, of which a record is awaited. A place that is taken is taken
     /// over. After `Failed` the connection isn't watched.
     fn enter(&mut self, place: u32, wire: &Pair<Self::In, Self::Out>) -> Result<(), Failed>
-        ensures cause { CountsFaults (faults self.old) (faults self.new) result };
+        ensures let_go { let_go self.new ≡ faults_after (let_go self.old) result };
 
     /// What of it is awaited from now on. `moved` says whether a record was read whole since this was told last, or a
     /// byte of what is owed was taken: where not, and the same is awaited as before, its time goes on; else it begins
     /// anew.
     fn awaits(&mut self, place: u32, what: Awaited, moved: bool)
-        ensures faults { faults self.new ≡ faults self.old };
+        ensures let_go { let_go self.new ≡ let_go self.old };
 
     /// It may go on at once, though nothing changes: it is told ready again, behind those that are ready before that.
     fn again(&mut self, place: u32)
-        ensures faults { faults self.new ≡ faults self.old };
+        ensures let_go { let_go self.new ≡ let_go self.old };
 
     /// It is watched no more.
     fn leave(&mut self, place: u32)
-        ensures faults { faults self.new ≡ faults self.old };
+        ensures let_go { let_go self.new ≡ let_go self.old };
 
     /// The next notice, at once where one is there; else it waits at most a second, and answers `Quiet`.
     fn next(&mut self) -> Notice
-        ensures faults { faults self.new ≡ faults self.old };
+        ensures let_go { let_go self.new ≡ let_go_behind (let_go self.old) result };
 }
 
 /// What accepts connections without waiting, up to a number that is stated. They are closed by closers, of which each
 /// worker has one of its own, and watched by watches, of which each has one, too.
 pub trait Hall {
-    type In: TrySource;
+    type In: TrySource + Drop;
 
-    type Out: TrySink;
+    type Out: TrySink + Drop;
 
     /// What closes connections, one after another.
     type Closer: Drop;
@@ -117,6 +117,9 @@ pub trait Hall {
     /// How often it has failed, up to 2^64 - 1.
     ghost faults: { Self → ℕ };
 
+    /// How many connections were let go by watches that have ended, up to 2^64 - 1.
+    ghost let_go: { Self → ℕ };
+
     /// The connections that a closer has closed, in their order, where they are told.
     ghost closed: { Self.Closer → Option (List ClosedConnection) };
 
@@ -137,14 +140,16 @@ pub trait Hall {
         ensures none { OnErr result (accepting_of past most accepted self.new
             ≡ accepting_of past most accepted self.old) }
         ensures returned { returned self.new ≡ returned self.old }
+        ensures let_go { let_go self.new ≡ let_go self.old }
         ensures number { accepted self.new < 2 ^ 64 }
         ensures cause { CountsFaults (faults self.old) (faults self.new) result };
 
-    /// A watch that has met no fault and watches the door alone.
+    /// A watch that has let nobody go and watches the door alone.
     fn watch(&mut self) -> Result<Self::Watch, Failed>
-        ensures fresh { IfOk result (λ watch. Self.Watch.Watch.faults watch ≡ 0) }
+        ensures fresh { IfOk result (λ watch. Self.Watch.Watch.let_go watch ≡ 0) }
         ensures same { accepting_of past most accepted self.new ≡ accepting_of past most accepted self.old }
         ensures returned { returned self.new ≡ returned self.old }
+        ensures let_go { let_go self.new ≡ let_go self.old }
         ensures cause { CountsFaults (faults self.old) (faults self.new) result };
 
     /// A closer that has closed no connection yet. It tells its connections where this hall does.
@@ -164,5 +169,15 @@ pub trait Hall {
         ensures most { most self.new ≡ most self.old }
         ensures accepted { accepted self.new ≡ accepted self.old }
         ensures returned { returned self.new ≡ capped (returned self.old) (closed_count closer) }
-        ensures faults { faults self.new ≡ faults self.old };
+        ensures faults { faults self.new ≡ faults self.old }
+        ensures let_go { let_go self.new ≡ let_go self.old };
+
+    /// Ends a watch, and counts whom that let go.
+    fn end(&mut self, watch: Self::Watch)
+        ensures past { past self.new ≡ past self.old }
+        ensures most { most self.new ≡ most self.old }
+        ensures accepted { accepted self.new ≡ accepted self.old }
+        ensures returned { returned self.new ≡ returned self.old }
+        ensures faults { faults self.new ≡ faults self.old }
+        ensures let_go { let_go self.new ≡ capped (let_go self.old) (Self.Watch.Watch.let_go watch) };
 }

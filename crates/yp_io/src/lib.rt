@@ -2,15 +2,14 @@
 //!
 //! A source gives bytes and a sink takes them, and those that are never waited for say where nothing can go on now; a
 //! disk keeps bytes through a crash; texts and a clock are read; a dial opens wires and sends datagrams; an inbox
-//! receives datagrams at a port, and sends them from there; a listener hands out the connections that come, each with
-//! its caller, up to a number that is stated, and closers, by which they are closed; a hall does the same without
-//! waiting, and hands out watches, which tell a worker by hints alone which of its connections may go on. Each says
-//! what it holds, has taken or shows where that can be known: a disk what a crash may leave of it at each moment, a
-//! dial which wires came, an inbox what arrived and was sent in one order, and a listener and a hall which connections
-//! came, of which callers, and which their closers have closed, with what each told then. All but the clock count their
-//! faults, so that a failure always has a cause. These promises stand on the clauses of [`Source`], [`TrySource`],
-//! [`TrySink`], [`Sink`], [`Disk`], [`Texts`], [`Clock`], [`Dial`], [`Inbox`], [`Listen`] and [`Hall`], and on
-//! [`write_all`] and [`read_all`].
+//! receives datagrams at a port, and sends them from there; a hall hands out the connections that come, each with its
+//! caller, up to a number that is stated, closers, by which they are closed, and watches, which tell a worker by hints
+//! alone which of its connections may go on. Each says what it holds, has taken or shows where that can be known: a
+//! disk what a crash may leave of it at each moment, a dial which wires came, an inbox what arrived and was sent in one
+//! order, and a hall which connections came, of which callers, and which its closers have closed, with what each told
+//! then. All but the clock count their faults, so that a failure always has a cause. These promises stand on the
+//! clauses of [`Source`], [`TrySource`], [`TrySink`], [`Sink`], [`Disk`], [`Texts`], [`Clock`], [`Dial`], [`Inbox`] and
+//! [`Hall`], and on [`write_all`] and [`read_all`].
 #![tactic(auto)]
 
 mod called;
@@ -19,14 +18,12 @@ mod dial;
 mod disk;
 mod hall;
 mod inbox;
-mod listen;
 mod mem;
 mod mem_closer;
 mod mem_dial;
 mod mem_disk;
 mod mem_hall;
 mod mem_inbox;
-mod mem_listen;
 mod mem_texts;
 mod mem_watch;
 mod plan;
@@ -44,14 +41,12 @@ pub use dial::{Dial, Letter};
 pub use disk::Disk;
 pub use hall::{Awaited, Coming, Hall, Notice, Watch};
 pub use inbox::{Inbox, Mail};
-pub use listen::{Arrival, Listen};
 pub use mem::{MemSink, MemSource, MemWire};
 pub use mem_closer::MemCloser;
 pub use mem_dial::{MemDial, MemDialed};
 pub use mem_disk::MemDisk;
 pub use mem_hall::{HallCall, HallCloser, MemHall};
 pub use mem_inbox::MemInbox;
-pub use mem_listen::{MemCall, MemListen};
 pub use mem_texts::MemTexts;
 pub use mem_watch::MemWatch;
 pub use plan::Plan;

@@ -1,8 +1,7 @@
 ghost use Rattle.std.specs.Prelude.{◌≡◌, ◌<◌, ◌≤◌, ◌↔◌, true, false, not, ◌&&◌, ◌||◌, is_ok, IsTrue, [], min, length};
 ghost use Rattle.std.specs.Prelude.{drop, Some, Contains, IsErr, IfOk, OnOk, MatchResult};
 ghost use Rattle.std.specs.Io.KnownBytes.{Keeps, ReadConsumes, WriteAppends};
-ghost use Rattle.yp_io.specs.Counts.{CountsFaults, next_count};
-ghost use Rattle.yp_io.specs.inside.Counts.{faults_after};
+ghost use Rattle.yp_io.specs.Counts.{CountsFaults, next_count, faults_after};
 
 use crate::plan::Plan;
 use crate::stream::{Failed, Pair, Sink, Source, count_fault};

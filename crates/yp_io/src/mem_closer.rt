@@ -3,14 +3,13 @@
 ghost use Rattle.std.specs.Prelude.{◌≡◌, false, [], ◌∷◌, ◌++◌};
 ghost use Rattle.yp_io.specs.Counts.{next_count};
 
-use crate::mem_listen::MemCall;
 use crate::trail::Trail;
 use std::alloc::Global;
 use std::marker::Model;
 
 /// What closes connections in memory. It tells each, and keeps each for which there is memory.
 #[derive(Drop)]
-pub struct MemCloser<T = MemCall> {
+pub struct MemCloser<T> {
     kept: Vec<T>,
     closed: Trail<T>,
     lost: bool,
@@ -19,7 +18,7 @@ pub struct MemCloser<T = MemCall> {
 
 impl<T> Model for MemCloser<T> {
     ghost use Rattle.std.specs.Prelude.{◌≡◌, false};
-    ghost use Rattle.yp_io.specs.inside.MemListen.{Closing};
+    ghost use Rattle.yp_io.specs.inside.MemHall.{Closing};
 
     ghost Value = { Closing T };
 

@@ -2,8 +2,7 @@
 
 ghost use Rattle.std.specs.Prelude.{◌≡◌, ◌≢◌, ℕ, ◌+◌, ◌≤◌, ◌<◌, true, false, [], ◌∷◌, ◌++◌, length, map, min};
 ghost use Rattle.std.specs.Prelude.{Some, All, Contains, IsErr, IfOk, IfSome, IfNone, OnOk, OnErr};
-ghost use Rattle.yp_io.specs.Counts.{CountsFaults, next_count, last_count};
-ghost use Rattle.yp_io.specs.inside.Counts.{faults_after};
+ghost use Rattle.yp_io.specs.Counts.{CountsFaults, next_count, last_count, faults_after};
 ghost use Rattle.yp_io.specs.Dials.{connected, WireComes, GoesBack, GainsItem, IsFresh};
 ghost use Rattle.yp_io.specs.inside.MemDial.{WireIsNew, came_of, ended_of, wires_of, letter_of};
 

@@ -3,8 +3,7 @@
 ghost use Rattle.std.specs.Prelude.{◌≡◌, ◌<◌, ◌≤◌, ◌+◌, ◌^◌, ◌⊎◌, ◌↔◌, ℕ, [], ◌∷◌, ◌++◌, length, List, Option, Some};
 ghost use Rattle.std.specs.Prelude.{IsErr, IfOk, OnOk, OnErr, slice_range, is_ok, if◌then◌else◌};
 ghost use Rattle.std.specs.List.{fold};
-ghost use Rattle.yp_io.specs.Counts.{CountsFaults, next_count};
-ghost use Rattle.yp_io.specs.inside.Counts.{faults_after};
+ghost use Rattle.yp_io.specs.Counts.{CountsFaults, next_count, faults_after};
 ghost use Rattle.yp_io.specs.Disk.{IsImage, LeavesOnly, MayLeave, MayLeaveTorn, MayTear, IsDurable, written_at};
 ghost use Rattle.yp_io.specs.Disk.{after_sync, overwritten};
 ghost use Rattle.yp_io.specs.inside.MemDisk.{Wrote, Synced, FailsNow, FailsBy, history_of, placed, crashed};

@@ -2,14 +2,12 @@
 
 ghost use Rattle.std.specs.Prelude.{◌≡◌, ◌↔◌, ℕ, ◌+◌, ◌^◌, ◌<◌, false, [], ◌∷◌, ◌++◌, length, Some, All, Contains};
 ghost use Rattle.std.specs.Prelude.{IsErr, IfSome, IfNone, IfOk, OnErr};
-ghost use Rattle.yp_io.specs.Counts.{CountsFaults, capped, next_count};
-ghost use Rattle.yp_io.specs.inside.Counts.{faults_after};
+ghost use Rattle.yp_io.specs.Counts.{CountsFaults, capped, next_count, faults_after};
 ghost use Rattle.yp_io.specs.Calls.{ConnectionComes, IsClosed};
 ghost use Rattle.yp_io.specs.Calls.{none_closed, closed_then, taken_in};
-ghost use Rattle.yp_io.specs.inside.Hall.{IfComes, OnNotNow, OnNoMore, NoneComes};
+ghost use Rattle.yp_io.specs.Hall.{IfComes, OnNotNow, OnNoMore, NoneComes};
 ghost use Rattle.yp_io.specs.inside.MemHall.{HallConnection, MemHallModel, EntryIsNew, entered_of, left_of};
-ghost use Rattle.yp_io.specs.inside.MemListen.{Closing};
-ghost use Rattle.yp_io.specs.inside.MemHall.{all_left_of};
+ghost use Rattle.yp_io.specs.inside.MemHall.{Closing, all_left_of};
 ghost use Rattle.yp_io.specs.inside.MemHall.{accepting_in, entries_of};
 
 use crate::called::Called;
@@ -40,6 +38,7 @@ pub struct MemHall {
     most: u32,
     accepted: u32,
     returned: u64,
+    let_go: u64,
     plan: Plan,
     pausing: Vec<u64>,
     scripts: Vec<Vec<Notice>>,
@@ -59,6 +58,7 @@ impl Model for MemHall {
       most = l.most;
       accepted = l.accepted;
       returned = l.returned;
+      let_go = l.let_go;
       failing = l.plan.failing.items;
       pausing = l.pausing.items;
       calls = l.plan.calls;
@@ -92,6 +92,7 @@ impl MemHall {
           most = most;
           accepted = 0;
           returned = 0;
+          let_go = 0;
           failing = failing.items;
           pausing = pausing.items;
           calls = 0;
@@ -108,6 +109,7 @@ impl MemHall {
             most,
             accepted: 0,
             returned: 0,
+            let_go: 0,
             plan: Plan::new(failing),
             pausing,
             scripts,
@@ -119,6 +121,13 @@ impl MemHall {
         ensures { self.now.lost ≡ false → result.now ≡ self.now.closers }
     {
         &self.kept
+    }
+
+    /// How many connections were let go.
+    pub fn let_go(&self) -> u64
+        ensures { result ≡ self.now.let_go }
+    {
+        self.let_go
     }
 
     /// How many connections were accepted.
@@ -169,6 +178,8 @@ impl Hall for MemHall {
 
     ghost faults = { λ l. l.faults };
 
+    ghost let_go = { λ l. l.let_go };
+
     ghost closed = { λ c. Some (all_left_of c) };
 
     ghost closed_count = { λ (c : Closing HallConnection). c.count };
@@ -181,6 +192,7 @@ impl Hall for MemHall {
         ensures closed { IfOk result (OnNoMore (IsClosed (accepting_in self.old) (accepting_in self.new))) }
         ensures none { OnErr result (accepting_in self.new ≡ accepting_in self.old) }
         ensures returned { self.new.returned ≡ self.old.returned }
+        ensures let_go { self.new.let_go ≡ self.old.let_go }
         ensures number { self.new.accepted < 2 ^ 64 }
         ensures cause { CountsFaults self.old.faults self.new.faults result }
         ensures fails { Contains self.old.failing self.old.calls → IsErr result }
@@ -210,9 +222,10 @@ impl Hall for MemHall {
     }
 
     fn watch(&mut self) -> Result<MemWatch, Failed>
-        ensures fresh { IfOk result (λ watch. ⟦<MemWatch as Watch>⟧.faults watch ≡ 0) }
+        ensures fresh { IfOk result (λ watch. ⟦<MemWatch as Watch>⟧.let_go watch ≡ 0) }
         ensures same { accepting_in self.new ≡ accepting_in self.old }
         ensures returned { self.new.returned ≡ self.old.returned }
+        ensures let_go { self.new.let_go ≡ self.old.let_go }
         ensures cause { CountsFaults self.old.faults self.new.faults result }
         ensures fails { IsErr result ↔ Contains self.old.failing self.old.calls }
         ensures others { self.new ≡ record self.old {
@@ -249,11 +262,20 @@ impl Hall for MemHall {
         ensures accepted { self.new.accepted ≡ self.old.accepted }
         ensures returned { self.new.returned ≡ capped self.old.returned closer.count }
         ensures faults { self.new.faults ≡ self.old.faults }
+        ensures let_go { self.new.let_go ≡ self.old.let_go }
     {
         self.returned = self.returned.saturating_add(closer.count());
         self.closers.push(&closer);
         if self.kept.push(closer).is_err() {
             self.lost = true;
         }
+    }
+
+    fn end(&mut self, watch: MemWatch)
+        ensures others { self.new ≡ record self.old {
+          let_go = capped self.old.let_go (⟦<MemWatch as Watch>⟧.let_go watch);
+        } }
+    {
+        self.let_go = self.let_go.saturating_add(watch.let_go());
     }
 }

@@ -2,8 +2,7 @@
 
 ghost use Rattle.std.specs.Prelude.{◌≡◌, ◌↔◌, [], ◌∷◌, ◌++◌, map, drop, Some, Contains, IsErr, IfSome, IfNone, IfOk};
 ghost use Rattle.std.specs.Prelude.{OnOk, OnErr};
-ghost use Rattle.yp_io.specs.Counts.{CountsFaults, next_count};
-ghost use Rattle.yp_io.specs.inside.Counts.{faults_after};
+ghost use Rattle.yp_io.specs.Counts.{CountsFaults, next_count, faults_after};
 ghost use Rattle.yp_io.specs.Dials.{GainsItem};
 ghost use Rattle.yp_io.specs.Inboxes.{Arrived, Silent, Sent, GainsTurn, IsTurn, HoldsFront, MailIsWithin};
 ghost use Rattle.yp_io.specs.Inboxes.{turns_after, quiets_after};

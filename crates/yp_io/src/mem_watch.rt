@@ -1,7 +1,6 @@
 //! A watch in memory.
 
 ghost use Rattle.std.specs.Prelude.{◌≡◌};
-ghost use Rattle.yp_io.specs.Counts.{CountsFaults};
 
 use crate::hall::{Awaited, Notice, Watch};
 use crate::mem::{MemSink, MemSource};
@@ -17,26 +16,33 @@ pub struct MemWatch {
     told: usize,
     places: Vec<u32>,
     turn: usize,
-    faults: u64,
+    let_go: u64,
 }
 
 impl MemWatch {
     /// A watch with this script.
     pub fn new(alloc: Global, script: Vec<Notice>) -> MemWatch
-        ensures { ⟦<MemWatch as Watch>⟧.faults result ≡ 0 }
+        ensures { ⟦<MemWatch as Watch>⟧.let_go result ≡ 0 }
     {
         MemWatch {
             script,
             told: 0,
             places: Vec::new(alloc),
             turn: 0,
-            faults: 0,
+            let_go: 0,
         }
+    }
+
+    /// How many connections it has let go.
+    pub(crate) fn let_go(&self) -> u64
+        ensures { result ≡ self.now.let_go }
+    {
+        self.let_go
     }
 
     // The next notice of the script, while it lasts.
     fn scripted(&mut self) -> Option<Notice>
-        ensures faults { self.new.faults ≡ self.old.faults }
+        ensures let_go { self.new.let_go ≡ self.old.let_go }
     {
         let notice = *self.script.get(self.told)?;
         self.told = self.told.saturating_add(1);
@@ -49,7 +55,7 @@ impl Watch for MemWatch {
 
     type Out = Scheduled<MemSink>;
 
-    ghost faults = { λ w. w.faults };
+    ghost let_go = { λ w. w.let_go };
 
     /// It fails only where memory has run out.
     fn enter(
@@ -62,7 +68,7 @@ impl Watch for MemWatch {
         }
         match self.places.push(place) {
             Ok(()) => Ok(()),
-            Err(_) => Err(count_fault(&mut self.faults)),
+            Err(_) => Err(count_fault(&mut self.let_go)),
         }
     }
 
@@ -76,6 +82,9 @@ impl Watch for MemWatch {
 
     fn next(&mut self) -> Notice {
         if let Some(notice) = self.scripted() {
+            if let Notice::Late { .. } = notice {
+                self.let_go = self.let_go.saturating_add(1);
+            }
             return notice;
         }
         match self.places.get(self.turn) {

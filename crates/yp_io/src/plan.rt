@@ -1,8 +1,7 @@
 //! Which calls of a form in memory fail.
 
 ghost use Rattle.std.specs.Prelude.{◌≡◌, ◌≤◌, ◌↔◌, Contains, IsErr};
-ghost use Rattle.yp_io.specs.Counts.{next_count};
-ghost use Rattle.yp_io.specs.inside.Counts.{faults_after};
+ghost use Rattle.yp_io.specs.Counts.{next_count, faults_after};
 
 use crate::stream::{Failed, count_fault};
 

@@ -3,7 +3,7 @@
 ghost use Rattle.std.specs.Prelude.{◌≡◌, ℕ, ◌<◌, ◌≤◌, Bool, false, IsTrue, List, length, Option, IfOk, IfSome};
 ghost use Rattle.std.specs.Io.KnownBytes.{Keeps};
 ghost use Rattle.yp_io.specs.Counts.{CountsFaults};
-ghost use Rattle.yp_io.specs.inside.Ready.{TriesToRead, TriesToWrite};
+ghost use Rattle.yp_io.specs.Ready.{TriesToRead, TriesToWrite};
 
 use crate::stream::Failed;
 

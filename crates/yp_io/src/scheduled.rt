@@ -3,7 +3,7 @@
 ghost use Rattle.std.specs.Prelude.{◌≡◌, ◌<◌, ◌≤◌, ◌↔◌, false, Contains, IsTrue, IfOk, IfSome, None, Ok, length};
 ghost use Rattle.std.specs.Io.KnownBytes.{Keeps};
 ghost use Rattle.yp_io.specs.Counts.{CountsFaults, next_count};
-ghost use Rattle.yp_io.specs.inside.Ready.{TriesToRead, TriesToWrite};
+ghost use Rattle.yp_io.specs.Ready.{TriesToRead, TriesToWrite};
 
 use crate::ready::{TrySink, TrySource};
 use crate::stream::{Failed, Sink, Source};

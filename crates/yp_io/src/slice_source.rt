@@ -5,7 +5,7 @@ ghost use Rattle.yp_io.specs.Counts.{CountsFaults};
 use crate::stream::{Failed, Source};
 
 /// A source over bytes that are borrowed. It never fails.
-#[derive(Clone, Copy, Debug)]
+#[derive(Clone, Copy)]
 pub struct SliceSource<'a> {
     /// What is left of its input.
     pub left: &'a [u8],

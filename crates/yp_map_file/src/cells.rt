@@ -96,7 +96,7 @@ fn number(bytes: &[u8], at: usize) -> u64
 }
 
 /// Which cell wins.
-#[derive(Clone, Copy, Debug)]
+#[derive(Clone, Copy)]
 pub(crate) enum Winner {
     /// Neither is open.
     Nobody,
@@ -135,7 +135,7 @@ impl Winner {
 }
 
 /// What a cell says of the body behind it.
-#[derive(Clone, Copy, Debug, PartialEq, Eq)]
+#[derive(Clone, Copy)]
 pub struct Entry {
     /// Which of the bodies that were stored it is, from 1 on.
     pub generation: u64,

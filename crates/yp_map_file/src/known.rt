@@ -8,7 +8,7 @@ ghost use Rattle.yp_map_file.specs.inside.Commits.{next_entry};
 use crate::cells::{CELLS_LEN, Cell, Entry};
 
 /// How far a slot has come.
-#[derive(Clone, Copy, Debug, PartialEq, Eq)]
+#[derive(Clone, Copy)]
 pub enum Stage {
     /// The file isn't known. It has to be loaded.
     Unready,
@@ -23,7 +23,7 @@ pub enum Stage {
 }
 
 /// What is known of a file that isn't damaged.
-#[derive(Clone, Copy, Debug)]
+#[derive(Clone, Copy)]
 pub struct Known {
     /// Whether it is as long as both cells.
     pub long: bool,

@@ -23,7 +23,7 @@ pub(crate) const PLAIN: u32 = 1;
 pub(crate) const SECURE: u32 = 2;
 
 /// What stands before the rows.
-#[derive(Clone, Copy, Debug)]
+#[derive(Clone, Copy)]
 pub(crate) struct FileFront<'a> {
     pub secure: bool,
     pub order: u32,
@@ -113,7 +113,7 @@ fn read_rows(alloc: Global, cursor: &mut Cursor<'_>, count: u32) -> Result<Vec<u
 }
 
 /// What a body holds: all but its rows, and the place of each of these.
-#[derive(Debug, Drop)]
+#[derive(Drop)]
 pub(crate) struct BodyParts {
     pub secure: bool,
     pub order: u32,

@@ -27,7 +27,7 @@ impl From<XdrFault> for Wrong {
 }
 
 /// Why there is no version of a body.
-#[derive(Clone, Copy, Debug, PartialEq, Eq)]
+#[derive(Clone, Copy)]
 pub(crate) enum BodyFault {
     /// It is wrong.
     Wrong(Wrong),

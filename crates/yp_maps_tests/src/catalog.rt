@@ -7,7 +7,7 @@ use std::process::Abort;
 use yp_board::*;
 
 // Maps that a catalogue of `MAPS` doesn't have.
-const ABSENT: &[Pair<'static>] = &[
+static ABSENT: [Pair; 5] = [
     (b"e", b"b"),
     (b"", b"a"),
     (b"e", b""),
@@ -16,7 +16,7 @@ const ABSENT: &[Pair<'static>] = &[
 ];
 
 // Domains, and whether it serves them.
-const DOMAINS: &[(&[u8], bool)] = &[
+static DOMAINS: [(&[u8], bool); 6] = [
     (b"d", true),
     (b"e", true),
     (b"", false),
@@ -27,13 +27,13 @@ const DOMAINS: &[(&[u8], bool)] = &[
 
 #[test]
 fn looks_up_maps(rt: HostRuntime) {
-    let catalog = catalog_of(&rt, rt.alloc(), MAPS);
+    let catalog = catalog_of(&rt, rt.alloc(), &MAPS);
     assert_looks_up(&rt, &catalog);
-    for (domain, map) in ABSENT {
+    for (domain, map) in &ABSENT {
         let came = (*domain, *map, catalog.find(*domain, *map));
         assert_same(&rt, &came, &(*domain, *map, None), "a map that is absent");
     }
-    for (domain, served) in DOMAINS {
+    for (domain, served) in &DOMAINS {
         let came = (*domain, catalog.serves(*domain));
         assert_same(&rt, &came, &(*domain, *served), "a domain");
     }
@@ -42,7 +42,7 @@ fn looks_up_maps(rt: HostRuntime) {
 #[test]
 fn copies_a_catalogue(rt: HostRuntime) {
     let alloc = rt.alloc();
-    let catalog = catalog_of(&rt, alloc, MAPS);
+    let catalog = catalog_of(&rt, alloc, &MAPS);
     let copy = catalog.copy(alloc).expect(&rt, "a copy");
     assert_looks_up(&rt, &copy);
 }
@@ -79,7 +79,7 @@ const LONG: &[u8] = &[b'n'; 65];
 const FULL: &[u8] = &[b'n'; 64];
 
 // An own name, maps, and how many there are or the fault that they have.
-const FAULTS: &[(&str, &[u8], &[Pair<'static>], Result<u32, CatalogFault>)] = &[
+static FAULTS: [(&str, &[u8], &[Pair], Result<u32, CatalogFault>); 9] = [
     (
         "no own name, before a bad one",
         b"",
@@ -134,7 +134,7 @@ const FAULTS: &[(&str, &[u8], &[Pair<'static>], Result<u32, CatalogFault>)] = &[
 #[test]
 fn refuses_maps(rt: HostRuntime) {
     let alloc = rt.alloc();
-    for (row, own, pairs, wanted) in FAULTS {
+    for (row, own, pairs, wanted) in &FAULTS {
         let maps = names(&rt, alloc, *pairs);
         let made = count_or_fault(&rt, alloc, *own, maps);
         assert_same(&rt, &made, wanted, *row);

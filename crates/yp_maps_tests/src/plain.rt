@@ -35,7 +35,7 @@ fn board<R: RandomSource + Abort>(rt: &R, alloc: Global) -> PlainBoard {
         None,
     ];
     let start = start.expect(rt, "versions");
-    let catalog = catalog_of(rt, alloc, MAPS);
+    let catalog = catalog_of(rt, alloc, &MAPS);
     assert_fits(rt, start.len(), &catalog);
     PlainBoard::new(alloc, catalog, start).expect(rt, "a board")
 }

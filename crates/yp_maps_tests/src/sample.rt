@@ -26,7 +26,7 @@ pub fn names(rt: &impl Abort, alloc: Global, pairs: &[Pair<'_>]) -> Vec<MapName>
 }
 
 // Maps out of order. The byte 128 comes behind all letters.
-pub const MAPS: &[Pair<'static>] = &[
+pub static MAPS: [Pair; 5] = [
     (b"e", b"a"),
     (b"d", b"b\x80"),
     (b"d", b"z"),

@@ -35,10 +35,6 @@ fn stored(order: u32, generation: u64) -> Found {
     Ok(Some((order, false, generation)))
 }
 
-fn damaged(at: u64, rule: u8) -> Found {
-    Err(SlotFault::Damaged { at, rule })
-}
-
 fn load<R: RandomSource>(rt: &R, alloc: Global, slot: &mut Slot<MemDisk>) -> Found {
     match slot.load(alloc, rt) {
         Ok(None) => Ok(None),
@@ -86,25 +82,29 @@ fn check_front<R: RandomSource + Abort>(
     assert_same(rt, &came, &(len, failing, found), "bytes and a call");
 }
 
+static FILES: [(&[(usize, u8)], Found); 12] = [
+    (&[], Ok(Some((100, false, 1)))),
+    // The first cell is closed.
+    (&[(0, 0)], NOTHING),
+    (&[(0, 2)], NOTHING),
+    // A closed cell isn't looked into.
+    (&[(33, 9), (47, 9)], Ok(Some((100, false, 1)))),
+    (
+        &[(32, 1), (47, 1)],
+        Err(SlotFault::Damaged { at: 32, rule: 2 }),
+    ),
+    (&[(7, 9)], Err(SlotFault::Damaged { at: 7, rule: 3 })),
+    (&[(23, 63)], Err(SlotFault::Damaged { at: 16, rule: 4 })),
+    (&[(79, 1)], Err(SlotFault::Damaged { at: 79, rule: 5 })),
+    (&[(83, 2)], Err(SlotFault::Damaged { at: 116, rule: 5 })),
+    (&[(67, 2)], SECURE),
+    (&[(67, 3)], Err(SlotFault::Damaged { at: 64, rule: 6 })),
+    (&[(83, 0)], Err(SlotFault::Damaged { at: 84, rule: 9 })),
+];
+
 #[test]
 fn check_files(rt: HostRuntime) {
-    let cases: [(&[(usize, u8)], Found); 12] = [
-        (&[], stored(100, 1)),
-        // The first cell is closed.
-        (&[(0, 0)], NOTHING),
-        (&[(0, 2)], NOTHING),
-        // A closed cell isn't looked into.
-        (&[(33, 9), (47, 9)], stored(100, 1)),
-        (&[(32, 1), (47, 1)], damaged(32, 2)),
-        (&[(7, 9)], damaged(7, 3)),
-        (&[(23, 63)], damaged(16, 4)),
-        (&[(79, 1)], damaged(79, 5)),
-        (&[(83, 2)], damaged(116, 5)),
-        (&[(67, 2)], SECURE),
-        (&[(67, 3)], damaged(64, 6)),
-        (&[(83, 0)], damaged(84, 9)),
-    ];
-    for (changes, found) in &cases {
+    for (changes, found) in &FILES {
         check_file(&rt, rt.alloc(), HOSTS_FILE, *changes, *found);
     }
 }
@@ -115,17 +115,21 @@ const FALLING_FILE: &str = "01000000 00000000 00000000 00000001 00000000 0000004
     00000001 00000064 00000002 6d310000 00000002
     00000001 62000000 00000000 00000001 61000000 00000000";
 
+static KEYS_AND_COUNTS: [(&[(usize, u8)], Found); 5] = [
+    (&[], Err(SlotFault::Damaged { at: 96, rule: 8 })),
+    (&[(100, b'b')], Err(SlotFault::Damaged { at: 96, rule: 8 })),
+    (&[(100, b'c')], Ok(Some((100, false, 1)))),
+    // A key that isn't whole is refused before it is compared.
+    (&[(101, 1)], Err(SlotFault::Damaged { at: 101, rule: 5 })),
+    (
+        &[(81, 4), (83, 1)],
+        Err(SlotFault::Damaged { at: 80, rule: 7 }),
+    ),
+];
+
 #[test]
 fn check_keys_and_counts(rt: HostRuntime) {
-    let cases: [(&[(usize, u8)], Found); 5] = [
-        (&[], damaged(96, 8)),
-        (&[(100, b'b')], damaged(96, 8)),
-        (&[(100, b'c')], stored(100, 1)),
-        // A key that isn't whole is refused before it is compared.
-        (&[(101, 1)], damaged(101, 5)),
-        (&[(81, 4), (83, 1)], damaged(80, 7)),
-    ];
-    for (changes, found) in &cases {
+    for (changes, found) in &KEYS_AND_COUNTS {
         check_file(&rt, rt.alloc(), FALLING_FILE, *changes, *found);
     }
 }
@@ -133,35 +137,37 @@ fn check_keys_and_counts(rt: HostRuntime) {
 // The number of a call that isn't made.
 const NO_CALL: u64 = 1000;
 
+static SHORT_FILES: [(usize, Found); 6] = [
+    (0, NOTHING),
+    (1, NOTHING),
+    (63, NOTHING),
+    (64, Err(SlotFault::Damaged { at: 16, rule: 4 })),
+    (115, Err(SlotFault::Damaged { at: 16, rule: 4 })),
+    (116, Ok(Some((100, false, 1)))),
+];
+
 #[test]
 fn check_short_files(rt: HostRuntime) {
-    let cases = [
-        (0, NOTHING),
-        (1, NOTHING),
-        (63, NOTHING),
-        (64, damaged(16, 4)),
-        (115, damaged(16, 4)),
-        (116, stored(100, 1)),
-    ];
-    for (len, found) in &cases {
+    for (len, found) in &SHORT_FILES {
         check_front(&rt, rt.alloc(), *len, NO_CALL, *found);
     }
 }
 
+// The call with this number fails, if it is made: two calls on an empty disk, four on a file with a version.
+static FAILING: [(usize, u64, Found); 8] = [
+    (0, 0, FAULT),
+    (0, 1, FAULT),
+    (0, 2, NOTHING),
+    (116, 0, FAULT),
+    (116, 1, FAULT),
+    (116, 2, FAULT),
+    (116, 3, FAULT),
+    (116, 4, Ok(Some((100, false, 1)))),
+];
+
 #[test]
 fn calls_of_a_load(rt: HostRuntime) {
-    // The call with this number fails, if it is made: two calls on an empty disk, four on a file with a version.
-    let cases = [
-        (0, 0, FAULT),
-        (0, 1, FAULT),
-        (0, 2, NOTHING),
-        (116, 0, FAULT),
-        (116, 1, FAULT),
-        (116, 2, FAULT),
-        (116, 3, FAULT),
-        (116, 4, stored(100, 1)),
-    ];
-    for (len, failing, found) in &cases {
+    for (len, failing, found) in &FAILING {
         check_front(&rt, rt.alloc(), *len, *failing, *found);
     }
 }
@@ -229,10 +235,10 @@ fn first_commit(rt: HostRuntime) {
     let alloc = rt.alloc();
     let file = bytes(&rt, alloc, &[HOSTS_FILE]);
     // Two calls to load, and nine to commit.
-    for (stop, done) in [(10, 0), (11, 1)] {
-        let (commits, bytes, _found) = three_commits(&rt, alloc, Some(stop));
-        let came = (stop, commits, bytes.as_slice());
-        let wanted = (stop, done, file.as_slice());
+    for (stop, done) in &[(10, 0), (11, 1)] {
+        let (commits, bytes, _found) = three_commits(&rt, alloc, Some(*stop));
+        let came = (*stop, commits, bytes.as_slice());
+        let wanted = (*stop, *done, file.as_slice());
         assert_same(&rt, &came, &wanted, "the call that it stops at");
     }
 }
@@ -245,10 +251,10 @@ fn three_installs(rt: HostRuntime) {
     let came = (commits, bytes.as_slice());
     assert_same(&rt, &came, &(3, file.as_slice()), "never stopped");
     // Two calls to load, nine for the first commit, five for the second and seven for the third.
-    for (stop, done) in [(10, 0), (11, 1), (15, 1), (16, 2), (22, 2), (23, 3)] {
-        let (commits, _bytes, _found) = three_commits(&rt, alloc, Some(stop));
-        let came = (stop, commits);
-        assert_same(&rt, &came, &(stop, done), "the call that it stops at");
+    for (stop, done) in &[(10, 0), (11, 1), (15, 1), (16, 2), (22, 2), (23, 3)] {
+        let (commits, _bytes, _found) = three_commits(&rt, alloc, Some(*stop));
+        let came = (*stop, commits);
+        assert_same(&rt, &came, &(*stop, *done), "the call that it stops at");
     }
 }
 
@@ -272,7 +278,7 @@ fn third_install_stopped(rt: HostRuntime) {
 }
 
 // What stands after so many commits.
-const STANDS: [Found; 5] = [
+static STANDS: [Found; 5] = [
     NOTHING,
     Ok(Some((100, false, 1))),
     Ok(Some((101, false, 2))),

@@ -24,7 +24,7 @@ fn version<R: RandomSource + Abort>(rt: &R, alloc: Global, rows: &[Row]) -> Vers
 }
 
 // A key that begins others comes before them, and bytes compare as numbers from 0 to 255, also behind the first eight.
-const KEYS: [Row; 9] = [
+static KEYS: [Row; 9] = [
     (b"b", b"3"),
     (b"\xff\x00", b"6"),
     (b"hostname\xff", b"9"),
@@ -37,7 +37,7 @@ const KEYS: [Row; 9] = [
 ];
 
 // The rows by rising keys: the number of each, its key and value, and what comes next.
-const IN_ORDER: [(usize, Row, Next); 9] = [
+static IN_ORDER: [(usize, Row, Next); 9] = [
     (0, (b"a", b"1"), Next::Row(b"ab", b"2")),
     (1, (b"ab", b"2"), Next::Row(b"b", b"3")),
     (2, (b"b", b"3"), Next::Row(b"b\x00", b"")),
@@ -50,7 +50,7 @@ const IN_ORDER: [(usize, Row, Next); 9] = [
 ];
 
 // Keys of no row, and what a test calls them.
-const ABSENT: [(&[u8], &str); 6] = [
+static ABSENT: [(&[u8], &str); 6] = [
     (b"", "no byte"),
     (b"aa", "aa"),
     (b"abc", "abc"),
@@ -105,7 +105,7 @@ fn empty_version(rt: HostRuntime) {
 }
 
 // The rows of a version of two rows, in the order in which they are pushed.
-const TWO: [Row; 2] = [(b"alpha", b"1"), (b"", b"four")];
+static TWO: [Row; 2] = [(b"alpha", b"1"), (b"", b"four")];
 
 // What a version of order 7 and two rows answers.
 fn assert_marked<R: Abort>(rt: &R, version: &Version, secure: bool, row: &str) {
@@ -240,7 +240,7 @@ fn too_big(rt: HostRuntime) {
     assert_same(&rt, &came, &(wanted, 16_777_216), "a byte too many");
 }
 
-const FAULTS: [(VersionFault, &str); 5] = [
+static FAULTS: [(VersionFault, &str); 5] = [
     (
         VersionFault::KeyLong { len: 65_537 },
         "key of 65537 bytes is over the limit",
@@ -317,7 +317,7 @@ fn assert_many<R: Abort>(rt: &R, version: &Version, factor: u32, order: &str) {
 }
 
 // By an odd factor each number comes once: by 1 they rise, and by one less than all they fall but for the first.
-const ORDERS: [(u32, &str); 3] = [(1, "rising"), (16_383, "falling"), (10_007, "mixed")];
+static ORDERS: [(u32, &str); 3] = [(1, "rising"), (16_383, "falling"), (10_007, "mixed")];
 
 #[test]
 fn many_rows_in_any_order(rt: HostRuntime) {
@@ -342,7 +342,7 @@ impl RandomSource for Zeros {
 // By SipHash-1-3 with both keys 0 the hash of each of these is between 0.15 and 0.2 of 2^64, so they share one of 4, 8
 // and 20 buckets: those of a table of one row and of five while they are pushed, and of a version of them. Those of
 // `cen` and `dmq` also have the same lowest 13 bits.
-const COLLIDING: [Row; 8] = [
+static COLLIDING: [Row; 8] = [
     (b"dmq", b"7"),
     (b"ap", b"0"),
     (b"cen", b"6"),

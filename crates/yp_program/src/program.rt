@@ -31,7 +31,7 @@ use yp_command_mail::{ask_mapper, bind_domain, push_map, serve_ports};
 use yp_command_maps::{build_map, check_map, reverse_map};
 use yp_command_serve::serve::serve_maps;
 use yp_command_serve::{serve_once, serve_session, tell_sample};
-use yp_io::{Clock, Dial, Disk, Inbox, Listen, Pair, Sink, Source, Texts, Trail, write_all};
+use yp_io::{Clock, Dial, Disk, Hall, Inbox, Pair, Sink, Source, Texts, Trail, write_all};
 
 /// What the program reaches outside itself.
 #[derive(Drop)]
@@ -230,10 +230,11 @@ where
     K: Sink,
     D: Disk + Send + Drop,
     C: Clock + Send + Drop,
-    L: Listen + Send + Drop,
+    L: Hall + Send + Drop,
     L::In: Send,
     L::Out: Send,
     L::Closer: Send,
+    L::Watch: Send,
     A: Dial + Send + Drop,
     A::In: Send,
     A::Out: Send,
@@ -245,7 +246,7 @@ where
     ensures does { ServeDoes (seeing S.Source K.Sink D.Disk C.Clock A.Dial I.Inbox T.Texts)
         (serve_job_view job) result.0
         (office_of outside) (office_of result.1)
-        (opening_by L.Listen outside.listen) (opening_by L.Listen result.1.listen) }
+        (opening_by L.Hall outside.listen) (opening_by L.Hall result.1.listen) }
     ensures may_end { IsTrue (serve_may_end result.0) }
     ensures passed_on { IsPassedOn (seeing S.Source K.Sink D.Disk C.Clock A.Dial I.Inbox T.Texts) result.0
         (office_of outside) (office_of result.1) }
@@ -272,10 +273,11 @@ where
     K: Sink,
     D: Disk + Send + Drop,
     C: Clock + Send + Drop,
-    L: Listen + Send + Drop,
+    L: Hall + Send + Drop,
     L::In: Send,
     L::Out: Send,
     L::Closer: Send,
+    L::Watch: Send,
     A: Dial + Send + Drop,
     A::In: Send,
     A::Out: Send,
@@ -287,7 +289,7 @@ where
     requires disks { names_of outside.disks.items ≡ stores_of (meaning command) }
     ensures does { CommandDoes (seeing S.Source K.Sink D.Disk C.Clock A.Dial I.Inbox T.Texts) (meaning command) result.0
         (office_of outside) (office_of result.1)
-        (opening_by L.Listen outside.listen) (opening_by L.Listen result.1.listen)
+        (opening_by L.Hall outside.listen) (opening_by L.Hall result.1.listen)
         (W.wires witness.old) (W.wires witness.new) }
     ensures may_end { IsTrue (may_end (meaning command) result.0) }
     ensures disks { names_of result.1.disks.items ≡ names_of outside.disks.items }
@@ -316,10 +318,11 @@ where
     K: Sink,
     D: Disk + Send + Drop,
     C: Clock + Send + Drop,
-    L: Listen + Send + Drop,
+    L: Hall + Send + Drop,
     L::In: Send,
     L::Out: Send,
     L::Closer: Send,
+    L::Watch: Send,
     A: Dial + Send + Drop,
     A::In: Send,
     A::Out: Send,
@@ -330,7 +333,7 @@ where
     requires disks { names_of outside.disks.items ≡ disk_names (texts words.now) }
     ensures does { Does (seeing S.Source K.Sink D.Disk C.Clock A.Dial I.Inbox T.Texts)
         (command_of (texts words.now)) result.0 (office_of outside) (office_of result.1)
-        (opening_by L.Listen outside.listen) (opening_by L.Listen result.1.listen)
+        (opening_by L.Hall outside.listen) (opening_by L.Hall result.1.listen)
         (W.wires witness.old) (W.wires witness.new) }
     ensures may_end { MayEnd (command_of (texts words.now)) result.0 }
     ensures disks { names_of result.1.disks.items ≡ names_of outside.disks.items }
@@ -375,10 +378,11 @@ where
     K: Sink,
     D: Disk + Send + Drop,
     C: Clock + Send + Drop,
-    L: Listen + Send + Drop,
+    L: Hall + Send + Drop,
     L::In: Send,
     L::Out: Send,
     L::Closer: Send,
+    L::Watch: Send,
     A: Dial + Send + Drop,
     A::In: Send,
     A::Out: Send,
@@ -391,7 +395,7 @@ where
     // behind its answered records.
     ensures does { (wires : List Wire) × Does (seeing S.Source K.Sink D.Disk C.Clock A.Dial I.Inbox T.Texts)
         (command_of (texts words.now)) result.0 (office_of outside) (office_of result.1)
-        (opening_by L.Listen outside.listen) (opening_by L.Listen result.1.listen) [] wires }
+        (opening_by L.Hall outside.listen) (opening_by L.Hall result.1.listen) [] wires }
 
     // How it may end.
     ensures may_end { MayEnd (command_of (texts words.now)) result.0 }

@@ -3,7 +3,7 @@ use Rattle.std.proofs.Common.{◌≡◌, ◌≤◌, ◌<◌, List, [], ◌++◌,
 use Rattle.std.proofs.Common.{Option, Some, None, Result, Ok, Err}
 use Rattle.std.proofs.Math.Seq.{take-add, take-append_seam, drop-drop}
 use Rattle.std.proofs.lemmas.List.{append-nil, length-take-le, length-drop, take-append-drop, take_all}
-use Rattle.yp_io.specs.inside.Ready.{TriesToRead, TriesToWrite}
+use Rattle.yp_io.specs.Ready.{TriesToRead, TriesToWrite}
 use Rattle.std.specs.Io.KnownBytes.{Keeps, append_known}
 use Rattle.std.proofs.KnownBytes.{append_known-moved}
 use Rattle.yp_rpc.specs.inside.Outgoing.{Pays}

@@ -25,7 +25,7 @@ pub trait Programs {
 }
 
 /// What a message is for the programs that are answered.
-#[derive(Clone, Copy, Debug)]
+#[derive(Clone, Copy)]
 pub enum Judged<P> {
     /// Nothing that is answered.
     Ignored,

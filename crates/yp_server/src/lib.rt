@@ -2,9 +2,10 @@
 //! that they share.
 //!
 //! [`serve`] lends a publisher, a desk and a listener to its workers, each under a lock, and takes them apart again
-//! once all workers have ended. Beside them one worker answers the datagrams of the inbox, which it has for itself.
-//! What each worker served, one connection after the other, that all connections were closed, what was counted, what
-//! went out for each datagram, and how each map stands then are its clauses.
+//! once all workers have ended. Each worker serves many connections at once, and waits for none of them. Beside them
+//! one worker answers the datagrams of the inbox, which it has for itself. What each worker did, step by step, how each
+//! connection stood as it was closed, that all were closed, what was counted, what went out for each datagram, and how
+//! each map stands then are its clauses.
 #![tactic(auto)]
 
 mod datagrams;

@@ -22,10 +22,10 @@ use std::random::RandomSource;
 use std::sync::ledger::{Blank, Ledger, Share};
 use std::sync::{Mutex, Wait};
 use std::thread::Threads;
-use yp_answer::session::{CALLS_MAX, Session};
+use yp_answer::session::{Buffers, CALLS_MAX};
 use yp_board::Tell;
 use yp_host::workers::{Account, Charges, SharedDesk, Supplies, WorkerHost};
-use yp_io::{Clock, Dial, Disk, Inbox, Listen, Texts};
+use yp_io::{Clock, Dial, Disk, Hall, Inbox, Texts};
 use yp_publisher::sharing::{Accounts, Locked};
 use yp_worker::{Gate, Listening, Pass, Reception, Tally, Worker};
 
@@ -66,7 +66,7 @@ impl<
     fn worker(
         &self,
         reader: B::Reader,
-        session: Session,
+        buffers: Buffers,
         charges: Charges<J>,
     ) -> Worker<WorkerHost<'a, J, D, B, A, T, C, &'a R>, &'a G>
         requires most { (self.now.most ≡ J.most) × (self.now.most ≤ CALLS_MAX) }
@@ -84,14 +84,14 @@ impl<
             self.desk,
             charges,
         );
-        Worker::new(host, session, self.gate, self.most)
+        Worker::new(host, buffers, self.gate, self.most)
     }
 
     /// A worker with a part of the listener and of the charges.
     fn connection_worker<E: Ledger>(
         &self,
         reader: B::Reader,
-        session: Session,
+        buffers: Buffers,
         charges: &mut Charges<J>,
         out: &mut Share<J>,
         ended: &mut Share<E>,
@@ -107,7 +107,7 @@ impl<
         ensures ended { (ended.new.parts + 1 ≡ ended.old.parts) × (ended.new.amount ≡ 0) }
         ensures charges { charges.new.parts + 1 ≡ charges.old.parts }
     {
-        let worker = self.worker(reader, session, charges.split_off());
+        let worker = self.worker(reader, buffers, charges.split_off());
         ConnectionWorker::new(
             worker,
             Pass::new(out.split_off(1, 0), ended.split_off(1, 0)),
@@ -120,7 +120,7 @@ impl<
         all_workers: &mut Vec<
             ServerWorker<J, E, WorkerHost<'a, J, D, B, A, T, C, &'a R>, &'a G, I>,
         >,
-        mut sessions: Vec<Session>,
+        mut all_buffers: Vec<Buffers>,
         mut readers: Vec<B::Reader>,
         charges: &mut Charges<J>,
         out: &mut Share<J>,
@@ -129,25 +129,25 @@ impl<
     where
         B::Reader: Drop,
         requires most { (self.now.most ≡ J.most) × (self.now.most ≤ CALLS_MAX) }
-        requires readers { length readers.items ≡ length sessions.items }
+        requires readers { length readers.items ≡ length all_buffers.items }
         requires knows { All (λ reader. IsAtStart J.catalogue J.starts (B.Reader.seen reader)) readers.items }
         requires builds { SiteBuilds J.text J.catalogue J.built }
         requires one { length all_workers.old.items ≡ 1 }
-        requires room { length sessions.items + 1 ≤ vec_capacity all_workers.old }
-        requires out { (out.old.parts ≡ length sessions.items + 1) × (out.old.amount ≡ 0) }
-        requires ended { (ended.old.parts ≡ length sessions.items + 1) × (ended.old.amount ≡ 0) }
-        requires charges { length sessions.items + 2 ≡ charges.old.parts }
+        requires room { length all_buffers.items + 1 ≤ vec_capacity all_workers.old }
+        requires out { (out.old.parts ≡ length all_buffers.items + 1) × (out.old.amount ≡ 0) }
+        requires ended { (ended.old.parts ≡ length all_buffers.items + 1) × (ended.old.amount ≡ 0) }
+        requires charges { length all_buffers.items + 2 ≡ charges.old.parts }
         ensures all_workers { AddsWorkers before_work all_workers.old.items all_workers.new.items }
-        ensures count { length all_workers.new.items ≡ length sessions.items + 1 }
+        ensures count { length all_workers.new.items ≡ length all_buffers.items + 1 }
         ensures out { (out.new.parts ≡ 1) × (out.new.amount ≡ 0) }
         ensures ended { (ended.new.parts ≡ 1) × (ended.new.amount ≡ 0) }
         ensures charges { charges.new.parts ≡ 2 }
     {
-        while let Some(session) = sessions.pop() {
+        while let Some(buffers) = all_buffers.pop() {
             let Some(reader) = readers.pop() else {
                 unreachable!();
             };
-            let connection_worker = self.connection_worker(reader, session, charges, out, ended);
+            let connection_worker = self.connection_worker(reader, buffers, charges, out, ended);
             all_workers.push_reserved(ServerWorker::Connections(connection_worker));
         }
     }
@@ -158,7 +158,7 @@ impl<
         all_workers: &mut Vec<
             ServerWorker<J, E, WorkerHost<'a, J, D, B, A, T, C, &'a R>, &'a G, I>,
         >,
-        sessions: Vec<Session>,
+        all_buffers: Vec<Buffers>,
         readers: Vec<B::Reader>,
         datagram_resources: DatagramResources<I, B::Reader>,
         charges: &mut Charges<J>,
@@ -168,17 +168,17 @@ impl<
     where
         B::Reader: Drop,
         requires most { (self.now.most ≡ J.most) × (self.now.most ≤ CALLS_MAX) }
-        requires readers { length readers.items ≡ length sessions.items }
+        requires readers { length readers.items ≡ length all_buffers.items }
         requires knows { All (λ reader. IsAtStart J.catalogue J.starts (B.Reader.seen reader)) readers.items }
         requires datagram_resources { IsAtStart J.catalogue J.starts (B.Reader.seen datagram_resources.reader) }
         requires builds { SiteBuilds J.text J.catalogue J.built }
         requires none { all_workers.old.items ≡ [] }
-        requires room { length sessions.items + 1 ≤ vec_capacity all_workers.old }
-        requires out { (out.old.parts ≡ length sessions.items + 1) × (out.old.amount ≡ 0) }
-        requires ended { (ended.old.parts ≡ length sessions.items + 1) × (ended.old.amount ≡ 0) }
-        requires charges { length sessions.items + 3 ≡ charges.old.parts }
+        requires room { length all_buffers.items + 1 ≤ vec_capacity all_workers.old }
+        requires out { (out.old.parts ≡ length all_buffers.items + 1) × (out.old.amount ≡ 0) }
+        requires ended { (ended.old.parts ≡ length all_buffers.items + 1) × (ended.old.amount ≡ 0) }
+        requires charges { length all_buffers.items + 3 ≡ charges.old.parts }
         ensures manned { AreWorkers (datagram_worker_of datagram_resources) before_work all_workers.new.items }
-        ensures count { length all_workers.new.items ≡ length sessions.items + 1 }
+        ensures count { length all_workers.new.items ≡ length all_buffers.items + 1 }
         ensures out { (out.new.parts ≡ 1) × (out.new.amount ≡ 0) }
         ensures ended { (ended.new.parts ≡ 1) × (ended.new.amount ≡ 0) }
         ensures charges { charges.new.parts ≡ 2 }
@@ -198,7 +198,7 @@ impl<
             datagram_resources.turns,
         );
         all_workers.push_reserved(ServerWorker::Datagrams(datagram_worker));
-        self.add_connection_workers(all_workers, sessions, readers, charges, out, ended);
+        self.add_connection_workers(all_workers, all_buffers, readers, charges, out, ended);
     }
 }
 
@@ -213,12 +213,12 @@ impl<
     G: Gate + Sync,
     R: Threads + Wait + RandomSource + Sync,
 > WorkerMaker<'a, J, D, B, A, T, C, G, R> {
-    /// Serves the connections of a listener by workers in threads, one for each session, which have room in `workers`,
-    /// and the datagrams of an inbox beside them.
-    pub(crate) fn serve<E: Ledger + Send + Sync, L: Listen + Send, I: Inbox + Send + Drop>(
+    /// Serves the connections of a listener by workers in threads, one for each of these buffers, which have room in
+    /// `all_workers`, and the datagrams of an inbox beside them.
+    pub(crate) fn serve<E: Ledger + Send + Sync, L: Hall + Send, I: Inbox + Send + Drop>(
         &self,
         mut all_workers: Vec<ServerWorker<J, E, WorkerHost<'a, J, D, B, A, T, C, &'a R>, &'a G, I>>,
-        sessions: Vec<Session>,
+        all_buffers: Vec<Buffers>,
         readers: Vec<B::Reader>,
         listen: L,
         out: Blank,
@@ -232,26 +232,27 @@ impl<
         L::In: Send,
         L::Out: Send,
         L::Closer: Send,
+        L::Watch: Send,
         A::In: Send,
         A::Out: Send,
         requires most { (self.now.most ≡ J.most) × (self.now.most ≤ CALLS_MAX) }
-        requires readers { length readers.items ≡ length sessions.items }
+        requires readers { length readers.items ≡ length all_buffers.items }
         requires knows { All (λ reader. IsAtStart J.catalogue J.starts (B.Reader.seen reader)) readers.items }
         requires builds { SiteBuilds J.text J.catalogue J.built }
         requires none { all_workers.items ≡ [] }
-        requires some { 0 < length sessions.items }
-        requires room { length sessions.items + 1 ≤ vec_capacity all_workers }
-        requires opening { opening_by L.Listen listen ≡ J.opening }
-        requires out { (out.name ≡ J.name) × (out.parts ≡ J.parts) × (out.parts ≡ length sessions.items + 1) }
+        requires some { 0 < length all_buffers.items }
+        requires room { length all_buffers.items + 1 ≤ vec_capacity all_workers }
+        requires opening { opening_by L.Hall listen ≡ J.opening }
+        requires out { (out.name ≡ J.name) × (out.parts ≡ J.parts) × (out.parts ≡ length all_buffers.items + 1) }
         requires ended { (ended.name ≡ E.name) × (ended.parts ≡ E.parts)
-            × (ended.parts ≡ length sessions.items + 1) }
-        requires charges { charges.parts ≡ length sessions.items + 3 }
+            × (ended.parts ≡ length all_buffers.items + 1) }
+        requires charges { charges.parts ≡ length all_buffers.items + 3 }
         requires datagram_resources { IsAtStart J.catalogue J.starts (B.Reader.seen datagram_resources.reader) }
-        ensures kept { IsListenerState J.opening (opening_by L.Listen result.0) result.1.connections
+        ensures kept { IsListenerState J.opening (opening_by L.Hall result.0) result.1.connections
             result.1.listen_fault 0 1 }
         ensures counted { (log : Log) → IsFront result.3.reached log
             → CountsAll (conduct_at B.Reader.seen B.Reader.stepped J.text J.hosts) count_totals
-            (terms_by J.Reception) J.opening (opening_by L.Listen result.0) result.1.calls log
+            (terms_by J.Reception) J.opening (opening_by L.Hall result.0) result.1.calls log
             datagram_resources.turns result.2.fault
             (box_by I.Inbox datagram_resources.inbox) (box_by I.Inbox result.2.inbox) result.3.totals }
         ensures cause { result.2.fault ≡ true → HasRisen (I.faults datagram_resources.inbox) (I.faults result.2.inbox) }
@@ -261,7 +262,7 @@ impl<
         let front = B::known(&datagram_resources.reader);
         self.add_workers(
             &mut all_workers,
-            sessions,
+            all_buffers,
             readers,
             datagram_resources,
             &mut charges,

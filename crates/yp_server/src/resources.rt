@@ -15,7 +15,7 @@ ghost use Rattle.yp_server.specs.Origins.{Stems};
 use crate::spec::ServeRefused;
 use std::alloc::Global;
 use std::sync::ledger::Share;
-use yp_answer::session::Session;
+use yp_answer::session::Buffers;
 use yp_board::{Show, Tell};
 use yp_host::Desk;
 use yp_io::{Disk, NoMemory};
@@ -90,10 +90,11 @@ pub(crate) fn take_apart<S: Site + Accounts, D: Disk, B: Tell>(
     (disks, board, versions)
 }
 
-/// What workers work with: the memory of a session and a reader for each, and what the worker of datagrams works with.
+/// What workers work with: the memory for records and replies and a reader for each, and what the worker of datagrams
+/// works with.
 #[derive(Drop)]
 pub(crate) struct WorkerResources<V> {
-    pub(crate) sessions: Vec<Session>,
+    pub(crate) all_buffers: Vec<Buffers>,
     pub(crate) readers: Vec<V>,
     pub(crate) spare: V,
     pub(crate) room: Room,
@@ -107,7 +108,7 @@ impl<V: Drop> WorkerResources<V> {
         workers: u32,
     ) -> Result<WorkerResources<V>, NoMemory>
         requires { vec_len readers ≡ workers + 1 }
-        ensures sessions { IfOk result (λ worker_resources. length worker_resources.sessions.items ≡ workers) }
+        ensures all_buffers { IfOk result (λ worker_resources. length worker_resources.all_buffers.items ≡ workers) }
         ensures readers { IfOk result (λ worker_resources. length worker_resources.readers.items ≡ workers) }
         ensures all { IfOk result (λ worker_resources. readers.items
             ≡ worker_resources.readers.items ++ worker_resources.spare ∷ []) }
@@ -115,10 +116,10 @@ impl<V: Drop> WorkerResources<V> {
         let Some(spare) = readers.pop() else {
             unreachable!();
         };
-        let sessions = sessions_of(alloc, workers)?;
+        let all_buffers = buffers_of(alloc, workers)?;
         let room = Room::new(alloc)?;
         Ok(WorkerResources {
-            sessions,
+            all_buffers,
             readers,
             spare,
             room,
@@ -126,13 +127,13 @@ impl<V: Drop> WorkerResources<V> {
     }
 }
 
-/// The memory of so many sessions.
-fn sessions_of(alloc: Global, count: u32) -> Result<Vec<Session>, NoMemory>
-    ensures { IfOk result (λ sessions. length sessions.items ≡ count) }
+/// The memory of so many workers.
+fn buffers_of(alloc: Global, count: u32) -> Result<Vec<Buffers>, NoMemory>
+    ensures { IfOk result (λ all_buffers. length all_buffers.items ≡ count) }
 {
-    let mut sessions = Vec::with_capacity(alloc, count as usize).map_err(|_| NoMemory)?;
+    let mut all_buffers = Vec::with_capacity(alloc, count as usize).map_err(|_| NoMemory)?;
     for _ in 0..count {
-        sessions.push_reserved(Session::new(alloc)?);
+        all_buffers.push_reserved(Buffers::new(alloc)?);
     }
-    Ok(sessions)
+    Ok(all_buffers)
 }

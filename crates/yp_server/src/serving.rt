@@ -39,14 +39,14 @@ use yp_answer::session::CALLS_MAX;
 use yp_board::Tell;
 use yp_host::Desk;
 use yp_host::workers::Supplies;
-use yp_io::{Clock, Dial, Disk, Inbox, Listen, Texts};
+use yp_io::{Clock, Dial, Disk, Hall, Inbox, Texts};
 use yp_publisher::Publisher;
 use yp_publisher::sharing::Accounts;
 use yp_worker::{Gate, Reception};
 
 /// Serves the connections of a listener and the datagrams of an inbox, over maps and a desk that all workers share:
-/// connections until as many were accepted as are to be or an accept has failed, datagrams until all turns are taken or
-/// the inbox has failed. Each worker has a thread of its own, and the datagrams have one more. Where one can't be
+/// connections until as many were accepted as are to be or the listener has failed, datagrams until all turns are taken
+/// or the inbox has failed. Each worker has a thread of its own, and the datagrams have one more. Where one can't be
 /// started, its work is done in another's.
 ///
 /// There is one reader more than workers of connections.
@@ -69,11 +69,12 @@ where
     A: Dial + Send + Drop,
     T: Texts + Send + Drop,
     C: Clock + Send + Drop,
-    L: Listen + Send + Drop,
+    L: Hall + Send + Drop,
     I: Inbox + Send + Drop,
     L::In: Send,
     L::Out: Send,
     L::Closer: Send,
+    L::Watch: Send,
     A::In: Send,
     A::Out: Send,
     G: Gate + Sync,
@@ -85,11 +86,11 @@ where
     requires most { spec.now.most ≤ CALLS_MAX }
 
     // All connections were closed that came.
-    ensures gone { IfOk result (λ served. IsListenerState (opening_by L.Listen listen)
-        (opening_by L.Listen served.listen)
+    ensures gone { IfOk result (λ served. IsListenerState (opening_by L.Hall listen)
+        (opening_by L.Hall served.listen)
         served.tally.connections served.tally.listen_fault 0 1) }
 
-    // Where no accept has failed, as many were accepted as were to be.
+    // Where the listener hasn't failed, as many were accepted as were to be.
     ensures all { IfOk result (λ served. served.tally.listen_fault ≡ false
         → L.accepted served.listen ≡ L.most listen) }
 
@@ -109,13 +110,14 @@ where
         → AreTold D.history served.disks.items → IsRisingLog (B.log served.writer)) }
     ensures desk { IfOk result (λ served. IsSupplied T.Texts (T.text desk.texts) desk.hosts served.desk) }
 
-    // What each worker served, one connection after the other, and each datagram; what all workers counted; and what
-    // bounds it: FILEs are at most as many as the faults of the texts and of the disks, orders that were reached as the
-    // wires that begin with one, and failed sources as the faults of the dial and the wires that give no version.
+    // What each worker did, step by step, and how each of its connections stood as it was closed; each datagram; what
+    // all workers counted; and what bounds it: FILEs are at most as many as the faults of the texts and of the disks,
+    // orders that were reached as the wires that begin with one, and failed sources as the faults of the dial and the
+    // wires that give no version.
     ensures counted { IfOk result (λ served. CountsAll
         (conduct_at B.Reader.seen B.Reader.stepped (T.text desk.texts) desk.hosts) count_totals
         (terms_of publisher.catalogue (B.log publisher.board) spec.now.most)
-        (opening_by L.Listen listen) (opening_by L.Listen served.listen)
+        (opening_by L.Hall listen) (opening_by L.Hall served.listen)
         served.tally.calls (B.log served.writer) spec.now.turns served.inbox_fault
         (box_by I.Inbox inbox) (box_by I.Inbox served.inbox) served.totals) }
     ensures files { IfOk result (λ served. FilesAreCovered D.history D.faults
@@ -186,11 +188,12 @@ where
     A: Dial + Send + Drop,
     T: Texts + Send + Drop,
     C: Clock + Send + Drop,
-    L: Listen + Send + Drop,
+    L: Hall + Send + Drop,
     I: Inbox + Send + Drop,
     L::In: Send,
     L::Out: Send,
     L::Closer: Send,
+    L::Watch: Send,
     A::In: Send,
     A::Out: Send,
     G: Gate + Sync,
@@ -198,20 +201,20 @@ where
     requires site { resources.publisher.catalogue ≡ J.catalogue }
     requires starts { B.log resources.publisher.board ≡ J.starts }
     requires supplied { IsSupplied T.Texts J.text J.hosts resources.desk }
-    requires opening { opening_by L.Listen resources.listen ≡ J.opening }
+    requires opening { opening_by L.Hall resources.listen ≡ J.opening }
     requires most { (spec.now.most ≡ J.most) × (spec.now.most ≤ CALLS_MAX) }
-    requires some { 0 < length worker_resources.sessions.items }
-    requires readers { length worker_resources.readers.items ≡ length worker_resources.sessions.items }
+    requires some { 0 < length worker_resources.all_buffers.items }
+    requires readers { length worker_resources.readers.items ≡ length worker_resources.all_buffers.items }
     requires know { All (λ reader. IsAtStart J.catalogue J.starts (B.Reader.seen reader))
         worker_resources.readers.items }
     requires spare { IsAtStart J.catalogue J.starts (B.Reader.seen worker_resources.spare) }
     requires out { (out.name ≡ J.name) × (out.parts ≡ J.parts)
-        × (out.parts ≡ length worker_resources.sessions.items + 1) }
+        × (out.parts ≡ length worker_resources.all_buffers.items + 1) }
     requires ended { (ended.name ≡ E.name) × (ended.parts ≡ E.parts)
-        × (ended.parts ≡ length worker_resources.sessions.items + 1) }
+        × (ended.parts ≡ length worker_resources.all_buffers.items + 1) }
     requires builds { SiteBuilds J.text J.catalogue J.built }
     requires unread { (blanks.unread.name ≡ J.unread) × (blanks.unread.parts ≡ J.shares)
-        × (J.shares ≡ length worker_resources.sessions.items + 3) }
+        × (J.shares ≡ length worker_resources.all_buffers.items + 3) }
     requires orders { (blanks.orders.name ≡ J.orders) × (blanks.orders.parts ≡ J.shares) }
     requires sources { (blanks.sources.name ≡ J.sources) × (blanks.sources.parts ≡ J.shares) }
     requires failures { (blanks.failures.name ≡ J.failures) × (blanks.failures.parts ≡ J.shares) }
@@ -222,7 +225,7 @@ where
         × (A.letters resources.desk.dial ≡ J.letters) }
     requires disks { faults_over D.faults (disks_of resources.publisher.maps) ≡ J.disk_faults }
     requires first { publisher_state B.log resources.publisher ≡ J.first }
-    ensures gone { IfOk result (λ served. IsListenerState J.opening (opening_by L.Listen served.listen)
+    ensures gone { IfOk result (λ served. IsListenerState J.opening (opening_by L.Hall served.listen)
         served.tally.connections served.tally.listen_fault 0 1) }
     ensures datagrams { IfOk result (λ served. ServesDatagrams
         (conduct_at B.Reader.seen B.Reader.stepped J.text J.hosts) totals_of
@@ -237,7 +240,7 @@ where
     ensures desk { IfOk result (λ served. IsSupplied T.Texts J.text J.hosts served.desk) }
     ensures counted { IfOk result (λ served. CountsAll
         (conduct_at B.Reader.seen B.Reader.stepped J.text J.hosts) count_totals (terms_by J.Reception) J.opening
-        (opening_by L.Listen served.listen) served.tally.calls (B.log served.writer) spec.now.turns served.inbox_fault
+        (opening_by L.Hall served.listen) served.tally.calls (B.log served.writer) spec.now.turns served.inbox_fault
         (box_by I.Inbox resources.inbox) (box_by I.Inbox served.inbox) served.totals) }
     ensures files { IfOk result (λ served. FilesAreCovered D.history D.faults
         (T.faults resources.desk.texts) (T.faults served.desk.texts)
@@ -255,11 +258,11 @@ where
         × (refused.inbox ≡ resources.inbox)) }
     ensures disks { IfErr result (λ refused. refused.disks.items ≡ disks_of resources.publisher.maps) }
 {
-    let Ok(all_workers) = Vec::with_capacity(alloc, worker_resources.sessions.len() + 1) else {
+    let Ok(all_workers) = Vec::with_capacity(alloc, worker_resources.all_buffers.len() + 1) else {
         return Err(refuse(resources));
     };
     let WorkerResources {
-        sessions,
+        all_buffers,
         readers,
         spare,
         room,
@@ -285,7 +288,7 @@ where
     };
     let (listen, tally, mailed, account) = place.serve::<E, L, I>(
         all_workers,
-        sessions,
+        all_buffers,
         readers,
         resources.listen,
         out,

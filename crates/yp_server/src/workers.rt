@@ -20,7 +20,7 @@ use std::sync::ledger::Ledger;
 use std::sync::{Mutex, Wait};
 use std::thread::{Threads, for_each_mut};
 use yp_board::readers::WORKERS_MAX;
-use yp_io::{Inbox, Listen};
+use yp_io::{Hall, Inbox};
 use yp_worker::laws::sums_reach_further;
 use yp_worker::{Gate, HandsOver, Listening, Pass, Reception, Tally, Worker};
 
@@ -45,7 +45,7 @@ impl<J: Reception, E: Ledger, H: HandsOver, G: Gate + Copy> Model for Connection
         (terms_of J.catalogue J.starts J.most) s.worker × (H.counted s.worker.host ≡ H.none) };
 }
 
-impl<J: Reception, E: Ledger, H: HandsOver, G: Gate + Copy> ConnectionWorker<J, E, H, G> {
+impl<J: Reception, E: Ledger, H: HandsOver, G: Gate + Copy + Drop> ConnectionWorker<J, E, H, G> {
     /// A worker with what it holds of its listener.
     pub(crate) fn new(worker: Worker<H, G>, pass: Pass<J, E>) -> ConnectionWorker<J, E, H, G>
         requires under { IsUnder (conduct_by H.Host) (terms_by J.Reception) worker }
@@ -56,7 +56,7 @@ impl<J: Reception, E: Ledger, H: HandsOver, G: Gate + Copy> ConnectionWorker<J, 
     }
 
     /// Serves connections until the listener has no more.
-    fn work<L: Listen, R: Wait>(&mut self, rt: &R, listening: &Mutex<Listening<J, E, H, L>>)
+    fn work<L: Hall, R: Wait>(&mut self, rt: &R, listening: &Mutex<Listening<J, E, H, L>>)
         ensures { self.new ≡ record self.old { ended = self.old.ended + 1 } }
     {
         self.worker.run(rt, listening, &mut self.pass);
@@ -85,9 +85,15 @@ pub(crate) enum ServerWorker<J: Reception, E: Ledger, H: HandsOver, G: Gate + Co
     Datagrams(DatagramWorker<I, H>),
 }
 
-impl<J: Reception, E: Ledger, H: HandsOver, G: Gate + Copy, I: Inbox> ServerWorker<J, E, H, G, I> {
+impl<J: Reception, E: Ledger, H: HandsOver, G: Gate + Copy + Drop, I: Inbox> ServerWorker<
+    J,
+    E,
+    H,
+    G,
+    I,
+> {
     /// Works until there is nothing more to do.
-    fn work<L: Listen, R: Wait>(&mut self, rt: &R, listening: &Mutex<Listening<J, E, H, L>>)
+    fn work<L: Hall, R: Wait>(&mut self, rt: &R, listening: &Mutex<Listening<J, E, H, L>>)
         ensures { Works (AnswersDatagrams (conduct_by H.Host) H.counted (box_by I.Inbox) I.faults) self.old self.new }
     {
         match self {
@@ -98,8 +104,7 @@ impl<J: Reception, E: Ledger, H: HandsOver, G: Gate + Copy, I: Inbox> ServerWork
 }
 
 /// Serves the connections of a listener at all workers but the first, and the datagrams of an inbox at the first, side
-/// by
-/// side, until all have ended. What came of the connections and of the datagrams, and the sum of what was counted.
+/// by side, until all have ended. What came of the connections and of the datagrams, and the sum of what was counted.
 pub(crate) fn run_workers<J, E, H, G, L, I, R: Threads + Wait + Sync>(
     rt: &R,
     listening: Listening<J, E, H, L>,
@@ -113,23 +118,24 @@ where
     H::Sum: Send,
     G: Gate + Copy + Send + Drop,
     I: Inbox + Send + Drop,
-    L: Listen + Send,
+    L: Hall + Send,
     L::In: Send,
     L::Out: Send,
     L::Closer: Send,
+    L::Watch: Send,
     requires manned { (datagram_worker : DatagramWorker I H H.Count)
         × AreWorkers datagram_worker before_work all_workers.items }
     requires some { 1 < length all_workers.items }
     requires parts { length all_workers.items ≡ J.parts }
     requires pass { pass ≡ before_work }
-    ensures kept { IsListenerState J.opening (opening_by L.Listen result.0) result.1.connections result.1.listen_fault
+    ensures kept { IsListenerState J.opening (opening_by L.Hall result.0) result.1.connections result.1.listen_fault
         0 1 }
     ensures counted { (datagram_worker : DatagramWorker I H H.Count)
         → AreWorkers datagram_worker before_work all_workers.items
         → BeginsMail (conduct_by H.Host) (counting_of H.counted H.none H.plus) J.catalogue J.starts datagram_worker
         → (log : Log) → IsFront (H.reached result.3) log
         → CountsAll (conduct_by H.Host) (counting_of H.counted H.none H.plus) (terms_by J.Reception)
-        J.opening (opening_by L.Listen result.0) result.1.calls log datagram_worker.turns result.2.fault
+        J.opening (opening_by L.Hall result.0) result.1.calls log datagram_worker.turns result.2.fault
         (box_by I.Inbox datagram_worker.inbox) (box_by I.Inbox result.2.inbox) (H.summed result.3) }
     ensures cause { (datagram_worker : DatagramWorker I H H.Count)
         → AreWorkers datagram_worker before_work all_workers.items
@@ -158,10 +164,11 @@ where
     H::Sum: Send,
     G: Gate + Copy + Send + Drop,
     I: Inbox + Send + Drop,
-    L: Listen + Send,
+    L: Hall + Send,
     L::In: Send,
     L::Out: Send,
     L::Closer: Send,
+    L::Watch: Send,
     ensures count { length all_workers.new ≡ length all_workers.old }
     ensures works { AllWork (AnswersDatagrams (conduct_by H.Host) H.counted (box_by I.Inbox) I.faults) all_workers.old
         all_workers.new }

@@ -7,9 +7,9 @@ mod connection;
 #[cfg(test)]
 mod given;
 #[cfg(test)]
-mod host;
+mod halls;
 #[cfg(test)]
-mod listeners;
+mod host;
 #[cfg(test)]
 mod publishers;
 #[cfg(test)]

@@ -3,6 +3,7 @@
 mod gate;
 mod host;
 mod mail;
+mod many;
 mod one;
 mod reader;
 mod run;

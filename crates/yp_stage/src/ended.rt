@@ -4,7 +4,7 @@ use crate::outside::{Memory, bytes_of};
 use crate::row::{Datagram, Row, Stands};
 use std::alloc::{AllocError, Global};
 use std::random::RandomSource;
-use yp_io::{Letter, MemCall, MemDial, MemDisk, MemListen, Peer};
+use yp_io::{HallCall, Letter, MemDial, MemDisk, MemHall, Peer};
 use yp_map_file::Slot;
 use yp_program::{NamedDisk, Status};
 
@@ -98,14 +98,14 @@ fn put_letters(
     Ok(())
 }
 
-fn put_taken(ended: &mut Ended, alloc: Global, calls: &[MemCall]) -> Result<(), AllocError> {
+fn put_taken(ended: &mut Ended, alloc: Global, calls: &[HallCall]) -> Result<(), AllocError> {
     for call in calls {
-        ended.bytes(alloc, "taken", call.wire.sink.taken())?;
+        ended.bytes(alloc, "taken", call.wire.sink.wire.taken())?;
     }
     Ok(())
 }
 
-fn put_closed(ended: &mut Ended, alloc: Global, listen: &MemListen) -> Result<(), AllocError> {
+fn put_closed(ended: &mut Ended, alloc: Global, listen: &MemHall) -> Result<(), AllocError> {
     for closer in listen.closers() {
         put_taken(ended, alloc, closer.calls())?;
     }

@@ -2,7 +2,7 @@
 
 ghost use Rattle.std.specs.Prelude.{◌≡◌, All, IfOk};
 ghost use Rattle.yp_io.specs.inside.MemDial.{WireIsNew};
-ghost use Rattle.yp_io.specs.inside.MemListen.{ConnectionIsNew as IsNewCall};
+ghost use Rattle.yp_io.specs.inside.MemHall.{EntryIsNew};
 ghost use Rattle.yp_command.specs.Words.{disk_names, texts};
 ghost use Rattle.yp_command.specs.office.Disks.{names_of};
 
@@ -10,8 +10,8 @@ use crate::row::{Datagram, NEVER, Row};
 use std::alloc::{AllocError, Global};
 use yp_board::MapName;
 use yp_io::{
-    CallOrigin, Called, Letter, MemCall, MemDial, MemDisk, MemInbox, MemListen, MemSink, MemSource,
-    MemTexts, MemWire, OWN_HOST, Pair, Peer, SetClock, TextFile,
+    CallOrigin, Called, HallCall, Letter, MemDial, MemDisk, MemHall, MemInbox, MemSink, MemSource,
+    MemTexts, MemWire, OWN_HOST, Pair, Peer, Scheduled, SetClock, TextFile,
 };
 use yp_program::{NamedDisk, Outside, disk_names, named_disks};
 
@@ -21,7 +21,7 @@ pub type Memory = Outside<
     MemSink,
     MemDisk,
     SetClock,
-    MemListen,
+    MemHall,
     MemDial,
     MemInbox,
     MemTexts,
@@ -148,18 +148,22 @@ const CALLER: Peer = Peer {
     port: 40_000,
 };
 
-/// A connection that sends these words, and the read, and the write or flush, of it that fail.
+/// A connection that sends these words and can always go on, and the read, and the write or flush, of it that fail.
 fn call_of(
     alloc: Global,
     words: &[&str],
     piece: usize,
     reads: u64,
     writes: u64,
-) -> Result<MemCall, AllocError>
-    ensures { IfOk result IsNewCall }
+) -> Result<HallCall, AllocError>
+    ensures { IfOk result EntryIsNew }
 {
     let input = bytes_of(alloc, words)?;
-    let wire = wire_of(alloc, &input, piece, reads, writes)?;
+    let Pair { source, sink } = wire_of(alloc, &input, piece, reads, writes)?;
+    let wire = Pair {
+        source: Scheduled::new(source, Vec::new(alloc)),
+        sink: Scheduled::new(sink, Vec::new(alloc)),
+    };
     Ok(Called {
         origin: CallOrigin::new(CALLER, &wire),
         wire,
@@ -167,7 +171,7 @@ fn call_of(
 }
 
 /// The listener. The first connection alone has calls that fail.
-fn listener_of(alloc: Global, row: &Row) -> Result<MemListen, AllocError> {
+fn hall_of(alloc: Global, row: &Row) -> Result<MemHall, AllocError> {
     let failing = plan(alloc, row.accepts)?;
     let (mut reads, mut writes) = (row.call_reads, row.call_writes);
     let mut calls = Vec::new(alloc);
@@ -176,7 +180,14 @@ fn listener_of(alloc: Global, row: &Row) -> Result<MemListen, AllocError> {
         calls.push(call)?;
         (reads, writes) = (NEVER, NEVER);
     }
-    Ok(MemListen::new(alloc, calls, row.most, failing))
+    Ok(MemHall::new(
+        alloc,
+        calls,
+        row.most,
+        failing,
+        Vec::new(alloc),
+        Vec::new(alloc),
+    ))
 }
 
 /// The streams of a row.
@@ -201,7 +212,7 @@ fn streams_of(alloc: Global, row: &Row, input: &[u8]) -> Result<Streams, AllocEr
 /// What a row has of the network, with a first wire that gives these bytes.
 #[derive(Drop)]
 struct Network {
-    listen: MemListen,
+    listen: MemHall,
     dial: MemDial,
     inbox: MemInbox,
 }
@@ -209,7 +220,7 @@ struct Network {
 fn network_of(alloc: Global, row: &Row, wire: &[u8]) -> Result<Network, AllocError> {
     let inbox = inbox_of(alloc, row)?;
     let dial = dial_of(alloc, row, wire)?;
-    let listen = listener_of(alloc, row)?;
+    let listen = hall_of(alloc, row)?;
     Ok(Network {
         listen,
         dial,

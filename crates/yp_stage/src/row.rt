@@ -57,8 +57,9 @@ pub struct Row {
     /// What the turns bring, and the call of the inbox that fails: a turn or a letter.
     pub brings: &'static [Datagram],
     pub inbox: u64,
-    /// What each connection sends that calls, in turn, how many of them are to be accepted, and the accept that fails;
-    /// and the read, and the write or flush, of the first one that fail.
+    /// What each connection sends that calls, in turn, how many of them are to be accepted, and the call of the
+    /// listener that fails: a watch or an accept; and the read, and the write or flush, of the first connection that
+    /// fail.
     pub calls: &'static [Words],
     pub most: u32,
     pub accepts: u64,

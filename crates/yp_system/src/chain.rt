@@ -36,6 +36,11 @@ impl Chain {
         Ok(())
     }
 
+    /// Whether a place is in line.
+    pub fn contains(&self, place: u32) -> bool {
+        matches!(self.links.get(place as usize), Some(Some(_)))
+    }
+
     /// Who stands first.
     pub fn first(&self) -> Option<u32> {
         self.first

@@ -4,10 +4,9 @@ ghost use Rattle.std.specs.Prelude.{◌≡◌, ◌≤◌, [], ◌∷◌, None, I
 ghost use Rattle.yp_io.specs.Dials.{IsFresh};
 ghost use Rattle.yp_io.specs.Calls.{IsFreshCall, closed_then, ended_by};
 ghost use Rattle.yp_io.specs.Counts.{next_count};
-ghost use Rattle.yp_io.specs.inside.Hall.{try_halves_of};
+ghost use Rattle.yp_io.specs.Hall.{try_halves_of};
 
 use crate::inbox::peer_of;
-use crate::listen::TcpCloser;
 use crate::places::Limits;
 use crate::socket::{SocketSink, SocketSource};
 use crate::watch::{Door, TcpWatch};
@@ -43,8 +42,14 @@ const PROGRAM_IS_FULL: i32 = 24;
 
 const MACHINE_IS_FULL: i32 = 23;
 
-/// A connection that was accepted by TCP without waiting, and its caller.
+/// A connection that was accepted by TCP, and its caller.
 pub type SocketCall = Called<SocketSource, SocketSink>;
+
+/// What closes such connections. It counts them, and tells nothing of them.
+#[derive(Drop)]
+pub struct TcpCloser {
+    closed: u64,
+}
 
 /// A port of TCP over IPv4, on every address of this machine, for callers whom nobody waits for. It is opened at the
 /// first call, or by `open`, so that a command that has no use for it opens nothing, and a port that can't be opened is
@@ -62,6 +67,7 @@ pub struct TcpHall<R> {
     accepted: u32,
     returned: u64,
     faults: u64,
+    let_go: u64,
     limits: Limits,
     ghost within: { accepted ≤ most },
 }
@@ -73,6 +79,7 @@ impl<R: Net + Clock + Copy + Drop> TcpHall<R> {
         ensures most { ⟦<TcpHall<R> as Hall>⟧.most result ≡ most }
         ensures returned { ⟦<TcpHall<R> as Hall>⟧.returned result ≡ 0 }
         ensures faults { ⟦<TcpHall<R> as Hall>⟧.faults result ≡ 0 }
+        ensures let_go { ⟦<TcpHall<R> as Hall>⟧.let_go result ≡ 0 }
         ensures port { result.port ≡ port }
     {
         let limits = Limits {
@@ -89,6 +96,7 @@ impl<R: Net + Clock + Copy + Drop> TcpHall<R> {
         ensures most { ⟦<TcpHall<R> as Hall>⟧.most result ≡ most }
         ensures returned { ⟦<TcpHall<R> as Hall>⟧.returned result ≡ 0 }
         ensures faults { ⟦<TcpHall<R> as Hall>⟧.faults result ≡ 0 }
+        ensures let_go { ⟦<TcpHall<R> as Hall>⟧.let_go result ≡ 0 }
         ensures port { result.port ≡ port }
     {
         TcpHall {
@@ -100,6 +108,7 @@ impl<R: Net + Clock + Copy + Drop> TcpHall<R> {
             accepted: 0,
             returned: 0,
             faults: 0,
+            let_go: 0,
             limits,
         }
     }
@@ -111,6 +120,7 @@ impl<R: Net + Clock + Copy + Drop> TcpHall<R> {
         ensures most { ⟦<TcpHall<R> as Hall>⟧.most self.new ≡ ⟦<TcpHall<R> as Hall>⟧.most self.old }
         ensures returned { ⟦<TcpHall<R> as Hall>⟧.returned self.new ≡ ⟦<TcpHall<R> as Hall>⟧.returned self.old }
         ensures faults { ⟦<TcpHall<R> as Hall>⟧.faults self.new ≡ ⟦<TcpHall<R> as Hall>⟧.faults self.old }
+        ensures let_go { ⟦<TcpHall<R> as Hall>⟧.let_go self.new ≡ ⟦<TcpHall<R> as Hall>⟧.let_go self.old }
         ensures port { self.new.port ≡ self.old.port }
     {
         let _ = opened(self.alloc, &self.system, self.port, &mut self.door);
@@ -228,6 +238,8 @@ impl<R: Net + Clock + Copy + Drop> Hall for TcpHall<R> {
 
     ghost faults = { λ l. l.faults };
 
+    ghost let_go = { λ l. l.let_go };
+
     ghost closed = { λ _. None };
 
     ghost closed_count = { λ c. c.closed };
@@ -251,17 +263,28 @@ impl<R: Net + Clock + Copy + Drop> Hall for TcpHall<R> {
         }
     }
 
-    /// It fails where the port can't be opened, or the system gives no more to watch by.
+    /// It fails where the port can't be opened, or the system gives no more to watch by; then no watch tells of the
+    /// door any more. Where no more are to be accepted no port is opened.
     fn watch(&mut self) -> Result<TcpWatch<R>, Failed> {
-        match opened_watch(
-            self.alloc,
-            self.system,
-            self.port,
-            self.limits,
-            &mut self.door,
-        ) {
+        let watch = if self.accepted == self.most {
+            TcpWatch::new(self.alloc, self.system, None, self.limits)
+        } else {
+            opened_watch(
+                self.alloc,
+                self.system,
+                self.port,
+                self.limits,
+                &mut self.door,
+            )
+        };
+        match watch {
             Ok(watch) => Ok(watch),
-            Err(_) => Err(count_fault(&mut self.faults)),
+            Err(_) => {
+                if let Some(door) = &self.door {
+                    door.is_closed.store(true, Ordering::SeqCst);
+                }
+                Err(count_fault(&mut self.faults))
+            }
         }
     }
 
@@ -283,6 +306,10 @@ impl<R: Net + Clock + Copy + Drop> Hall for TcpHall<R> {
     fn take_in(&mut self, closer: TcpCloser) {
         self.returned = self.returned.saturating_add(closer.closed);
     }
+
+    fn end(&mut self, watch: TcpWatch<R>) {
+        self.let_go = self.let_go.saturating_add(watch.let_go());
+    }
 }
 
 // A watch of the door at a port.
@@ -293,10 +320,10 @@ fn opened_watch<R: Net + Clock + Drop>(
     limits: Limits,
     door: &mut Option<Arc<Door>>,
 ) -> io::Result<TcpWatch<R>>
-    ensures { IfOk result (λ watch. ⟦<TcpWatch<R> as Watch>⟧.faults watch ≡ 0) }
+    ensures { IfOk result (λ watch. ⟦<TcpWatch<R> as Watch>⟧.let_go watch ≡ 0) }
 {
     let Ok(same) = opened(alloc, &system, port, door)?.clone() else {
         return Err(ErrorKind::OutOfMemory.into());
     };
-    TcpWatch::new(alloc, system, same, limits)
+    TcpWatch::new(alloc, system, Some(same), limits)
 }

@@ -7,14 +7,12 @@
 //! may go on: that is tested.
 #![tactic(auto)]
 
-mod caller;
 mod chain;
 mod clock;
 mod dial;
 mod disk;
 mod hall;
 mod inbox;
-mod listen;
 mod locked;
 mod patient;
 mod places;
@@ -24,13 +22,11 @@ mod texts;
 mod watch;
 mod words;
 
-pub use caller::CallerReader;
 pub use clock::SystemClock;
 pub use dial::{TcpDial, TcpWire};
 pub use disk::FileDisk;
-pub use hall::{PAYMENT_SECONDS, RECORD_SECONDS, REST_SECONDS, SocketCall, TcpHall};
+pub use hall::{PAYMENT_SECONDS, RECORD_SECONDS, REST_SECONDS, SocketCall, TcpCloser, TcpHall};
 pub use inbox::{TURN_SECONDS, UdpInbox};
-pub use listen::{SILENCE_SECONDS, TcpCall, TcpCloser, TcpListen};
 pub use locked::{LockedFile, Locking, MapFile};
 pub use patient::Patient;
 pub use places::Limits;

@@ -194,10 +194,10 @@ impl Places {
         Some((place, limits.of(what).saturating_sub(passed)))
     }
 
-    // Who has been waited for longest, if that is too long. Its time begins anew.
+    // Who has been waited for longest, if that is too long and nothing has come of it meanwhile. Its time begins anew.
     fn late_for(&mut self, what: Awaited, now: Instant, limits: &Limits) -> Option<u32> {
         let (place, left) = self.longest(what, now, limits)?;
-        if !left.is_zero() {
+        if !left.is_zero() || self.ready.contains(place) {
             return None;
         }
         self.await_from(place, what, now);

@@ -24,7 +24,7 @@ pub(crate) struct Door {
     pub listener: TcpListener,
     /// Whether an accept found no descriptor left.
     pub is_short: AtomicBool,
-    /// Whether as many were accepted as were to be.
+    /// Whether nobody is let in any more.
     pub is_closed: AtomicBool,
 }
 
@@ -62,14 +62,14 @@ enum DoorState {
 #[derive(Drop)]
 pub struct TcpWatch<R> {
     system: R,
-    door: Arc<Door>,
+    door: Option<Arc<Door>>,
     door_state: DoorState,
     poll: Poll,
     events: Events,
     places: Places,
     limits: Limits,
     now: Instant,
-    faults: u64,
+    let_go: u64,
 }
 
 // Has the system tell of a socket by this number, also of what it has come to before.
@@ -86,17 +86,19 @@ fn register(poll: &Poll, socket: RawFd, token: Token, interests: Interest) -> io
 }
 
 impl<R: Net + Clock + Drop> TcpWatch<R> {
-    /// A watch of the door alone.
+    /// A watch of the door alone, where there is one.
     pub(crate) fn new(
         alloc: Global,
         system: R,
-        door: Arc<Door>,
+        door: Option<Arc<Door>>,
         limits: Limits,
     ) -> io::Result<TcpWatch<R>>
-        ensures { IfOk result (λ watch. ⟦<TcpWatch<R> as Watch>⟧.faults watch ≡ 0) }
+        ensures { IfOk result (λ watch. ⟦<TcpWatch<R> as Watch>⟧.let_go watch ≡ 0) }
     {
         let poll = Poll::new(&system)?;
-        register(&poll, door.listener.as_raw_fd(), DOOR, Interest::READABLE)?;
+        if let Some(door) = &door {
+            register(&poll, door.listener.as_raw_fd(), DOOR, Interest::READABLE)?;
+        }
         let Ok(events) = Events::with_capacity(alloc, EVENTS) else {
             return Err(ErrorKind::OutOfMemory.into());
         };
@@ -110,13 +112,13 @@ impl<R: Net + Clock + Drop> TcpWatch<R> {
             places: Places::new(alloc),
             limits,
             now,
-            faults: 0,
+            let_go: 0,
         })
     }
 
     // The time by the clock, or by its last reading.
     fn time(&mut self) -> Instant
-        ensures faults { self.new.faults ≡ self.old.faults }
+        ensures let_go { self.new.let_go ≡ self.old.let_go }
     {
         if let Ok(now) = Instant::now(&self.system) {
             self.now = now;
@@ -126,9 +128,12 @@ impl<R: Net + Clock + Drop> TcpWatch<R> {
 
     // One that is to be let go, where descriptors are short.
     fn relief(&mut self) -> Option<u32>
-        ensures faults { self.new.faults ≡ self.old.faults }
+        ensures let_go { self.new.let_go ≡ self.old.let_go }
     {
-        let is_short = &self.door.is_short;
+        let Some(door) = &self.door else {
+            return None;
+        };
+        let is_short = &door.is_short;
         if !is_short.load(Ordering::SeqCst) || !is_short.swap(false, Ordering::SeqCst) {
             return None;
         }
@@ -142,7 +147,7 @@ impl<R: Net + Clock + Drop> TcpWatch<R> {
 
     // What is known without a wait.
     fn known(&mut self) -> Option<Notice>
-        ensures faults { self.new.faults ≡ self.old.faults }
+        ensures let_go { self.new.let_go ≡ self.old.let_go }
     {
         if let Some(place) = self.places.take_ready() {
             return Some(Notice::Ready { place });
@@ -154,14 +159,20 @@ impl<R: Net + Clock + Drop> TcpWatch<R> {
             self.door_state = DoorState::Told;
             return Some(Notice::Door);
         }
+        None
+    }
+
+    // One that is over its time, and of whom the system has told nothing.
+    fn late(&mut self) -> Option<u32>
+        ensures let_go { self.new.let_go ≡ self.old.let_go }
+    {
         let now = self.time();
-        let place = self.places.late(now, &self.limits)?;
-        Some(Notice::Late { place })
+        self.places.late(now, &self.limits)
     }
 
     // How long the next wait may be.
     fn patience(&mut self) -> Duration
-        ensures faults { self.new.faults ≡ self.old.faults }
+        ensures let_go { self.new.let_go ≡ self.old.let_go }
     {
         if self.places.has_again() {
             return Duration::ZERO;
@@ -175,12 +186,15 @@ impl<R: Net + Clock + Drop> TcpWatch<R> {
 
     // Has the system tell of the door again, unless nobody comes any more.
     fn arm(&mut self)
-        ensures faults { self.new.faults ≡ self.old.faults }
+        ensures let_go { self.new.let_go ≡ self.old.let_go }
     {
-        if self.door.is_closed.load(Ordering::SeqCst) {
+        let Some(door) = &self.door else {
+            return;
+        };
+        if door.is_closed.load(Ordering::SeqCst) {
             return;
         }
-        let socket = self.door.listener.as_raw_fd();
+        let socket = door.listener.as_raw_fd();
         let registry = self.poll.registry();
         let told = registry.reregister(&mut SourceFd(&socket), DOOR, Interest::READABLE);
         if told.is_ok() {
@@ -190,7 +204,7 @@ impl<R: Net + Clock + Drop> TcpWatch<R> {
 
     // Takes in what the system tells.
     fn take_events(&mut self)
-        ensures faults { self.new.faults ≡ self.old.faults }
+        ensures let_go { self.new.let_go ≡ self.old.let_go }
     {
         for event in &self.events {
             match event.token() {
@@ -203,7 +217,7 @@ impl<R: Net + Clock + Drop> TcpWatch<R> {
 
     // Waits until the system tells anything, or time is up.
     fn wait(&mut self)
-        ensures faults { self.new.faults ≡ self.old.faults }
+        ensures let_go { self.new.let_go ≡ self.old.let_go }
     {
         let patience = self.patience();
         if self.door_state == DoorState::Told {
@@ -214,6 +228,31 @@ impl<R: Net + Clock + Drop> TcpWatch<R> {
         }
         self.take_events();
     }
+
+    // The next notice.
+    fn notice(&mut self) -> Notice
+        ensures let_go { self.new.let_go ≡ self.old.let_go }
+    {
+        if let Some(notice) = self.known() {
+            return notice;
+        }
+        self.wait();
+        if let Some(place) = self.late() {
+            return Notice::Late { place };
+        }
+        if let Some(notice) = self.known() {
+            return notice;
+        }
+        self.door_state = DoorState::Pending;
+        Notice::Quiet
+    }
+
+    // How many connections it has let go.
+    pub(crate) fn let_go(&self) -> u64
+        ensures { result ≡ self.entry.now.let_go }
+    {
+        self.let_go
+    }
 }
 
 impl<R: Net + Clock + Drop> Watch for TcpWatch<R> {
@@ -221,13 +260,13 @@ impl<R: Net + Clock + Drop> Watch for TcpWatch<R> {
 
     type Out = SocketSink;
 
-    ghost faults = { λ w. w.faults };
+    ghost let_go = { λ w. w.let_go };
 
     /// It fails where memory has run out, or the system can't watch so many.
     fn enter(&mut self, place: u32, wire: &Pair<SocketSource, SocketSink>) -> Result<(), Failed> {
         let now = self.time();
         let Ok(number) = self.places.enter(place, now) else {
-            return Err(count_fault(&mut self.faults));
+            return Err(count_fault(&mut self.let_go));
         };
         let socket = wire.source.descriptor();
         let interests = Interest::READABLE | Interest::WRITABLE;
@@ -235,7 +274,7 @@ impl<R: Net + Clock + Drop> Watch for TcpWatch<R> {
             Ok(()) => Ok(()),
             Err(_) => {
                 self.places.leave(place);
-                Err(count_fault(&mut self.faults))
+                Err(count_fault(&mut self.let_go))
             }
         }
     }
@@ -256,14 +295,10 @@ impl<R: Net + Clock + Drop> Watch for TcpWatch<R> {
     }
 
     fn next(&mut self) -> Notice {
-        if let Some(notice) = self.known() {
-            return notice;
+        let notice = self.notice();
+        if let Notice::Late { .. } = notice {
+            self.let_go = self.let_go.saturating_add(1);
         }
-        self.wait();
-        if let Some(notice) = self.known() {
-            return notice;
-        }
-        self.door_state = DoorState::Pending;
-        Notice::Quiet
+        notice
     }
 }

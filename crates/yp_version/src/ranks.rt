@@ -14,7 +14,7 @@ use std::cmp::Ordering;
 use yp_io::NoMemory;
 
 /// The place of a row, with the first bytes of its key as a number, which mostly tell which of two keys is the lower.
-#[derive(Clone, Copy, Debug)]
+#[derive(Clone, Copy)]
 pub(crate) struct Ranked {
     front: u64,
     place: u32,

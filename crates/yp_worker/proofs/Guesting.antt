@@ -6,8 +6,10 @@ use Rattle.yp_io.specs.declared.stream.Peer.{Peer}
 use Rattle.yp_io.specs.declared.ready.TrySource as try_source
 use Rattle.yp_io.specs.declared.ready.TrySink as try_sink
 use Rattle.yp_answer.specs.session.Hosts.{Conduct}
-use Rattle.yp_answer.specs.inside.session.Cuts.{Deed, DoesDeeds, GoesOn, IsCut, Talk, cut_of}
-use Rattle.yp_worker.specs.inside.Guests.{WorkerStep, Learned, Did, deeds_of, steps_then, TakesSteps, GuestState, came_with, WorksOn}
+use Rattle.yp_answer.specs.session.Cuts.{Deed, IsCut}
+use Rattle.yp_answer.specs.inside.session.Cuts.{DoesDeeds, GoesOn, Talk, cut_of}
+use Rattle.yp_worker.specs.Working.{WorkerStep, Learned, Did, deeds_of, TakesSteps}
+use Rattle.yp_worker.specs.inside.Guests.{steps_then, GuestState, came_with, WorksOn}
 
 -- ---- the deeds of a number
 
@@ -15,7 +17,7 @@ chosen : {X : Type 0} (b : Bool) (x y : X) → b ≡ true → (if b then x else 
 chosen true x y h = refl
 chosen false x y h = absurd (let e : false ≡ true = h in cc)
 
-left_out : {X : Type 0} (b : Bool) (x y : X) → b ≡ false → (if b then x else y) ≡ y
+pub left_out : {X : Type 0} (b : Bool) (x y : X) → b ≡ false → (if b then x else y) ≡ y
 left_out true x y h = absurd (let e : true ≡ false = h in cc)
 left_out false x y h = refl
 
@@ -24,7 +26,7 @@ either_way : (b : Bool) (deed : Deed) (whole front behind : List Deed) → whole
 either_way true deed whole front behind h = ap (λ (deeds : List Deed). deed ∷ deeds) h
 either_way false deed whole front behind h = h
 
-deeds_append : (number : ℕ) (steps more : List WorkerStep) → deeds_of number (steps ++ more) ≡ deeds_of number steps ++ deeds_of number more
+pub deeds_append : (number : ℕ) (steps more : List WorkerStep) → deeds_of number (steps ++ more) ≡ deeds_of number steps ++ deeds_of number more
 deeds_append number [] more = refl
 deeds_append number (Learned ∷ steps) more = deeds_append number steps more
 deeds_append number (Did one peer deed ∷ steps) more =
@@ -46,7 +48,7 @@ own_deeds : (steps : List WorkerStep) (number : ℕ) (peer : Peer) (deeds : List
 own_deeds steps number peer deeds =
     deeds_append number steps (map (Did number peer) deeds) ∙ ap (λ (l : List Deed). deeds_of number steps ++ l) (deeds_same number peer deeds)
 
-other_deeds : (steps : List WorkerStep) (number other : ℕ) (peer : Peer) (deeds : List Deed) → other ≢ number
+pub other_deeds : (steps : List WorkerStep) (number other : ℕ) (peer : Peer) (deeds : List Deed) → other ≢ number
     → deeds_of other (steps_then steps number peer deeds) ≡ deeds_of other steps
 other_deeds steps number other peer deeds apart =
     deeds_append other steps (map (Did number peer) deeds)

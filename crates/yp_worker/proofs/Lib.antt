@@ -1,5 +1,5 @@
 mod Growing
-mod Serving
 mod Receiving
 mod Summing
 mod Guesting
+mod Attending

@@ -6,10 +6,11 @@ use Rattle.std.proofs.lemmas.List.Elements.{Contains-append_left, Contains-push}
 use Rattle.std.proofs.lemmas.List.Sums.{fold-append}
 use Rattle.yp_io.specs.Counts.{HasRisen, capped}
 use Rattle.yp_io.specs.Dials.{Connected}
-use Rattle.yp_io.specs.Calls.{ListenerHistory, ClosedConnection, Accepting, ConnectionComes, GainsCall, IfCame, taken_in}
+use Rattle.yp_io.specs.Calls.{ListenerHistory, ClosedConnection, Accepting, ConnectionComes, GainsCall, taken_in}
 use Rattle.yp_io.specs.declared.called.Called.{Called}
-use Rattle.yp_io.specs.declared.listen.Arrival.{Arrival}
-use Rattle.yp_io.specs.declared.listen.Arrival.TheVariants.{Came}
+use Rattle.yp_io.specs.Hall.{IfComes}
+use Rattle.yp_io.specs.declared.hall.Coming.{Coming}
+use Rattle.yp_io.specs.declared.hall.Coming.TheVariants.{Came}
 use Rattle.yp_worker.specs.Receptions.{closed_in, GainsConnections, GainsWhereTold, IsExpected, ListenTells, AcceptsNoMore, IsListenerState}
 
 -- what a listener tells, as it was before the first connection
@@ -17,9 +18,9 @@ abbrev pub told : ListenTells → Accepting
 told opening = record { past = opening.past; most = opening.most; accepted = opening.accepted }
 
 -- what holds of the connection that came
-pub came_one : {S K : Type 0} (P : Called S K → Type 0) (arrival : Arrival S K) (call : Called S K)
-    → arrival ≡ Came call → IfCame P arrival → P call
-came_one P arrival call is h = subst (IfCame P) is h
+pub came_one : {S K : Type 0} (P : Called S K → Type 0) (arrival : Coming S K) (call : Called S K)
+    → arrival ≡ Came call → IfComes P arrival → P call
+came_one P arrival call is h = subst (IfComes P) is h
 
 -- before the first connection
 gains_none : (calls : ListenerHistory) → GainsConnections calls calls 0

@@ -13,8 +13,7 @@ use Rattle.yp_board.specs.Views.{IsFront}
 use Rattle.yp_answer.specs.session.Hosts.{Conduct}
 use Rattle.yp_worker.specs.Working.{Working}
 use Rattle.yp_worker.specs.Receptions.{Terms, IsUnder, GainsWhereTold, ListenTells}
-use Rattle.yp_worker.specs.Summing.{Counting, ServedConnection, ends_of, calls_of, WasServed, ServesConnections}
-use Rattle.yp_worker.specs.Summing.{WorkerRun, IsWorkerRun, stays_over, calls_over, sum_over, TellsClosed, SumsUp}
+use Rattle.yp_worker.specs.Summing.{Counting, ServedConnection, ends_of, calls_of, let_go_of, WorkerRun, IsWorkerRun, calls_over, TellsClosed, SumsUp}
 use Rattle.yp_worker.specs.inside.Summing.{worker_run_of, HasEnded}
 use Rattle.yp_worker.proofs.Growing.{front_then}
 
@@ -27,53 +26,6 @@ ends_more old new stays stay (Some calls) is more =
     more
     ∙ ap (λ (o : Option (List ClosedConnection)). closed_then o (stay.ended ∷ [])) is
     ∙ ap (λ (l : List ClosedConnection). Some l) (sym (map-append (λ (s : ServedConnection). s.ended) stays (stay ∷ [])))
-
-module _ {H T : Type 0} (conduct : Conduct H) (counted : H → T) (past : Option ListenerHistory) where
-  -- one more was served behind others
-  pub serves_more : (stays : List ServedConnection) (stay : ServedConnection) (first middle last : Working H)
-      → ServesConnections conduct counted past stays first middle → WasServed conduct counted past stay middle last
-      → ServesConnections conduct counted past (stays ++ stay ∷ []) first last
-  serves_more [] stay first middle last serves served =
-      (last, subst (λ (w : Working H). WasServed conduct counted past stay w last) serves served, refl)
-  serves_more (one ∷ stays) stay first middle last serves served =
-      (serves.0, serves.1, serves_more stays stay serves.0 middle last serves.2 served)
-
-module _ {H T : Type 0} (conduct : Conduct H) (counting : Counting H T) (terms : Terms) (past : Option ListenerHistory) where
-  -- before the first connection
-  pub none_served : (worker : Working H) (closed : Option (List ClosedConnection)) (count : ℕ) → IsUnder conduct terms worker
-      → counting.counted worker.host ≡ counting.none → IfSome past (λ _. closed ≡ Some []) → count ≡ 0
-      → HasEnded conduct counting terms past 0 0 worker closed count
-  none_served worker closed count under none is zero = record {
-    first = worker;
-    stays = [];
-    under = under;
-    from_none = none;
-    serves = refl;
-    connections_are = refl;
-    calls_read = refl;
-    told = is;
-    closed_are = omega (arith, zero);
-  }
-
-  -- one more was served
-  pub one_served : (connections calls : ℕ) (worker new : Working H) (closed closed' : Option (List ClosedConnection)) (count count' : ℕ)
-      (stay : ServedConnection) → HasEnded conduct counting terms past connections calls worker closed count
-      → WasServed conduct counting.counted past stay worker new → closed' ≡ closed_then closed (stay.ended ∷ [])
-      → count' ≡ next_count count
-      → HasEnded conduct counting terms past (connections + 1) (capped calls stay.calls) new closed' count'
-  one_served connections calls worker new closed closed' count count' stay has served more next = record {
-    first = has.first;
-    stays = has.stays ++ stay ∷ [];
-    under = has.under;
-    from_none = has.from_none;
-    serves = serves_more conduct counting.counted past has.stays stay has.first worker new has.serves served;
-    connections_are = let longer = length_push has.stays stay in omega (arith, longer, has.connections_are);
-    calls_read =
-        ap (λ (n : ℕ). capped n stay.calls) has.calls_read
-        ∙ sym (fold-append (λ (n : ℕ) (s : ServedConnection). capped n s.calls) 0 has.stays (stay ∷ []));
-    told = ends_more closed closed' has.stays stay past has.told more;
-    closed_are = let longer = length_push has.stays stay in omega (arith, longer, has.closed_are, next);
-  }
 
 abbrev list_of : {H : Type 0} → WorkerRun H → List ClosedConnection
 list_of worker_run = ends_of worker_run.stays
@@ -108,6 +60,7 @@ module _ {H T : Type 0} (conduct : Conduct H) (counting : Counting H T) (terms :
     worker_runs = [];
     closed = told_none now.past;
     returned = refl;
+    let_go = omega arith;
     work = All-nil (IsWorkerRun conduct counting terms now.past reached);
     calls_read = refl;
     sum_is = refl;
@@ -116,12 +69,13 @@ module _ {H T : Type 0} (conduct : Conduct H) (counting : Counting H T) (terms :
   -- one more came
   pub sums_came : (wire : Connected) (old now new : ListenTells) (out calls : ℕ) (sum : T) (reached : Log)
       → GainsWhereTold old.past now.past out → SumsUp conduct counting terms old now calls sum reached
-      → GainsCall wire now.past new.past → new.returned ≡ now.returned
+      → GainsCall wire now.past new.past → new.returned ≡ now.returned → new.let_go ≡ now.let_go
       → SumsUp conduct counting terms old new calls sum reached
-  sums_came wire old now new out calls sum reached tells sums gained returned = record {
+  sums_came wire old now new out calls sum reached tells sums gained returned let_go = record {
     worker_runs = sums.worker_runs;
     closed = told_came wire old.past now.past new.past out (map list_of sums.worker_runs) tells sums.closed gained;
     returned = ap (λ (r : ℕ). capped r 0) returned ∙ sums.returned;
+    let_go = let was = sums.let_go in omega (arith, was, let_go);
     work = sums.work;
     calls_read = sums.calls_read;
     sum_is = sums.sum_is;
@@ -129,12 +83,13 @@ module _ {H T : Type 0} (conduct : Conduct H) (counting : Counting H T) (terms :
 
   -- it tells what it told
   pub sums_same : (old now new : ListenTells) (calls : ℕ) (sum : T) (reached : Log) → new.past ≡ now.past
-      → new.returned ≡ now.returned → SumsUp conduct counting terms old now calls sum reached
+      → new.returned ≡ now.returned → new.let_go ≡ now.let_go → SumsUp conduct counting terms old now calls sum reached
       → SumsUp conduct counting terms old new calls sum reached
-  sums_same old now new calls sum reached same returned sums = record {
+  sums_same old now new calls sum reached same returned let_go sums = record {
     worker_runs = sums.worker_runs;
     closed = subst (λ (past : Option ListenerHistory). TellsClosed old.past past (map list_of sums.worker_runs)) (sym same) sums.closed;
     returned = ap (λ (r : ℕ). capped r 0) returned ∙ sums.returned;
+    let_go = let was = sums.let_go in omega (arith, was, let_go);
     work = sums.work;
     calls_read = sums.calls_read;
     sum_is = sums.sum_is;
@@ -145,7 +100,10 @@ module _ {H T : Type 0} (conduct : Conduct H) (counting : Counting H T) (terms :
   work_further past reached log grown worker_run work = record {
     under = work.under;
     from_none = work.from_none;
-    serves = work.serves;
+    takes = work.takes;
+    served = work.served;
+    apart = work.apart;
+    owned = work.owned;
     front = front_then (conduct.seen worker_run.last.host).known reached log work.front grown;
   }
 
@@ -163,6 +121,7 @@ module _ {H T : Type 0} (conduct : Conduct H) (counting : Counting H T) (terms :
     worker_runs = sums.worker_runs;
     closed = sums.closed;
     returned = sums.returned;
+    let_go = sums.let_go;
     work = all_further old.past reached log grown sums.worker_runs sums.work;
     calls_read = sums.calls_read;
     sum_is = sums.sum_is;
@@ -171,15 +130,15 @@ module _ {H T : Type 0} (conduct : Conduct H) (counting : Counting H T) (terms :
   -- a worker has ended, and its closer was taken in; the log goes on from what all others knew, and from what its host
   -- knew
   pub sums_ended : (old now new : ListenTells) (out calls : ℕ) (sum : T) (before after : Log) (connections read : ℕ)
-      (worker : Working H) (closed : Option (List ClosedConnection)) (count : ℕ) → GainsWhereTold old.past now.past out
+      (worker : Working H) (closed : Option (List ClosedConnection)) (count let_go : ℕ) → GainsWhereTold old.past now.past out
       → SumsUp conduct counting terms old now calls sum before
-      → HasEnded conduct counting terms old.past connections read worker closed count
-      → new.past ≡ taken_in now.past closed → new.returned ≡ capped now.returned count
+      → HasEnded conduct counting terms old.past connections read worker closed count let_go
+      → new.past ≡ taken_in now.past closed → new.returned ≡ capped now.returned count → new.let_go ≡ capped now.let_go let_go
       → IsFront (conduct.seen worker.host).known after → IsFront before after
       → SumsUp conduct counting terms old new (capped calls read) (counting.plus sum (counting.counted worker.host))
       after
-  sums_ended old now new out calls sum before after connections read worker closed count tells sums has taken returned covered kept =
-      let worker_run = worker_run_of has.first worker has.stays in record {
+  sums_ended old now new out calls sum before after connections read worker closed count let_go tells sums has taken returned gone covered kept =
+      let worker_run = worker_run_of has.first worker has.steps has.stays in record {
         worker_runs = sums.worker_runs ++ worker_run ∷ [];
         closed = subst (λ (lists : List (List ClosedConnection)). TellsClosed old.past new.past lists)
             (sym (map-append (λ (s : WorkerRun H). ends_of s.stays) sums.worker_runs (worker_run ∷ [])))
@@ -189,16 +148,23 @@ module _ {H T : Type 0} (conduct : Conduct H) (counting : Counting H T) (terms :
             let more = fold-append (λ (n : ℕ) (s : WorkerRun H). n + length s.stays) 0 sums.worker_runs (worker_run ∷ []) in
             let was = sums.returned in
             omega (arith, more, was, returned, has.closed_are);
+        let_go =
+            let more = fold-append (λ (n : ℕ) (s : WorkerRun H). n + let_go_of s.stays) 0 sums.worker_runs (worker_run ∷ []) in
+            let was = sums.let_go in
+            omega (arith, more, was, gone, has.let_go_are);
         work = All-push (IsWorkerRun conduct counting terms old.past after) sums.worker_runs worker_run
             (all_further old.past before after kept sums.worker_runs sums.work) (record {
               under = has.under;
               from_none = has.from_none;
-              serves = has.serves;
+              takes = has.takes;
+              served = has.served;
+              apart = has.apart;
+              owned = has.owned;
               front = covered;
             });
         calls_read =
             ap (λ (n : ℕ). capped n read) sums.calls_read
-            ∙ ap (λ (n : ℕ). capped (calls_over sums.worker_runs) n) has.calls_read
+            ∙ ap (λ (n : ℕ). capped (calls_over sums.worker_runs) n) has.calls_are
             ∙ sym (fold-append (λ (n : ℕ) (s : WorkerRun H). capped n (calls_of s.stays)) 0 sums.worker_runs (worker_run ∷ []));
         sum_is =
             ap (λ (total : T). counting.plus total (counting.counted worker.host)) sums.sum_is

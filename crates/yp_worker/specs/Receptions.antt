@@ -8,7 +8,7 @@ use Rattle.yp_board.specs.Views.{IsFront}
 use Rattle.yp_answer.specs.session.Hosts.{Conduct}
 use Rattle.yp_io.specs.Dials.{Connected}
 use Rattle.yp_io.specs.Calls.{ListenerHistory, ClosedConnection}
-use Rattle.yp_io.specs.declared.listen.Listen as listen
+use Rattle.yp_io.specs.declared.hall.Hall as hall
 use Rattle.yp_worker.specs.Working.{Working}
 
 -- what every connection gets: the maps, what was shown before the first came, and the most records of one
@@ -51,27 +51,24 @@ abbrev pub IsExpected : Option ListenerHistory → Connected → Type 0
 IsExpected past wire = IfSome past (λ calls. Contains calls.coming wire)
 
 -- a listener: what it tells, how many connections it is to accept and has accepted, how many were closed by closers
--- that it took in, and how often it has failed
+-- that it took in, how many its watches let go, and how often it has failed
 pub record ListenTells : Type 0 where
   pub past : Option ListenerHistory
   pub most : ℕ
   pub accepted : ℕ
   pub returned : ℕ
+  pub let_go : ℕ
   pub faults : ℕ
 
-abbrev pub listen_tells : {L : Type 0} → (L → Option ListenerHistory) → (L → ℕ) → (L → ℕ) → (L → ℕ) → (L → ℕ) → L
-    → ListenTells
-listen_tells past most accepted returned faults listener = record {
-  past = past listener;
-  most = most listener;
-  accepted = accepted listener;
-  returned = returned listener;
-  faults = faults listener;
+abbrev pub opening_by : {L X Y Z W : Type 0} → hall.Ghosts L X Y Z W → L → ListenTells
+opening_by ghosts listener = record {
+  past = ghosts.past listener;
+  most = ghosts.most listener;
+  accepted = ghosts.accepted listener;
+  returned = ghosts.returned listener;
+  let_go = ghosts.let_go listener;
+  faults = ghosts.faults listener;
 }
-
--- the same, by the bound of the listener
-abbrev pub opening_by : {L X Y Z : Type 0} → listen.Ghosts L X Y Z → L → ListenTells
-opening_by ghosts = listen_tells ghosts.past ghosts.most ghosts.accepted ghosts.returned ghosts.faults
 
 -- As many connections came as the listener accepted since, and all but so many of them were closed by closers that it
 -- took in.
@@ -83,7 +80,7 @@ pub record Accepts (old new : ListenTells) (connections out : ℕ) : Type 0 wher
   pub all : count ≡ gone + out
   pub returned : capped new.returned 0 ≡ capped old.returned gone
 
--- Workers end where all connections were accepted, or an accept has failed.
+-- Workers end where all connections were accepted, or an accept or the handing out of a watch has failed.
 abbrev pub AcceptsNoMore : Bool → ListenTells → Type 0
 AcceptsNoMore failed now = (failed ≡ true) ⊎ (now.accepted ≡ now.most)
 

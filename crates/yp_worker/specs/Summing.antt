@@ -1,17 +1,18 @@
--- What workers did with the connections of a listener: what each of them served, one connection after another, what was
--- counted in all, and how far their hosts knew the log.
-use Rattle.std.specs.Prelude.{◌≡◌, ℕ, ◌+◌, List, [], ◌∷◌, ◌++◌, length, map, fold, Option, Some, ⊤}
+-- What workers did with the connections of a listener: what each of them did, step by step, how each connection stood
+-- as it was closed, what was counted in all, and how far their hosts knew the log.
+use Rattle.std.specs.Prelude.{◌≡◌, ◌≢◌, ◌≤◌, ◌⊎◌, ℕ, ◌+◌, Bool, true, false, cond, List, [], ◌∷◌, ◌++◌, length, map, fold}
+use Rattle.std.specs.Prelude.{Contains, Option, Some, ⊤}
 use Rattle.std.specs.List.{All}
-use Rattle.yp_io.specs.Counts.{HasRisen, capped}
+use Rattle.yp_io.specs.Counts.{capped}
 use Rattle.yp_io.specs.Dials.{Connected, IsFresh, wire_state}
 use Rattle.yp_board.specs.Logs.{Log}
 use Rattle.yp_board.specs.Views.{IsFront}
 use Rattle.yp_answer.specs.declared.session.session.End.{End}
-use Rattle.yp_answer.specs.declared.session.session.End.TheVariants.{ReadFault, WriteFault}
 use Rattle.yp_answer.specs.session.Wires.{Wire}
 use Rattle.yp_answer.specs.session.Hosts.{Conduct}
+use Rattle.yp_answer.specs.session.Cuts.{Cut, IsCut, EndsSo}
 use Rattle.yp_io.specs.Calls.{ListenerHistory, ClosedConnection}
-use Rattle.yp_worker.specs.Working.{Working, Attends}
+use Rattle.yp_worker.specs.Working.{Working, WorkerStep, Learned, Did, deeds_of, TakesSteps}
 use Rattle.yp_worker.specs.Receptions.{Terms, IsUnder, IsExpected, ListenTells}
 
 -- how hosts count: what one has counted since it handed that over, the sum of nothing, and a sum and more
@@ -23,10 +24,13 @@ pub record Counting (H T : Type 0) : Type 0 where
 abbrev pub counting_of : {H T : Type 0} → (H → T) → T → (T → T → T) → Counting H T
 counting_of counted none plus = record { counted = counted; none = none; plus = plus }
 
--- a connection that was closed: what it told then, and how many records of it were read
+-- a connection that was closed: what it told then, how many records of it were read, the number of its conversation,
+-- and whether it was let go before that was over
 pub record ServedConnection : Type 0 where
   pub ended : ClosedConnection
   pub calls : ℕ
+  pub number : ℕ
+  pub let_go : Bool
 
 -- what a connection that came so tells where its wire tells this
 abbrev pub ended_at : Connected → Wire → ClosedConnection
@@ -45,60 +49,73 @@ ends_of stays = map (λ stay. stay.ended) stays
 abbrev pub calls_of : List ServedConnection → ℕ
 calls_of stays = fold (λ count stay. capped count stay.calls) 0 stays
 
--- A worker served a connection, one of those that were to come. Its wire had met no fault and taken nothing, and its
--- input was the whole one that came; its records were answered in turn, for the peer that called, and it was closed as
--- its wire was then. So many of its records were read.
+-- how many of them were let go
+abbrev pub let_go_of : List ServedConnection → ℕ
+let_go_of stays = fold (λ count stay. count + cond stay.let_go 1 0) 0 stays
+
+-- A conversation of at most so many records is over: it came to its end, or memory ran out in a reply.
+abbrev pub IsOver : ℕ → Cut → Type 0
+IsOver most now = ((end : End) × EndsSo most end now) ⊎ (now.broken ≡ true)
+
+-- A worker that took these steps served a connection, one of those that were to come. Its wire had met no fault and
+-- taken nothing, and its input was the whole one that came. Its conversation was cut behind the deeds of its number as
+-- it was closed, and it was over, unless the connection was let go. So many of its records were read.
 --
 -- The wire before is fixed by what the connection told as it came, but for whether its sink was flushed, and the wire
--- behind by what it told as it was closed.
-pub record WasServed {H T : Type 0} (conduct : Conduct H) (counted : H → T) (past : Option ListenerHistory)
-    (stay : ServedConnection)
-    (old new : Working H) : Type 0 where
-  pub end : End
+-- of the cut by what it told as it was closed.
+pub record WasServed (past : Option ListenerHistory) (most : ℕ) (steps : List WorkerStep) (stay : ServedConnection)
+    : Type 0 where
   pub before : Wire
-  pub after : Wire
-  pub wires : List Wire
+  pub cut : Cut
   pub expected : IsExpected past stay.ended.came
   pub whole : before.source.input ≡ stay.ended.came.input
   pub untaken : before.sink.output ≡ stay.ended.came.output
   pub fresh : IsFresh before.source.faults before.sink.faults before.sink.output
-  pub attends : Attends conduct counted stay.ended.came.peer end old new before after wires
-  pub read_fault : end ≡ ReadFault → HasRisen before.source.faults after.source.faults
-  pub write_fault : end ≡ WriteFault → HasRisen before.sink.faults after.sink.faults
-  pub ended : stay.ended ≡ ended_at stay.ended.came after
-  pub calls : stay.calls ≡ new.progress.calls
+  pub is_cut : IsCut before (deeds_of stay.number steps) cut
+  pub over : stay.let_go ≡ false → IsOver most cut
+  pub ended : stay.ended ≡ ended_at stay.ended.came cut.wire
+  pub calls : stay.calls ≡ cut.progress.calls
 
--- A worker served these connections, one after the other: to each it came as the one before it left it.
-abbrev pub ServesConnections : {H T : Type 0} → Conduct H → (H → T) → Option ListenerHistory → List ServedConnection
-    → Working H → Working H → Type 0
-ServesConnections conduct counted past [] old new = new ≡ old
-ServesConnections {H} conduct counted past (stay ∷ stays) old new =
-    (next : Working H) × WasServed conduct counted past stay old next
-    × ServesConnections conduct counted past stays next new
+-- No two of these have one number.
+abbrev pub AreApart : List ServedConnection → Type 0
+AreApart [] = ⊤
+AreApart (stay ∷ stays) = All (λ other. other.number ≢ stay.number) stays × AreApart stays
 
--- what a worker did with connections: how it was before the first and behind the last, and the connections
+-- A deed was done in the conversation of one of these connections, with its peer.
+abbrev pub IsStepOf : List ServedConnection → WorkerStep → Type 0
+IsStepOf stays Learned = ⊤
+IsStepOf stays (Did number peer deed) =
+    (stay : ServedConnection) × Contains stays stay × (stay.number ≡ number) × (stay.ended.came.peer ≡ peer)
+
+-- what a worker did: how it was before the first step and behind the last, its steps, and the connections that it
+-- closed, in that order
 pub record WorkerRun (H : Type 0) : Type 0 where
   pub first : Working H
   pub last : Working H
+  pub steps : List WorkerStep
   pub stays : List ServedConnection
 
--- Such a worker, whose host had counted nothing yet, served connections one after the other. What the host knows then
--- is a front of a log.
---
--- What the host knew before the first lies between the start and what it knew at the first record.
+-- Such a worker, whose host had counted nothing yet, took these steps, one after the other, all in the conversations of
+-- these connections. What the host knows then is a front of a log.
 pub record IsWorkerRun {H T : Type 0} (conduct : Conduct H) (counting : Counting H T) (terms : Terms)
     (past : Option ListenerHistory) (reached : Log) (worker_run : WorkerRun H) : Type 0 where
   pub under : IsUnder conduct terms worker_run.first
   pub from_none : counting.counted worker_run.first.host ≡ counting.none
-  pub serves : ServesConnections conduct counting.counted past worker_run.stays worker_run.first worker_run.last
+  pub takes : TakesSteps conduct counting.counted worker_run.steps worker_run.first.host worker_run.last.host
+  pub served : All (WasServed past terms.most worker_run.steps) worker_run.stays
+  pub apart : AreApart worker_run.stays
+  pub owned : All (IsStepOf worker_run.stays) worker_run.steps
   pub front : IsFront (conduct.seen worker_run.last.host).known reached
 
--- how many connections these are, and how many records of them were read, up to the last count
+-- how many connections these are, how many records of them were read, up to the last count, and how many were let go
 abbrev pub stays_over : {H : Type 0} → List (WorkerRun H) → ℕ
 stays_over worker_runs = fold (λ count worker_run. count + length worker_run.stays) 0 worker_runs
 
 abbrev pub calls_over : {H : Type 0} → List (WorkerRun H) → ℕ
 calls_over worker_runs = fold (λ count worker_run. capped count (calls_of worker_run.stays)) 0 worker_runs
+
+abbrev pub let_go_over : {H : Type 0} → List (WorkerRun H) → ℕ
+let_go_over worker_runs = fold (λ count worker_run. count + let_go_of worker_run.stays) 0 worker_runs
 
 -- what the hosts have counted in them, one after the other
 abbrev pub sum_over : {H T : Type 0} → Counting H T → List (WorkerRun H) → T
@@ -110,14 +127,15 @@ abbrev pub TellsClosed : Option ListenerHistory → Option ListenerHistory → L
 TellsClosed (Some old) (Some new) more = new.closed ≡ old.closed ++ more
 TellsClosed _ _ more = ⊤
 
--- A listener took in the closers of workers that worked so. What each closer tells is what its worker served, in that
--- order, and as many were closed as they served. So many of their records were read, and this is the sum of what was
--- counted in them. What each was answered on is a front of one log.
+-- A listener took in the closers of workers that worked so. What each closer tells is what its worker closed, in that
+-- order, and as many were closed as they served. No more were let go than its watches say. So many of their records
+-- were read, and this is the sum of what was counted in them. What each was answered on is a front of one log.
 pub record SumsUp {H T : Type 0} (conduct : Conduct H) (counting : Counting H T) (terms : Terms) (old new : ListenTells)
     (calls : ℕ) (sum : T) (reached : Log) : Type 0 where
   pub worker_runs : List (WorkerRun H)
   pub closed : TellsClosed old.past new.past (map (λ worker_run. ends_of worker_run.stays) worker_runs)
   pub returned : capped new.returned 0 ≡ capped old.returned (stays_over worker_runs)
+  pub let_go : capped old.let_go (let_go_over worker_runs) ≤ capped new.let_go 0
   pub work : All (IsWorkerRun conduct counting terms old.past reached) worker_runs
   pub calls_read : calls ≡ calls_over worker_runs
   pub sum_is : sum ≡ sum_over counting worker_runs

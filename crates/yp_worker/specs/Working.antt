@@ -1,31 +1,41 @@
--- A worker, and a connection that it served.
-use Rattle.std.specs.Prelude.{◌≡◌, ℕ, List}
+-- A worker, and what it does, step by step, in the conversations of its connections.
+use Rattle.std.specs.Prelude.{◌≡◌, ℕ, ◌==◌, if◌then◌else◌, List, [], ◌∷◌}
 use Rattle.yp_io.specs.declared.stream.Peer.{Peer}
-use Rattle.yp_board.specs.Views.{IsFront}
 use Rattle.yp_publisher.specs.sharing.Shares.{Learns}
-use Rattle.yp_answer.specs.declared.session.session.End.{End}
-use Rattle.yp_answer.specs.session.Progress.{Progress, begun}
-use Rattle.yp_answer.specs.session.Wires.{Wire}
 use Rattle.yp_answer.specs.session.Hosts.{Conduct}
-use Rattle.yp_answer.specs.session.Runs.{dialogue_at, Runs}
+use Rattle.yp_answer.specs.session.Cuts.{Deed, DoesDeed}
 
--- a worker: its host, the most records that it answers of one connection, and what its session keeps of the last one
+-- a worker: its host, and the most records that it answers of one connection
 pub record Working (H : Type 0) : Type 0 where
   pub host : H
   pub most : ℕ
-  pub progress : Progress
 
--- A connection was served: the host was told what others showed, or not, and from there on the records were answered
--- in turn. What it knew before is the front of what it knows, and its catalogue stays. It counts on from what it had
--- counted before.
-pub record Attends {H T : Type 0} (conduct : Conduct H) (counted : H → T) (peer : Peer) (end : End)
-    (old new : Working H) (before after : Wire) (wires : List Wire) : Type 0 where
-  pub start : H
-  pub learned : Learns (conduct.seen old.host) (conduct.seen start)
-  pub uncounted : conduct.counts start ≡ conduct.counts old.host
-  pub carried : counted start ≡ counted old.host
-  pub runs : Runs conduct peer old.most end (dialogue_at start before begun)
-      (dialogue_at new.host after new.progress) wires
-  pub grown : IsFront (conduct.seen start).known (conduct.seen new.host).known
-  pub catalogue : (conduct.seen new.host).catalogue ≡ (conduct.seen old.host).catalogue
-  pub most : new.most ≡ old.most
+-- its host was told what others showed; or a deed was done in the conversation of a number, with this peer
+pub data WorkerStep : Type 0 where
+  Learned : WorkerStep
+  Did : (number : ℕ) (peer : Peer) (deed : Deed) → WorkerStep
+
+-- the deeds of one conversation
+abbrev pub deeds_of : ℕ → List WorkerStep → List Deed
+deeds_of number [] = []
+deeds_of number (Learned ∷ steps) = deeds_of number steps
+deeds_of number (Did one peer deed ∷ steps) =
+    if one == number then deed ∷ deeds_of number steps else deeds_of number steps
+
+-- a host counts so
+module _ {H T : Type 0} (conduct : Conduct H) (counted : H → T) where
+  -- A host was told what others showed, or not, and has counted nothing.
+  pub record IsTold (old new : H) : Type 0 where
+    pub learned : Learns (conduct.seen old) (conduct.seen new)
+    pub counts : conduct.counts new ≡ conduct.counts old
+    pub kept : counted new ≡ counted old
+
+  -- what a step does to the host
+  abbrev pub TakesStep : WorkerStep → H → H → Type 0
+  TakesStep Learned old new = IsTold old new
+  TakesStep (Did number peer deed) old new = DoesDeed conduct peer deed old new
+
+  -- steps, one after the other
+  abbrev pub TakesSteps : List WorkerStep → H → H → Type 0
+  TakesSteps [] old new = new ≡ old
+  TakesSteps (step ∷ steps) old new = (mid : H) × TakesStep step old mid × TakesSteps steps mid new

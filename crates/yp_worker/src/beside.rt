@@ -13,7 +13,7 @@ use crate::worker::Worker;
 use std::sync::ledger::Ledger;
 use std::sync::{Mutex, Wait};
 use std::thread::{Threads, join};
-use yp_io::Listen;
+use yp_io::Hall;
 
 /// Runs two workers side by side, each in a thread of its own, until both have ended. Their passes come back with what
 /// each counted.
@@ -29,10 +29,11 @@ where
     H: HandsOver + Send + Drop,
     H::Sum: Send,
     G: Gate + Copy + Send + Drop,
-    L: Listen + Send,
+    L: Hall + Send,
     L::In: Send,
     L::Out: Send,
     L::Closer: Send,
+    L::Watch: Send,
     requires first { IsUnder (conduct_by H.Host) (terms_by J.Reception) first.0 }
     requires second { IsUnder (conduct_by H.Host) (terms_by J.Reception) second.0 }
     requires none { (H.counted first.0.host ≡ H.none) × (H.counted second.0.host ≡ H.none) }
@@ -55,7 +56,7 @@ where
 }
 
 /// Runs a worker, and hands its pass back.
-fn ran<J: Reception, E: Ledger, H: HandsOver + Drop, G: Gate + Copy + Drop, L: Listen, R: Wait>(
+fn ran<J: Reception, E: Ledger, H: HandsOver + Drop, G: Gate + Copy + Drop, L: Hall, R: Wait>(
     rt: &R,
     listening: &Mutex<Listening<J, E, H, L>>,
     mut worker: Worker<H, G>,

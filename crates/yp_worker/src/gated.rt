@@ -1,12 +1,13 @@
 //! A sink behind a gate.
 
-ghost use Rattle.std.specs.Prelude.{◌≡◌, ◌<◌, ◌≤◌, false, IsTrue, length, IfOk, OnOk};
-ghost use Rattle.std.specs.Io.KnownBytes.{Keeps, WriteAppends};
+ghost use Rattle.std.specs.Prelude.{◌≡◌, ◌<◌, ◌≤◌, false, IsTrue, length, IfOk, IfSome};
+ghost use Rattle.std.specs.Io.KnownBytes.{Keeps};
 ghost use Rattle.yp_io.specs.Counts.{CountsFaults};
+ghost use Rattle.yp_io.specs.Ready.{TriesToWrite};
 
 use crate::gate::{Gate, Point};
 use std::marker::Model;
-use yp_io::{Failed, Sink};
+use yp_io::{Failed, TrySink};
 
 /// A sink that tells a gate of each write before it, and of each flush behind it. It is seen as the sink.
 #[derive(Drop)]
@@ -22,7 +23,7 @@ impl<K, G> Model for Gated<K, G> {
     ghost view = { λ g. g.sink };
 }
 
-impl<K, G: Copy> Gated<K, G> {
+impl<K, G> Gated<K, G> {
     /// The sink of this connection, behind the gate.
     pub fn new(sink: K, gate: G, connection: u64) -> Gated<K, G>
         ensures { result ≡ sink }
@@ -36,6 +37,8 @@ impl<K, G: Copy> Gated<K, G> {
 
     /// The sink, without the gate.
     pub fn into_sink(self) -> K
+    where
+        G: Drop,
         ensures { result ≡ self }
     {
         let Gated {
@@ -47,25 +50,27 @@ impl<K, G: Copy> Gated<K, G> {
     }
 }
 
-impl<K: Sink, G: Gate> Sink for Gated<K, G> {
+impl<K: TrySink, G: Gate> TrySink for Gated<K, G> {
     ghost output = { K.output };
 
     ghost flushed = { K.flushed };
 
     ghost faults = { K.faults };
 
-    fn write(&mut self, piece: &[u8]) -> Result<usize, Failed> {
+    fn try_write(&mut self, piece: &[u8]) -> Result<Option<usize>, Failed> {
         self.gate.at(Point::Piece {
             connection: self.connection,
         });
-        self.sink.write(piece)
+        self.sink.try_write(piece)
     }
 
-    fn flush(&mut self) -> Result<(), Failed> {
-        self.sink.flush()?;
-        self.gate.at(Point::Replied {
-            connection: self.connection,
-        });
-        Ok(())
+    fn try_flush(&mut self) -> Result<bool, Failed> {
+        let is_flushed = self.sink.try_flush()?;
+        if is_flushed {
+            self.gate.at(Point::Replied {
+                connection: self.connection,
+            });
+        }
+        Ok(is_flushed)
     }
 }

@@ -1,27 +1,29 @@
-//! A caller of a worker that has many, and the conversation with it.
+//! A caller of a worker, and the conversation with it.
 
 ghost use Rattle.std.specs.Prelude.{◌≡◌, [], true, false, None, length, IfSome};
 ghost use Rattle.yp_answer.specs.session.Progress.{begun};
 ghost use Rattle.yp_answer.specs.inside.session.Hosts.{conduct_by};
-ghost use Rattle.yp_answer.specs.inside.session.Cuts.{ComesTo, cut_of};
+ghost use Rattle.yp_answer.specs.inside.session.Cuts.{ComesTo, awaited_in, cut_of};
 ghost use Rattle.yp_answer.specs.inside.session.Errands.{IsDue};
 ghost use Rattle.yp_worker.specs.inside.Guests.{WorksOn};
 
 use crate::catch_up::CatchUp;
+use crate::gate::Gate;
+use crate::gated::Gated;
 use std::alloc::Global;
 use std::marker::Model;
 use yp_answer::session::{Advance, Buffers, Conversation, Terms};
-use yp_io::{CallOrigin, Called, Pair, TrySink, TrySource};
+use yp_io::{Awaited, CallOrigin, Called, Pair, TrySink, TrySource};
 
-/// A caller, and the conversation with it. Its number tells it from all others of its worker.
+/// A caller, and the conversation with it, behind a gate. Its number tells it from all others of its worker.
 #[derive(Drop)]
-pub struct Guest<S, K> {
+pub struct Guest<S, K, G> {
     origin: CallOrigin<S, K>,
     number: u64,
-    conversation: Conversation<S, K>,
+    conversation: Conversation<S, Gated<K, G>>,
 }
 
-impl<S, K> Model for Guest<S, K> {
+impl<S, K, G> Model for Guest<S, K, G> {
     ghost use Rattle.yp_worker.specs.inside.Guests.{GuestState};
 
     ghost Value = { GuestState S K };
@@ -29,9 +31,15 @@ impl<S, K> Model for Guest<S, K> {
     ghost view = { λ g. record { origin = g.origin; number = g.number; talk = g.conversation } };
 }
 
-impl<S, K> Guest<S, K> {
-    /// Before the first record of a connection.
-    pub fn new(alloc: Global, number: u64, call: Called<S, K>) -> Guest<S, K>
+impl<S, K, G> Guest<S, K, G> {
+    /// Before the first record of a connection, which stands at the gate by this number.
+    pub fn new(
+        alloc: Global,
+        number: u64,
+        call: Called<S, K>,
+        gate: G,
+        connection: u64,
+    ) -> Guest<S, K, G>
         ensures origin { result.origin ≡ call.origin }
         ensures number { result.number ≡ number }
         ensures talk { result.talk ≡ record {
@@ -47,10 +55,12 @@ impl<S, K> Guest<S, K> {
         } }
     {
         let Called { origin, wire } = call;
+        let Pair { source, sink } = wire;
+        let sink = Gated::new(sink, gate, connection);
         Guest {
             origin,
             number,
-            conversation: Conversation::new(alloc, wire),
+            conversation: Conversation::new(alloc, Pair { source, sink }),
         }
     }
 
@@ -61,8 +71,24 @@ impl<S, K> Guest<S, K> {
         self.conversation.calls()
     }
 
+    /// What it waits for, where its wire can't go on.
+    pub fn awaited(&self) -> Awaited
+        ensures { result ≡ awaited_in self.now.talk.settled self.now.talk.incoming }
+    {
+        self.conversation.awaited()
+    }
+
+    /// Whether a record was read whole, or some of what is owed was taken, since this was asked last.
+    pub fn take_moved(&mut self) -> bool
+        ensures { self.new ≡ self.old }
+    {
+        self.conversation.take_moved()
+    }
+
     /// The connection. What is owed to it is dropped.
     pub fn into_call(self) -> Called<S, K>
+    where
+        G: Drop,
         ensures origin { result.origin ≡ self.origin }
         ensures source { result.wire.source ≡ self.talk.source }
         ensures sink { result.wire.sink ≡ self.talk.sink }
@@ -75,12 +101,15 @@ impl<S, K> Guest<S, K> {
         let Pair { source, sink } = conversation.into_wire();
         Called {
             origin,
-            wire: Pair { source, sink },
+            wire: Pair {
+                source,
+                sink: sink.into_sink(),
+            },
         }
     }
 }
 
-impl<S: TrySource, K: TrySink> Guest<S, K> {
+impl<S: TrySource, K: TrySink, G: Gate> Guest<S, K, G> {
     /// Goes on by at most so many steps. At most `most` of its records are answered, and transfers are carried out
     /// where that is said.
     pub fn advance<H: CatchUp>(

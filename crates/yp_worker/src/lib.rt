@@ -1,14 +1,14 @@
-//! One worker of a server: a host, the memory of a session, and a gate that is told of its steps.
+//! One worker of a server: a host, the memory for records and replies, and a gate that is told of its steps.
 //!
-//! A worker serves one connection after another, and what its host knows never goes back between them. What goes out on
-//! a connection for what comes in stands on [`Worker::one`]. Workers share a listener under one lock. What each that
-//! has ended served, one connection after the other, is a fact of the type [`Listening`], which lies under the lock,
-//! and stands on [`Listening::close`]; so does the sum of what their hosts counted, and that what each was answered on
-//! is a front of one log. That a worker ends by an end of the listener alone stands on [`Worker::run`], and of two in
-//! threads on [`run_beside`].
+//! A worker serves many connections at once and waits for none of them: it goes on with each as far as its wire can,
+//! and what its host knows never goes back between two steps. What it does to one of them, and that all others stand
+//! as they stood, stands on [`Guest::advance`]. Workers share a listener under one lock. What each that has ended did,
+//! step by step, and how each connection stood as it was closed, is a fact of the type [`Listening`], which lies under
+//! the lock, and stands on [`Listening::close`]; so does the sum of what their hosts counted, and that what each was
+//! answered on is a front of one log. That a worker ends by an end of the listener alone, with no connection that is
+//! still out, stands on [`Worker::run`], and of two in threads on [`run_beside`].
 //!
-//! [`datagrams`] answers the datagrams of a server. What a worker of many callers at once does to each of them, as it
-//! goes on with one, stands on [`Guest::advance`].
+//! [`datagrams`] answers the datagrams of a server.
 #![tactic(auto)]
 
 mod beside;

@@ -1,8 +1,8 @@
 //! What lies under the lock of a listener.
 
-ghost use Rattle.std.specs.Prelude.{◌≡◌, ◌<◌, ◌≤◌, ◌+◌, [], length, false, true, ℕ, Some, IfSome};
+ghost use Rattle.std.specs.Prelude.{◌≡◌, ◌<◌, ◌≤◌, ◌+◌, [], length, false, true, ℕ, Some, IfSome, IfOk, OnOk, OnErr};
 ghost use Rattle.yp_io.specs.Counts.{capped};
-ghost use Rattle.yp_io.specs.Calls.{halves_of};
+ghost use Rattle.yp_io.specs.Hall.{try_halves_of};
 ghost use Rattle.yp_answer.specs.inside.session.Hosts.{conduct_by};
 ghost use Rattle.yp_worker.specs.Receptions.{IsListenerState, opening_by};
 ghost use Rattle.yp_worker.specs.inside.Receptions.{Admits, IsExpectedCall, terms_by};
@@ -14,7 +14,7 @@ use crate::tally::Tally;
 use crate::worker::Worker;
 use std::marker::{Brand, Model};
 use std::sync::ledger::{Book, Ledger, Share};
-use yp_io::{Arrival, Called, Failed, Listen};
+use yp_io::{Called, Coming, Failed, Hall};
 use yp_publisher::sharing::Site;
 
 /// What every connection of a listener gets, and how the listener was before the first. Each call of a program that
@@ -41,7 +41,7 @@ impl Reception for Brand {
 
     ghost most = { 0 };
 
-    ghost opening = { record { past = None; most = 0; accepted = 0; returned = 0; faults = 0 } };
+    ghost opening = { record { past = None; most = 0; accepted = 0; returned = 0; let_go = 0; faults = 0 } };
 }
 
 /// What a worker gets of a listener.
@@ -49,9 +49,11 @@ impl Reception for Brand {
 pub enum Admission<S, K> {
     /// A connection, with its number, from 1.
     Came { call: Called<S, K>, connection: u64 },
+    /// None now.
+    NotNow,
     /// None, since as many were accepted as are to be.
     Closed,
-    /// None, since an accept has failed, this one or one before it.
+    /// None, since an accept has failed, this one or one before it, or a worker could have no watch.
     Failed,
 }
 
@@ -110,7 +112,7 @@ impl<J: Ledger, E: Ledger> Pass<J, E> {
 /// A listener, what workers that have ended did with its connections, and the sum of what was counted in them, with a
 /// log of which each was answered on a front.
 #[derive(Drop)]
-pub struct Listening<J: Reception, E: Ledger, H: HandsOver, L: Listen> {
+pub struct Listening<J: Reception, E: Ledger, H: HandsOver, L: Hall> {
     listen: L,
     connections: u64,
     calls: u64,
@@ -120,7 +122,7 @@ pub struct Listening<J: Reception, E: Ledger, H: HandsOver, L: Listen> {
     sum: H::Sum,
 }
 
-impl<J: Reception, E: Ledger, H: HandsOver, L: Listen> Model for Listening<J, E, H, L> {
+impl<J: Reception, E: Ledger, H: HandsOver, L: Hall> Model for Listening<J, E, H, L> {
     ghost use Rattle.yp_answer.specs.session.Hosts.{conduct_of};
     ghost use Rattle.yp_worker.specs.Receptions.{IsListenerState, opening_by, terms_of};
     ghost use Rattle.yp_worker.specs.inside.Receptions.{ListenerState};
@@ -137,18 +139,18 @@ impl<J: Reception, E: Ledger, H: HandsOver, L: Listen> Model for Listening<J, E,
       ended = l.ended.total;
     } };
 
-    ghost invariant = { λ l. IsListenerState J.opening (opening_by L.Listen l.listen)
+    ghost invariant = { λ l. IsListenerState J.opening (opening_by L.Hall l.listen)
         l.connections l.failed l.out.total l.ended.total
         × SumsUp (conduct_of H.seen H.told H.counts H.stepped H.made H.carried)
         (counting_of H.counted H.none H.plus) (terms_of J.catalogue J.starts J.most) J.opening
-        (opening_by L.Listen l.listen)
+        (opening_by L.Hall l.listen)
         l.calls (H.summed l.sum) (H.reached l.sum) };
 }
 
-impl<J: Reception, E: Ledger, H: HandsOver, L: Listen> Listening<J, E, H, L> {
+impl<J: Reception, E: Ledger, H: HandsOver, L: Hall> Listening<J, E, H, L> {
     /// A listener before its first connection.
     pub fn new(listen: L, out: Book<J>, ended: Book<E>, sum: H::Sum) -> Listening<J, E, H, L>
-        requires opening { opening_by L.Listen listen ≡ J.opening }
+        requires opening { opening_by L.Hall listen ≡ J.opening }
         requires none_out { out.total ≡ 0 }
         requires none_ended { ended.total ≡ 0 }
         requires none_counted { H.summed sum ≡ H.none }
@@ -172,23 +174,25 @@ impl<J: Reception, E: Ledger, H: HandsOver, L: Listen> Listening<J, E, H, L> {
         }
     }
 
-    /// Accepts the next connection, where no accept has failed.
+    /// Accepts the next connection where one is there, and nothing has failed before.
     pub(crate) fn admit(&mut self, pass: &mut Pass<J, E>) -> Admission<L::In, L::Out>
-        ensures { Admits (IsExpectedCall (halves_of L.In.Source L.Out.Sink) J.opening.past) result pass.old pass.new }
+        ensures { Admits (IsExpectedCall (try_halves_of L.In.TrySource L.Out.TrySink) J.opening.past) result
+            pass.old pass.new }
     {
         if self.failed {
             self.ended.add(&mut pass.ended, 1);
             return Admission::Failed;
         }
-        match self.listen.accept() {
-            Ok(Arrival::Came(call)) => {
+        match self.listen.try_accept() {
+            Ok(Coming::Came(call)) => {
                 self.out.add(&mut pass.out, 1);
                 self.out.audit(&mut pass.out);
                 self.connections = self.connections.saturating_add(1);
                 let connection = self.connections;
                 Admission::Came { call, connection }
             }
-            Ok(Arrival::Closed) => {
+            Ok(Coming::NotNow) => Admission::NotNow,
+            Ok(Coming::Closed) => {
                 self.ended.add(&mut pass.ended, 1);
                 Admission::Closed
             }
@@ -200,27 +204,39 @@ impl<J: Reception, E: Ledger, H: HandsOver, L: Listen> Listening<J, E, H, L> {
         }
     }
 
-    /// A closer of the listener.
-    pub(crate) fn closer(&self) -> L::Closer
-        ensures closed { IfSome J.opening.past (λ _. L.closed result ≡ Some []) }
-        ensures count { L.closed_count result ≡ 0 }
+    /// What a worker closes its connections by, and what watches them. Where it can't have that, the worker has ended.
+    pub(crate) fn begin(&mut self, pass: &mut Pass<J, E>) -> Result<(L::Closer, L::Watch), Failed>
+        ensures closed { IfOk result (λ begun. IfSome J.opening.past (λ _. L.closed begun.0 ≡ Some [])) }
+        ensures count { IfOk result (λ begun. L.closed_count begun.0 ≡ 0) }
+        ensures let_go { IfOk result (λ begun. L.Watch.Watch.let_go begun.1 ≡ 0) }
+        ensures same { OnOk result (pass.new ≡ pass.old) }
+        ensures ended { OnErr result (pass.new ≡ record pass.old { ended = pass.old.ended + 1 }) }
     {
-        self.listen.closer()
+        match self.listen.watch() {
+            Ok(watch) => Ok((self.listen.closer(), watch)),
+            Err(Failed) => {
+                self.ended.add(&mut pass.ended, 1);
+                self.failed = true;
+                Err(Failed)
+            }
+        }
     }
 
-    /// Takes in the closer of a worker that has ended, with what it counted: so many connections, and so many of their
-    /// records.
+    /// Takes in the closer and the watch of a worker that has ended, with what it counted: so many connections, and so
+    /// many of their records.
     pub(crate) fn retire<G>(
         &mut self,
         pass: &mut Pass<J, E>,
         closer: L::Closer,
+        watch: L::Watch,
         tally: &Tally,
         worker: &mut Worker<H, G>,
     )
         requires out { tally.now.connections ≤ pass.old.out }
         requires served { HasEnded (conduct_by H.Host) (counting_of H.counted H.none H.plus)
             (terms_by J.Reception) J.opening.past
-            tally.now.connections tally.now.calls worker.old (L.closed closer) (L.closed_count closer) }
+            tally.now.connections tally.now.calls worker.old (L.closed closer) (L.closed_count closer)
+            (L.Watch.Watch.let_go watch) }
         ensures out { pass.new.out + tally.now.connections ≡ pass.old.out }
         ensures same { pass.new ≡ record pass.old { out = pass.new.out } }
         ensures seen { H.seen worker.new.host ≡ H.seen worker.old.host }
@@ -231,18 +247,19 @@ impl<J: Reception, E: Ledger, H: HandsOver, L: Listen> Listening<J, E, H, L> {
         self.calls = self.calls.saturating_add(tally.calls);
         worker.hand_over(&mut self.sum);
         self.listen.take_in(closer);
+        self.listen.end(watch);
     }
 
     /// The listener, once all its workers have ended and been joined, with how many connections came, how many of
-    /// their records were read, and whether an accept has failed, and the sum of what the workers counted.
+    /// their records were read, and whether an accept or a watch has failed, and the sum of what the workers counted.
     pub fn close(self, pass: &mut Pass<J, E>) -> (L, Tally, H::Sum)
         requires all { pass.old.parts ≡ J.parts }
         requires none_out { pass.old.out ≡ 0 }
         requires ended { 0 < pass.old.ended }
-        ensures kept { IsListenerState J.opening (opening_by L.Listen result.0) result.1.connections
+        ensures kept { IsListenerState J.opening (opening_by L.Hall result.0) result.1.connections
             result.1.listen_fault 0 1 }
         ensures summed { SumsUp (conduct_by H.Host) (counting_of H.counted H.none H.plus) (terms_by J.Reception)
-            J.opening (opening_by L.Listen result.0)
+            J.opening (opening_by L.Hall result.0)
             result.1.calls (H.summed result.2) (H.reached result.2) }
         ensures same { pass.new ≡ pass.old }
     {

@@ -1,28 +1,82 @@
-//! A worker that serves the connections of a listener, which others share.
+//! A worker that serves the connections of a listener, which others share: all that it accepted at once, and it waits
+//! for none of them.
 
-ghost use Rattle.std.specs.Prelude.{◌≡◌, ◌<◌, ◌+◌, ◌^◌};
+ghost use Rattle.std.specs.Prelude.{◌≡◌, ◌≤◌, ◌<◌, ◌+◌, ℕ, true, false, length, IfSome, IfNone};
+ghost use Rattle.slab.specs.Slab.{HasRoomFor, get, slab_len};
+ghost use Rattle.yp_io.specs.Counts.{next_count};
+ghost use Rattle.yp_io.specs.Hall.{try_halves_of};
 ghost use Rattle.yp_board.specs.Views.{IsFront};
-ghost use Rattle.yp_io.specs.Calls.{halves_of};
 ghost use Rattle.yp_answer.specs.inside.session.Hosts.{conduct_by};
+ghost use Rattle.yp_answer.specs.inside.session.Errands.{IsDue};
+ghost use Rattle.yp_answer.specs.inside.session.Cuts.{ComesTo, cut_of};
 ghost use Rattle.yp_worker.specs.Receptions.{IsUnder};
 ghost use Rattle.yp_worker.specs.inside.Receptions.{Admits, IsExpectedCall, terms_by};
-ghost use Rattle.yp_worker.specs.Summing.{counting_of};
-ghost use Rattle.yp_worker.specs.inside.Summing.{HasEnded};
+ghost use Rattle.yp_worker.specs.Summing.{IsOver, counting_of};
+ghost use Rattle.yp_worker.specs.inside.Guests.{Comes, GoesOnAt, HasServed, let_go_where, serving_of, came_to};
 
 use crate::catch_up::HandsOver;
-use crate::gate::Gate;
+use crate::gate::{Gate, Point};
+use crate::guest::Guest;
 use crate::listening::{Admission, Listening, Pass, Reception};
 use crate::tally::Tally;
 use crate::worker::Worker;
+use slab::Slab;
 use std::sync::ledger::Ledger;
 use std::sync::{Mutex, Wait};
-use yp_io::{Called, Listen};
+use yp_answer::session::Advance;
+use yp_io::{Awaited, Called, Hall, Notice, TrySink, TrySource, Watch};
 
-impl<H: HandsOver, G: Gate + Copy> Worker<H, G> {
-    /// Serves connections, one after another, until as many were accepted as are to be, or an accept has failed. Then
-    /// it hands over what its closer tells, and what its host has counted. It holds the lock of the listener only while
-    /// a connection is accepted, and at the end.
-    pub fn run<J: Reception, E: Ledger, L: Listen, R: Wait>(
+/// The most steps that are done for one connection before the others are looked at: a record that is answered, a read,
+/// or a write.
+const TURN_STEPS: u32 = 16;
+
+/// What a worker has at work: its guests, each under the key of its place, what closes and what watches them, what was
+/// counted, and whether more are to be accepted.
+#[derive(Drop)]
+struct Shift<L: Hall, G> {
+    guests: Slab<Guest<L::In, L::Out, G>>,
+    closer: L::Closer,
+    watch: L::Watch,
+    tally: Tally,
+    is_open: bool,
+}
+
+impl<L: Hall, G> Shift<L, G> {
+    /// Whether no more come, and all who came are gone.
+    fn is_over(&self) -> bool
+        ensures { result ≡ true → (self.now.is_open ≡ false) × (slab_len self.now.guests ≡ 0) }
+    {
+        !self.is_open && self.guests.is_empty()
+    }
+
+    /// Takes room for one guest more, and answers whether there is.
+    fn has_room(&mut self) -> bool
+        ensures room { result ≡ true → HasRoomFor self.new.guests 1 × (self.new.guests.vacant_key ≤ 4294967295) }
+        ensures same { self.new ≡ record self.old {
+          guests = record self.old.guests { capacity = self.new.guests.capacity };
+        } }
+    {
+        self.guests.reserve(1).is_ok() && self.guests.vacant_key() <= u32::MAX as usize
+    }
+}
+
+/// How a guest went on: what that came to, what it waits for, and whether it has moved.
+#[derive(Drop)]
+struct Went {
+    advance: Advance,
+    awaited: Awaited,
+    has_moved: bool,
+}
+
+impl<H: HandsOver, G: Gate + Copy + Drop> Worker<H, G> {
+    /// Serves connections, all that have come at once, until as many were accepted as are to be, or an accept has
+    /// failed, and all that came to it are closed. Then it hands over what its closer tells, and what its host has
+    /// counted. It holds the lock of the listener only while it tries to accept, and at both ends.
+    ///
+    /// It accepts one where its watch tells it so, and goes on with each that is ready for at most sixteen steps before
+    /// it looks at the others. One that its watch tells late is closed as it stands. In quiet times its host is told
+    /// what others showed. Where it can't have a watch it ends at once, and no more are accepted.
+    pub fn run<J: Reception, E: Ledger, L: Hall, R: Wait>(
         &mut self,
         rt: &R,
         listening: &Mutex<Listening<J, E, H, L>>,
@@ -37,81 +91,297 @@ impl<H: HandsOver, G: Gate + Copy> Worker<H, G> {
         // It ends by an end of the listener alone, with no connection out that it has accepted.
         ensures pass { pass.new ≡ record pass.old { ended = pass.old.ended + 1 } }
     {
-        let (mut closer, mut tally) = self.begin(rt, listening);
+        let Some(mut shift) = self.begin(rt, listening, pass) else {
+            return Tally {
+                connections: 0,
+                calls: 0,
+                listen_fault: true,
+            };
+        };
         for _ in rt.forever() {
-            match admitted(rt, listening, pass) {
-                Admission::Came { call, connection } => {
-                    self.serve::<J, L>(&mut closer, &mut tally, call, connection);
-                }
-                Admission::Closed => break,
-                Admission::Failed => {
-                    tally.listen_fault = true;
-                    break;
-                }
+            if shift.is_over() {
+                break;
             }
+            self.turn(rt, listening, pass, &mut shift);
         }
+        let Shift {
+            guests: _,
+            closer,
+            watch,
+            tally,
+            is_open: _,
+        } = shift;
         let mut kept = listening.lock(rt);
-        kept.retire(pass, closer, &tally, self);
+        kept.retire(pass, closer, watch, &tally, self);
         tally
     }
 
-    /// A closer of the listener, and what was counted before the first connection.
-    fn begin<J: Reception, E: Ledger, L: Listen, R: Wait>(
+    /// What it has at work before the first connection. Where it can't watch any, it has ended.
+    fn begin<J: Reception, E: Ledger, L: Hall, R: Wait>(
         &self,
         rt: &R,
         listening: &Mutex<Listening<J, E, H, L>>,
-    ) -> (L::Closer, Tally)
+        pass: &mut Pass<J, E>,
+    ) -> Option<Shift<L, G>>
         requires under { IsUnder (conduct_by H.Host) (terms_by J.Reception) self.now }
         requires none { H.counted self.now.host ≡ H.none }
-        ensures nothing { result.1.connections ≡ 0 }
-        ensures served { HasEnded (conduct_by H.Host) (counting_of H.counted H.none H.plus)
-            (terms_by J.Reception) J.opening.past
-            result.1.connections result.1.calls self.now (L.closed result.0) (L.closed_count result.0) }
+        ensures served { IfSome result (λ shift. HasServed L.In.TrySource L.Out.TrySink
+            (conduct_by H.Host) (counting_of H.counted H.none H.plus) (terms_by J.Reception) J.opening.past
+            (serving_of L.closed L.closed_count L.Watch.Watch.let_go
+            shift.guests shift.closer shift.watch shift.tally)
+            self.now) }
+        ensures nobody { IfSome result (λ shift. (came_to shift.tally shift.guests ≡ 0) × (shift.is_open ≡ true)) }
+        ensures same { IfSome result (λ _. pass.new ≡ pass.old) }
+        ensures ended { IfNone result (pass.new ≡ record pass.old { ended = pass.old.ended + 1 }) }
     {
-        let kept = listening.lock(rt);
-        let tally = Tally {
-            connections: 0,
-            calls: 0,
-            listen_fault: false,
+        let begun = listening.lock(rt).begin(pass);
+        let Ok((closer, watch)) = begun else {
+            return None;
         };
-        (kept.closer(), tally)
+        Some(Shift {
+            guests: Slab::new(self.buffers.alloc()),
+            closer,
+            watch,
+            tally: Tally {
+                connections: 0,
+                calls: 0,
+                listen_fault: false,
+            },
+            is_open: true,
+        })
     }
 
-    /// Serves a connection that was accepted, closes it, and counts it.
-    fn serve<J: Reception, L: Listen>(
+    /// Does what its watch tells next.
+    fn turn<J: Reception, E: Ledger, L: Hall, R: Wait>(
         &mut self,
-        closer: &mut L::Closer,
-        tally: &mut Tally,
+        rt: &R,
+        listening: &Mutex<Listening<J, E, H, L>>,
+        pass: &mut Pass<J, E>,
+        shift: &mut Shift<L, G>,
+    )
+        requires under { IsUnder (conduct_by H.Host) (terms_by J.Reception) self.old }
+        requires out { came_to shift.old.tally shift.old.guests ≤ pass.old.out }
+        requires served { HasServed L.In.TrySource L.Out.TrySink
+            (conduct_by H.Host) (counting_of H.counted H.none H.plus) (terms_by J.Reception) J.opening.past
+            (serving_of L.closed L.closed_count L.Watch.Watch.let_go
+            shift.old.guests shift.old.closer shift.old.watch shift.old.tally)
+            self.old }
+        ensures under { IsUnder (conduct_by H.Host) (terms_by J.Reception) self.new }
+        ensures grown { IsFront (H.seen self.old.host).known (H.seen self.new.host).known }
+        ensures served { HasServed L.In.TrySource L.Out.TrySink
+            (conduct_by H.Host) (counting_of H.counted H.none H.plus) (terms_by J.Reception) J.opening.past
+            (serving_of L.closed L.closed_count L.Watch.Watch.let_go
+            shift.new.guests shift.new.closer shift.new.watch shift.new.tally)
+            self.new }
+        ensures comes { Comes pass.old pass.new (came_to shift.old.tally shift.old.guests)
+            (came_to shift.new.tally shift.new.guests) shift.old.is_open shift.new.is_open }
+    {
+        match shift.watch.next() {
+            Notice::Door => self.admit(rt, listening, pass, shift),
+            Notice::Ready { place } => self.go_on::<J, L>(shift, place),
+            Notice::Late { place } => self.let_go::<J, L>(shift, place),
+            Notice::Quiet => {
+                // Where there is no memory for that, the host goes on with what it knew.
+                let _ = self.host.catch_up();
+                self.admit(rt, listening, pass, shift);
+            }
+        }
+    }
+
+    /// Accepts a connection where one is there and there is room for it.
+    fn admit<J: Reception, E: Ledger, L: Hall, R: Wait>(
+        &self,
+        rt: &R,
+        listening: &Mutex<Listening<J, E, H, L>>,
+        pass: &mut Pass<J, E>,
+        shift: &mut Shift<L, G>,
+    )
+        requires under { IsUnder (conduct_by H.Host) (terms_by J.Reception) self.now }
+        requires out { came_to shift.old.tally shift.old.guests ≤ pass.old.out }
+        requires served { HasServed L.In.TrySource L.Out.TrySink
+            (conduct_by H.Host) (counting_of H.counted H.none H.plus) (terms_by J.Reception) J.opening.past
+            (serving_of L.closed L.closed_count L.Watch.Watch.let_go
+            shift.old.guests shift.old.closer shift.old.watch shift.old.tally)
+            self.now }
+        ensures served { HasServed L.In.TrySource L.Out.TrySink
+            (conduct_by H.Host) (counting_of H.counted H.none H.plus) (terms_by J.Reception) J.opening.past
+            (serving_of L.closed L.closed_count L.Watch.Watch.let_go
+            shift.new.guests shift.new.closer shift.new.watch shift.new.tally)
+            self.now }
+        ensures comes { Comes pass.old pass.new (came_to shift.old.tally shift.old.guests)
+            (came_to shift.new.tally shift.new.guests) shift.old.is_open shift.new.is_open }
+    {
+        if !shift.is_open {
+            return;
+        }
+        if !shift.has_room() {
+            return;
+        }
+        match admitted(rt, listening, pass) {
+            Admission::Came { call, connection } => self.enter::<J, L>(shift, call, connection),
+            Admission::NotNow => {}
+            Admission::Closed => shift.is_open = false,
+            Admission::Failed => {
+                shift.is_open = false;
+                shift.tally.listen_fault = true;
+            }
+        }
+    }
+
+    /// Begins the conversation with a connection that was accepted. One that can't be watched is let go at once.
+    fn enter<J: Reception, L: Hall>(
+        &self,
+        shift: &mut Shift<L, G>,
         call: Called<L::In, L::Out>,
         connection: u64,
     )
+        requires under { IsUnder (conduct_by H.Host) (terms_by J.Reception) self.now }
+        requires room { HasRoomFor shift.old.guests 1 }
+        requires place { shift.old.guests.vacant_key ≤ 4294967295 }
+        requires bound { came_to shift.old.tally shift.old.guests + 1 < 18446744073709551616 }
+        requires call { IsExpectedCall (try_halves_of L.In.TrySource L.Out.TrySink) J.opening.past call }
+        requires served { HasServed L.In.TrySource L.Out.TrySink
+            (conduct_by H.Host) (counting_of H.counted H.none H.plus) (terms_by J.Reception) J.opening.past
+            (serving_of L.closed L.closed_count L.Watch.Watch.let_go
+            shift.old.guests shift.old.closer shift.old.watch shift.old.tally)
+            self.now }
+        ensures served { HasServed L.In.TrySource L.Out.TrySink
+            (conduct_by H.Host) (counting_of H.counted H.none H.plus) (terms_by J.Reception) J.opening.past
+            (serving_of L.closed L.closed_count L.Watch.Watch.let_go
+            shift.new.guests shift.new.closer shift.new.watch shift.new.tally)
+            self.now }
+        ensures came { came_to shift.new.tally shift.new.guests ≡ came_to shift.old.tally shift.old.guests + 1 }
+        ensures door { shift.new.is_open ≡ shift.old.is_open }
+    {
+        self.gate.at(Point::Accepted { connection });
+        let place = shift.guests.vacant_key() as u32;
+        let watched = shift.watch.enter(place, &call.wire);
+        let number = shift.tally.connections + shift.guests.len() as u64;
+        let guest = Guest::new(self.buffers.alloc(), number, call, self.gate, connection);
+        shift.guests.insert_reserved(guest);
+        if watched.is_err() {
+            self.close::<J, L>(shift, place, true);
+        }
+    }
+
+    /// Goes on with the guest of a place, and closes its connection where it is over.
+    fn go_on<J: Reception, L: Hall>(&mut self, shift: &mut Shift<L, G>, place: u32)
         requires under { IsUnder (conduct_by H.Host) (terms_by J.Reception) self.old }
-        requires guest { IsExpectedCall (halves_of L.In.Source L.Out.Sink) J.opening.past call }
-        requires room { tally.old.connections + 1 < 2 ^ 64 }
-        requires served { HasEnded (conduct_by H.Host) (counting_of H.counted H.none H.plus)
-            (terms_by J.Reception) J.opening.past
-            tally.old.connections tally.old.calls self.old (L.closed closer.old) (L.closed_count closer.old) }
+        requires served { HasServed L.In.TrySource L.Out.TrySink
+            (conduct_by H.Host) (counting_of H.counted H.none H.plus) (terms_by J.Reception) J.opening.past
+            (serving_of L.closed L.closed_count L.Watch.Watch.let_go
+            shift.old.guests shift.old.closer shift.old.watch shift.old.tally)
+            self.old }
         ensures under { IsUnder (conduct_by H.Host) (terms_by J.Reception) self.new }
         ensures grown { IsFront (H.seen self.old.host).known (H.seen self.new.host).known }
-        ensures counted { tally.new.connections ≡ tally.old.connections + 1 }
-        ensures served { HasEnded (conduct_by H.Host) (counting_of H.counted H.none H.plus)
-            (terms_by J.Reception) J.opening.past
-            tally.new.connections tally.new.calls self.new (L.closed closer.new) (L.closed_count closer.new) }
+        ensures served { HasServed L.In.TrySource L.Out.TrySink
+            (conduct_by H.Host) (counting_of H.counted H.none H.plus) (terms_by J.Reception) J.opening.past
+            (serving_of L.closed L.closed_count L.Watch.Watch.let_go
+            shift.new.guests shift.new.closer shift.new.watch shift.new.tally)
+            self.new }
+        ensures came { came_to shift.new.tally shift.new.guests ≡ came_to shift.old.tally shift.old.guests }
+        ensures door { shift.new.is_open ≡ shift.old.is_open }
     {
-        let Called { origin, wire } = call;
-        let (wire, _) = self.one(wire, origin.peer(), connection);
-        L::close(closer, Called { origin, wire });
-        tally.count(self.calls());
+        let Some(went) = self.advanced::<L>(&mut shift.guests, place as usize) else {
+            return;
+        };
+        match went.advance {
+            Advance::Moved => {
+                shift.watch.awaits(place, went.awaited, went.has_moved);
+                shift.watch.again(place);
+            }
+            Advance::Waits | Advance::TakesLong => {
+                shift.watch.awaits(place, went.awaited, went.has_moved);
+            }
+            Advance::Ended(_) | Advance::NoMemory => {
+                shift.watch.leave(place);
+                self.close::<J, L>(shift, place, false);
+            }
+        }
+    }
+
+    /// Closes the connection of a place, which was told late.
+    fn let_go<J: Reception, L: Hall>(&self, shift: &mut Shift<L, G>, place: u32)
+        requires under { IsUnder (conduct_by H.Host) (terms_by J.Reception) self.now }
+        requires served { (before : ℕ) × HasServed L.In.TrySource L.Out.TrySink
+            (conduct_by H.Host) (counting_of H.counted H.none H.plus) (terms_by J.Reception) J.opening.past
+            (record (serving_of L.closed L.closed_count L.Watch.Watch.let_go
+            shift.old.guests shift.old.closer shift.old.watch shift.old.tally) { let_go = before })
+            self.now × (next_count before ≤ L.Watch.Watch.let_go shift.old.watch) }
+        ensures served { HasServed L.In.TrySource L.Out.TrySink
+            (conduct_by H.Host) (counting_of H.counted H.none H.plus) (terms_by J.Reception) J.opening.past
+            (serving_of L.closed L.closed_count L.Watch.Watch.let_go
+            shift.new.guests shift.new.closer shift.new.watch shift.new.tally)
+            self.now }
+        ensures came { came_to shift.new.tally shift.new.guests ≡ came_to shift.old.tally shift.old.guests }
+        ensures door { shift.new.is_open ≡ shift.old.is_open }
+    {
+        shift.watch.leave(place);
+        self.close::<J, L>(shift, place, true);
+    }
+
+    /// Has the guest at a key go on, where there is one.
+    fn advanced<L: Hall>(
+        &mut self,
+        guests: &mut Slab<Guest<L::In, L::Out, G>>,
+        key: usize,
+    ) -> Option<Went>
+        requires due { IfSome (get guests.old key) (λ guest.
+            IfSome guest.talk.waiting (IsDue (length (H.seen self.old.host).catalogue.maps))) }
+        ensures none { IfNone result ((guests.new ≡ guests.old) × (self.new ≡ self.old)) }
+        ensures went { IfSome result (λ went. GoesOnAt (conduct_by H.Host) H.counted L.In.TrySource L.Out.TrySink
+            key guests.old guests.new self.old.host self.new.host
+            (λ guest. ComesTo self.old.most went.advance (cut_of L.In.TrySource L.Out.TrySink guest.talk))) }
+        ensures most { self.new.most ≡ self.old.most }
+    {
+        let guest = guests.get_mut(key)?;
+        let advance = guest.advance(
+            &mut self.host,
+            &mut self.buffers,
+            self.most,
+            true,
+            TURN_STEPS,
+        );
+        Some(Went {
+            advance,
+            awaited: guest.awaited(),
+            has_moved: guest.take_moved(),
+        })
+    }
+
+    /// Closes the connection of a place, where there is one, and counts it.
+    fn close<J: Reception, L: Hall>(&self, shift: &mut Shift<L, G>, place: u32, is_let_go: bool)
+        requires under { IsUnder (conduct_by H.Host) (terms_by J.Reception) self.now }
+        requires over { is_let_go ≡ false → IfSome (get shift.old.guests place)
+            (λ guest. IsOver self.now.most (cut_of L.In.TrySource L.Out.TrySink guest.talk)) }
+        requires served { (before : ℕ) × HasServed L.In.TrySource L.Out.TrySink
+            (conduct_by H.Host) (counting_of H.counted H.none H.plus) (terms_by J.Reception) J.opening.past
+            (record (serving_of L.closed L.closed_count L.Watch.Watch.let_go
+            shift.old.guests shift.old.closer shift.old.watch shift.old.tally) { let_go = before })
+            self.now × (let_go_where is_let_go before ≤ L.Watch.Watch.let_go shift.old.watch) }
+        ensures served { HasServed L.In.TrySource L.Out.TrySink
+            (conduct_by H.Host) (counting_of H.counted H.none H.plus) (terms_by J.Reception) J.opening.past
+            (serving_of L.closed L.closed_count L.Watch.Watch.let_go
+            shift.new.guests shift.new.closer shift.new.watch shift.new.tally)
+            self.now }
+        ensures came { came_to shift.new.tally shift.new.guests ≡ came_to shift.old.tally shift.old.guests }
+        ensures door { shift.new.is_open ≡ shift.old.is_open }
+    {
+        if let Some(guest) = shift.guests.try_remove(place as usize) {
+            shift.tally.count(guest.calls());
+            L::close(&mut shift.closer, guest.into_call());
+        }
     }
 }
 
-/// The next connection of a listener.
-fn admitted<J: Reception, E: Ledger, H: HandsOver, L: Listen, R: Wait>(
+/// The next connection of a listener, if one is there.
+fn admitted<J: Reception, E: Ledger, H: HandsOver, L: Hall, R: Wait>(
     rt: &R,
     listening: &Mutex<Listening<J, E, H, L>>,
     pass: &mut Pass<J, E>,
 ) -> Admission<L::In, L::Out>
-    ensures { Admits (IsExpectedCall (halves_of L.In.Source L.Out.Sink) J.opening.past) result pass.old pass.new }
+    ensures { Admits (IsExpectedCall (try_halves_of L.In.TrySource L.Out.TrySink) J.opening.past) result
+        pass.old pass.new }
 {
     let mut kept = listening.lock(rt);
     kept.admit(pass)

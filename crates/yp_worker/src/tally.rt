@@ -10,7 +10,7 @@ pub struct Tally {
     pub connections: u64,
     /// How many of their records were read, up to 2^64 - 1.
     pub calls: u64,
-    /// Whether an accept has failed.
+    /// Whether an accept has failed, or a worker could have no watch.
     pub listen_fault: bool,
 }
 

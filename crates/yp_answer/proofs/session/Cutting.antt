@@ -15,7 +15,8 @@ use Rattle.yp_answer.specs.declared.procedure.Path.TheVariants.{Stream}
 use Rattle.yp_answer.specs.session.Wires.{SourceTells, Wire}
 use Rattle.yp_answer.specs.session.Hosts.{Conduct, Turn, Link, CarriesOut}
 use Rattle.yp_answer.specs.session.Runs.{sent_reply}
-use Rattle.yp_answer.specs.inside.session.Cuts.{Deed, Answered, Carried, Read, turns_of, waiting_behind, sent_over, IsPaidUp, AreInOrder, DoesDeeds, SeesOn, Cut, AreFramed, messages_of, written, IsCut, Follows, FollowsRead, GoesOn}
+use Rattle.yp_answer.specs.session.Cuts.{Deed, Answered, Carried, Read, turns_of, waiting_behind, sent_over, IsPaidUp, AreInOrder, Cut, AreFramed, messages_of, written, IsCut}
+use Rattle.yp_answer.specs.inside.session.Cuts.{DoesDeeds, SeesOn, Follows, FollowsRead, GoesOn}
 
 -- ---- lists of deeds
 

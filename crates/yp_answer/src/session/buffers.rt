@@ -41,6 +41,11 @@ impl Buffers {
             reply: zeros(alloc)?,
         })
     }
+
+    /// By what its memory was taken.
+    pub fn alloc(&self) -> Global {
+        self.alloc
+    }
 }
 
 /// Room for the longest call, or a piece of its reply.

@@ -13,7 +13,8 @@ ghost use Rattle.yp_answer.specs.Numbers.{record_max};
 ghost use Rattle.yp_answer.specs.session.Progress.{begun};
 ghost use Rattle.yp_answer.specs.inside.session.Hosts.{conduct_by};
 ghost use Rattle.yp_answer.specs.inside.session.Errands.{IsDue};
-ghost use Rattle.yp_answer.specs.inside.session.Cuts.{ComesTo, EndsSo, Follows, FollowsRead, GoesOn, IsAtRest, cut_of};
+ghost use Rattle.yp_answer.specs.session.Cuts.{EndsSo, IsAtRest};
+ghost use Rattle.yp_answer.specs.inside.session.Cuts.{ComesTo, Follows, FollowsRead, GoesOn, awaited_in, cut_of};
 
 use crate::RECORD_MAX;
 use crate::session::buffers::Buffers;
@@ -24,7 +25,8 @@ use crate::session::put::put_reply;
 use crate::session::session::{CALLS_MAX, End};
 use std::alloc::Global;
 use std::marker::Model;
-use yp_io::{Failed, Pair, Peer, TrySink, TrySource};
+use std::mem;
+use yp_io::{Awaited, Failed, Pair, Peer, TrySink, TrySource};
 use yp_rpc::{First, Incoming, Outgoing, Payment};
 
 /// The most bytes that are owed before a further record is answered.
@@ -46,7 +48,7 @@ pub enum Advance {
 }
 
 /// How a conversation goes on.
-#[derive(Clone, Copy, Debug)]
+#[derive(Clone, Copy)]
 pub struct Terms {
     /// The peer that called.
     pub peer: Peer,
@@ -68,6 +70,7 @@ pub struct Conversation<S, K> {
     calls: u64,
     is_settled: bool,
     is_broken: bool,
+    has_moved: bool,
 }
 
 impl<S, K> Model for Conversation<S, K> {
@@ -118,6 +121,7 @@ impl<S, K> Conversation<S, K> {
             calls: 0,
             is_settled: true,
             is_broken: false,
+            has_moved: false,
         }
     }
 
@@ -126,6 +130,26 @@ impl<S, K> Conversation<S, K> {
         ensures { result ≡ self.now.progress.calls }
     {
         self.calls
+    }
+
+    /// What it waits for, where its wire can't go on.
+    pub fn awaited(&self) -> Awaited
+        ensures { result ≡ awaited_in self.now.settled self.now.incoming }
+    {
+        if !self.is_settled {
+            Awaited::Payment
+        } else if self.incoming.len() == 0 {
+            Awaited::Record
+        } else {
+            Awaited::Rest
+        }
+    }
+
+    /// Whether a record was read whole, or some of what is owed was taken, since this was asked last.
+    pub fn take_moved(&mut self) -> bool
+        ensures { self.new ≡ self.old }
+    {
+        mem::take(&mut self.has_moved)
     }
 
     /// The wire. What is owed to it is dropped.
@@ -143,6 +167,7 @@ impl<S, K> Conversation<S, K> {
             calls: _,
             is_settled: _,
             is_broken: _,
+            has_moved: _,
         } = self;
         Pair {
             source,
@@ -152,7 +177,8 @@ impl<S, K> Conversation<S, K> {
 }
 
 impl<S: TrySource, K: TrySink> Conversation<S, K> {
-    /// Goes on by at most so many steps: a record that is answered, a read, a write, or a transfer.
+    /// Goes on by at most so many steps: a record that is answered, a read, a write, or a transfer. While a reply is
+    /// open it goes on by one, so that a long reply leaves others their turn.
     pub fn advance<H: Host>(
         &mut self,
         host: &mut H,
@@ -170,6 +196,9 @@ impl<S: TrySource, K: TrySink> Conversation<S, K> {
             match self.step(host, buffers, terms) {
                 Advance::Moved => {}
                 other => return other,
+            }
+            if self.stream.is_some() {
+                return Advance::Moved;
             }
         }
         Advance::Moved
@@ -232,10 +261,14 @@ impl<S: TrySource, K: TrySink> Conversation<S, K> {
     {
         match self.outgoing.pay() {
             Ok(Payment::Whole) => {
+                self.has_moved = true;
                 self.is_settled = self.stream.is_none();
                 Advance::Moved
             }
-            Ok(Payment::Part) => Advance::Moved,
+            Ok(Payment::Part) => {
+                self.has_moved = true;
+                Advance::Moved
+            }
             Ok(Payment::NotNow) => Advance::Waits,
             Err(Failed) => Advance::Ended(End::WriteFault),
         }
@@ -312,6 +345,7 @@ impl<S: TrySource, K: TrySink> Conversation<S, K> {
         self.incoming.pass(spelled);
         self.place = self.place.saturating_add(spelled as u64);
         self.calls = self.calls.saturating_add(1);
+        self.has_moved = true;
         self.is_settled = false;
         self.is_broken = put.is_broken;
         self.stream = put.stream;

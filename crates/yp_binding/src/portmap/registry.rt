@@ -22,7 +22,7 @@ use yp_rpc::{DATAGRAM_MAX, ReplyHead, write_reply};
 use yp_xdr::{NoRoom, set_bool, set_u32};
 
 /// The mappings that a port mapper knows. It is seen as their list, in the order in which they were set.
-#[derive(Debug, Drop)]
+#[derive(Drop)]
 pub struct Registry {
     // has room for the most mappings
     mappings: Vec<Mapping>,

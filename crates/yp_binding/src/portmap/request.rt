@@ -10,7 +10,7 @@ use yp_rpc::{Judged, Programs, ReplyHead, judge};
 use yp_xdr::Cursor;
 
 /// A procedure of the port mapper.
-#[derive(Clone, Copy, Debug)]
+#[derive(Clone, Copy)]
 enum Procedure {
     Null,
     Set,
@@ -47,7 +47,7 @@ impl Programs for Portmapper {
 }
 
 /// What a datagram asks of the port mapper.
-#[derive(Clone, Copy, Debug)]
+#[derive(Clone, Copy)]
 pub enum Request {
     /// Nothing that is answered.
     Nothing,

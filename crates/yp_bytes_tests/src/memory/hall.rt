@@ -11,7 +11,7 @@ use yp_io::{
 };
 
 // A connection of this port. The second call of each half of its wire says "not now".
-fn call(rt: &impl Abort, alloc: Global, port: u16) -> HallCall
+pub(crate) fn call(rt: &impl Abort, alloc: Global, port: u16) -> HallCall
     ensures { EntryIsNew result }
 {
     let input = owned(rt, alloc, b"call");

@@ -33,7 +33,7 @@ use Rattle.yp_command_serve.specs.inside.serve.Serve.{TellsServeEnd, IsWithin}
 use Rattle.yp_command_serve.proofs.serve.Completed.{completes}
 use Rattle.yp_command_serve.proofs.serve.Disks.{nothing_written, opened_written, stopped_written, stopped_risen, stopped_count}
 
--- as many connections came as were to, where no accept has failed
+-- as many connections came as were to, where the listener hasn't failed
 pub all_came : (old now : ListenTells) (connections wanted : ℕ) (failed : Bool)
     → IsListenerState old now connections failed 0 1 → IsToAccept wanted old
     → failed ≡ false → connections ≡ capped 0 wanted

@@ -63,7 +63,8 @@ conduct setup = conduct_at (λ reader. reader) Refreshes setup.text setup.hosts
 abbrev pub first_of : {D : Type 0} → List (StoredMap D) → PublisherState
 first_of maps = record { log = starts 0 (versions maps); standings = map (λ kept. kept.standing) maps }
 
--- Workers served connections, each worker one after the other, and datagrams; what was known in each is a front of the
+-- Workers served connections, each many at once and step by step: the conversation of each connection was cut where the
+-- connection was closed, and over unless that was let go. They served datagrams, too. What each knew is a front of the
 -- log. So many records of the connections were read, and this is what all workers counted of makes and transfers,
 -- summed up. The FILEs are at most as many as the faults of the texts and of the disks, the orders that were reached at
 -- most as many as the wires that begin with one, and the failed sources at most as many as the faults of the dial and

@@ -54,12 +54,12 @@ abbrev pub tally_line : (connections calls : ℕ) → List ℕ
 tally_line connections calls =
     codes "connections " ++ decimal connections ++ codes " calls " ++ decimal calls ++ codes "\n"
 
--- no accept has failed, and neither has the inbox
+-- the listener hasn't failed, and neither has the inbox
 abbrev pub IsFaultless : Hosted → Type 0
 IsFaultless hosted = (hosted.tally.listen_fault ≡ false) × (hosted.inbox_fault ≡ false)
 
--- What is told of what was served: that an accept has failed, or else that the inbox has, and then nothing is printed,
--- or else what was counted, or a front of that where the output fails.
+-- What is told of what was served: that the listener has failed, or else that the inbox has, and then nothing is
+-- printed, or else what was counted, or a front of that where the output fails.
 abbrev pub TellsServed : Hosted → Status → Option (List ℕ) → Option (List ℕ) → Type 0
 TellsServed hosted ListenFault before after = (hosted.tally.listen_fault ≡ true) × (after ≡ before)
 TellsServed hosted InboxFault before after =
@@ -93,7 +93,7 @@ pub record IsToAccept (connections : ℕ) (door : ListenTells) : Type 0 where
   pub none : door.accepted ≡ 0
 
 -- The maps were served, and that is told. Where the listener was to accept as many connections as were asked for, and
--- no accept has failed, so many came. Where the inbox failed before all its turns were taken, its count rose, whatever
+-- hasn't failed, so many came. Where the inbox failed before all its turns were taken, its count rose, whatever
 -- is told. What the listener, the inbox and the status tell fixes what came of it, but for the totals.
 pub record ServesMaps {S K D C A I T : Type 0} (seen : Seeing S K D C A I T) (job : Job) (status : Status)
     (old new : Office S K D C A I T) (door door' : ListenTells) : Type 0 where

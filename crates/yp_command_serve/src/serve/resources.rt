@@ -28,7 +28,7 @@ use std::thread::Threads;
 use yp_board::readers::{Naming, Opened, board};
 use yp_board::{Catalog, Show};
 use yp_host::Desk;
-use yp_io::{Clock, Dial, Disk, Inbox, Listen, NoMemory, Texts};
+use yp_io::{Clock, Dial, Disk, Hall, Inbox, NoMemory, Texts};
 use yp_map_file::SlotFault;
 use yp_publisher::laws::{beginning_is_start, starts_are_shown};
 use yp_publisher::{Loaded, Publisher, StartRefused, load_all};
@@ -138,11 +138,12 @@ where
     A: Dial + Send + Drop,
     T: Texts + Send + Drop,
     C: Clock + Send + Drop,
-    L: Listen + Send + Drop,
+    L: Hall + Send + Drop,
     I: Inbox + Send + Drop,
     L::In: Send,
     L::Out: Send,
     L::Closer: Send,
+    L::Watch: Send,
     A::In: Send,
     A::Out: Send,
     R: Threads + Wait + RandomSource + Sync,
@@ -151,9 +152,9 @@ where
     requires most { spec.now.most ≡ CALLS_MAX }
     ensures hosted { IfOk result.0 (λ hosted. IsHosted D.history D.faults
         (setup_of catalog (T.text resources.desk.texts) resources.desk.hosts spec.now.turns) hosted
-        (server_tells (opening_by L.Listen resources.listen) (box_by I.Inbox resources.inbox)
+        (server_tells (opening_by L.Hall resources.listen) (box_by I.Inbox resources.inbox)
         (supply_of (T.faults resources.desk.texts) (dial_by A.Dial resources.desk.dial)))
-        (server_tells (opening_by L.Listen result.1.listen) (box_by I.Inbox result.1.inbox)
+        (server_tells (opening_by L.Hall result.1.listen) (box_by I.Inbox result.1.inbox)
         (supply_of (T.faults result.1.desk.texts) (dial_by A.Dial result.1.desk.dial)))
         resources.disks.items result.1.disks.items) }
     ensures unhosted { IfErr result.0 (λ why.
@@ -203,11 +204,12 @@ where
     A: Dial + Send + Drop,
     T: Texts + Send + Drop,
     C: Clock + Send + Drop,
-    L: Listen + Send + Drop,
+    L: Hall + Send + Drop,
     I: Inbox + Send + Drop,
     L::In: Send,
     L::Out: Send,
     L::Closer: Send,
+    L::Watch: Send,
     A::In: Send,
     A::Out: Send,
     R: Threads + Wait + RandomSource + Sync,
@@ -217,9 +219,9 @@ where
     requires most { spec.now.most ≡ CALLS_MAX }
     ensures hosted { IfOk result.0 (λ hosted. IsServed D.history D.faults
         (setup_of catalog (T.text desk.texts) desk.hosts spec.now.turns) loaded hosted
-        (server_tells (opening_by L.Listen listen) (box_by I.Inbox inbox)
+        (server_tells (opening_by L.Hall listen) (box_by I.Inbox inbox)
         (supply_of (T.faults desk.texts) (dial_by A.Dial desk.dial)))
-        (server_tells (opening_by L.Listen result.1.listen) (box_by I.Inbox result.1.inbox)
+        (server_tells (opening_by L.Hall result.1.listen) (box_by I.Inbox result.1.inbox)
         (supply_of (T.faults result.1.desk.texts) (dial_by A.Dial result.1.desk.dial)))
         result.1.disks.items) }
     ensures unhosted { IfErr result.0 (λ why. why ≡ NotHosted.NoMemory) }
@@ -268,11 +270,12 @@ where
     A: Dial + Send + Drop,
     T: Texts + Send + Drop,
     C: Clock + Send + Drop,
-    L: Listen + Send + Drop,
+    L: Hall + Send + Drop,
     I: Inbox + Send + Drop,
     L::In: Send,
     L::Out: Send,
     L::Closer: Send,
+    L::Watch: Send,
     A::In: Send,
     A::Out: Send,
     R: Threads + Wait + RandomSource + Sync,
@@ -286,9 +289,9 @@ where
     requires most { spec.now.most ≡ CALLS_MAX }
     ensures hosted { IfOk result.0 (λ hosted. IsServed D.history D.faults
         (setup_of catalog (T.text desk.texts) desk.hosts spec.now.turns) loaded hosted
-        (server_tells (opening_by L.Listen listen) (box_by I.Inbox inbox)
+        (server_tells (opening_by L.Hall listen) (box_by I.Inbox inbox)
         (supply_of (T.faults desk.texts) (dial_by A.Dial desk.dial)))
-        (server_tells (opening_by L.Listen result.1.listen) (box_by I.Inbox result.1.inbox)
+        (server_tells (opening_by L.Hall result.1.listen) (box_by I.Inbox result.1.inbox)
         (supply_of (T.faults result.1.desk.texts) (dial_by A.Dial result.1.desk.dial)))
         result.1.disks.items) }
     ensures unhosted { IfErr result.0 (λ why. why ≡ NotHosted.NoMemory) }

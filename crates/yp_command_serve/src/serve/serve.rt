@@ -28,7 +28,7 @@ use yp_command::office::{
     Apart, Office, Status, put_together, status_of_map, table_of, take_apart,
 };
 use yp_host::Desk;
-use yp_io::{Clock, Dial, Disk, Inbox, Listen, NoMemory, Sink, Source, Texts};
+use yp_io::{Clock, Dial, Disk, Hall, Inbox, NoMemory, Sink, Source, Texts};
 use yp_server::ServeSpec;
 use yp_transfer::Hosts;
 
@@ -75,10 +75,11 @@ where
     A::Out: Send,
     I: Inbox + Send + Drop,
     T: Texts + Send + Drop,
-    L: Listen + Send + Drop,
+    L: Hall + Send + Drop,
     L::In: Send,
     L::Out: Send,
     L::Closer: Send,
+    L::Watch: Send,
     R: Threads + Wait + RandomSource + Sync,
     requires named { All IsNamed catalog.maps }
     requires disks { names_of office.disks.items ≡ catalog.maps }
@@ -86,7 +87,7 @@ where
     requires most { spec.now.most ≡ CALLS_MAX }
     ensures does { (connections : ℕ) → ServeDoes (seeing S.Source K.Sink D.Disk C.Clock A.Dial I.Inbox T.Texts)
         (serve_job_of catalog.own connections spec.now.turns catalog.maps hosts) result.0 office result.1
-        (opening_by L.Listen listen) (opening_by L.Listen result.2) }
+        (opening_by L.Hall listen) (opening_by L.Hall result.2) }
     ensures may_end { IsTrue (serve_may_end result.0) }
     ensures passed_on { IsPassedOn (seeing S.Source K.Sink D.Disk C.Clock A.Dial I.Inbox T.Texts)
         result.0 office result.1 }
@@ -162,17 +163,18 @@ where
     A::Out: Send,
     I: Inbox + Send + Drop,
     T: Texts + Send + Drop,
-    L: Listen + Send + Drop,
+    L: Hall + Send + Drop,
     L::In: Send,
     L::Out: Send,
     L::Closer: Send,
+    L::Watch: Send,
     R: Threads + Wait + RandomSource + Sync,
     requires catalogue { catalog_fault job.name.items (map name_view job.stores.items) ≡ None }
     requires named { All IsNamed (map name_view job.stores.items) }
     requires disks { names_of office.disks.items ≡ map name_view job.stores.items }
     requires workers { (1 ≤ job.workers) × (job.workers ≤ workers_max) }
     ensures does { ServeDoes (seeing S.Source K.Sink D.Disk C.Clock A.Dial I.Inbox T.Texts)
-        (serve_job_view job) result.0 office result.1 (opening_by L.Listen listen) (opening_by L.Listen result.2) }
+        (serve_job_view job) result.0 office result.1 (opening_by L.Hall listen) (opening_by L.Hall result.2) }
     ensures may_end { IsTrue (serve_may_end result.0) }
     ensures passed_on { IsPassedOn (seeing S.Source K.Sink D.Disk C.Clock A.Dial I.Inbox T.Texts)
         result.0 office result.1 }

@@ -4,16 +4,22 @@ use Rattle.yp_io.specs.inside.Mem.{Feed, Drain}
 use Rattle.yp_io.specs.declared.called.Called.{Called}
 use Rattle.yp_io.specs.declared.scheduled.Scheduled.{Scheduled}
 use Rattle.yp_io.specs.Dials.{Connected}
-use Rattle.yp_io.specs.inside.MemListen.{Closing}
 use Rattle.yp_io.specs.Calls.{ListenerHistory, ClosedConnection, Accepting, Halves, IsFreshCall, came_by, ended_by}
 
 -- a connection in memory that is never waited for
 abbrev pub HallConnection : Type 0
 HallConnection = Called (Scheduled Feed) (Scheduled Drain)
 
+-- a closer: the connections that it has closed, whether there was no memory to keep one, and how many it has closed, up
+-- to the last count
+pub record Closing (C : Type 0) : Type 0 where
+  pub closed : List C
+  pub lost : Bool
+  pub count : ℕ
+
 -- a hall: the connections that will come, each that came, as it was then, the closers that were taken in, whether there
--- was no memory to keep one, how many are to be accepted and how many were, how many were closed, which calls fail, and
--- at which nobody comes
+-- was no memory to keep one, how many are to be accepted and how many were, how many were closed and how many let go,
+-- which calls fail, and at which nobody comes
 pub record MemHallModel : Type 0 where
   pub waiting : List HallConnection
   pub came : List HallConnection
@@ -22,6 +28,7 @@ pub record MemHallModel : Type 0 where
   pub most : ℕ
   pub accepted : ℕ
   pub returned : ℕ
+  pub let_go : ℕ
   pub failing : List ℕ
   pub pausing : List ℕ
   pub calls : ℕ

@@ -4,7 +4,7 @@ use crate::given::assert_same;
 use yp_io::TextFile;
 use yp_texts::*;
 
-const KINDS: [(u32, &[u8], TextFile); 10] = [
+static KINDS: [(u32, &[u8], TextFile); 10] = [
     (1, b"passwd.byname", TextFile::Passwd),
     (2, b"passwd.byuid", TextFile::Passwd),
     (3, b"group.byname", TextFile::Group),

@@ -26,7 +26,7 @@ const GROUPS: &[u8] = b"wheel:*:0:root\n#old:*:1:\n staff:*:50:ann,joe\nnone\n";
 const HOSTS: &[u8] =
     b"10.0.0.1 alpha al # first\n\t10.0.0.2\tbeta \n#10.0.0.3 gamma\n10.0.0.4\n \t \n\n10.0.0.5 alpha # again";
 
-const MADE: [Made; 22] = [
+static MADE: [Made; 22] = [
     (
         "users by name",
         Kind::PasswdByname,
@@ -248,7 +248,7 @@ type Long = (
     usize,
 );
 
-const LONG: [Long; 5] = [
+static LONG: [Long; 5] = [
     (
         "a long value",
         Kind::PasswdByname,

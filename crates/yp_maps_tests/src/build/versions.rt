@@ -8,7 +8,7 @@ use yp_texts::*;
 use yp_version::Version;
 
 /// The order before, the moment, and the order that follows.
-const ORDERS: [(Option<u32>, u32, Result<u32, OrderSpent>); 7] = [
+static ORDERS: [(Option<u32>, u32, Result<u32, OrderSpent>); 7] = [
     (None, 7, Ok(7)),
     (Some(100), 100, Ok(101)),
     (Some(100), 50, Ok(101)),
@@ -78,7 +78,7 @@ enum After {
 }
 
 /// The last version, the flag, and what comes of a build by `m1` at the moment 50.
-const AFTER: [(Option<Last>, Option<bool>, After); 8] = [
+static AFTER: [(Option<Last>, Option<bool>, After); 8] = [
     (
         None,
         None,
@@ -195,7 +195,7 @@ fn size_of<R: RandomSource>(
 /// A start, how many rows there are, and the size or the fault.
 type Size = (u32, u32, Result<(usize, usize), BuildFault>);
 
-const SIZES: [Size; 6] = [
+static SIZES: [Size; 6] = [
     (0, 0, Ok((0, 24))),
     (0, 1, Ok((1, 48))),
     (0, 3, Ok((3, 96))),
@@ -204,7 +204,7 @@ const SIZES: [Size; 6] = [
     (0, 262145, Err(BuildFault::TooManyRows { line: 262145 })),
 ];
 
-const SAMPLE: [Option<(&[u8], &[u8])>; 3] = [
+static SAMPLE: [Option<(&[u8], &[u8])>; 3] = [
     Some((b"k3c6ef35f", b"v0")),
     Some((b"k47502932", b"v1")),
     Some((b"kd1ccf6e9", b"v2")),

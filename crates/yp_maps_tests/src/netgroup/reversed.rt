@@ -27,7 +27,7 @@ const DOTTED: &[Row<'static>] = &[(b"g", b"(a,,b.c)")];
 
 const STARS: &[Row<'static>] = &[(b"x", b"(,u,*)"), (b"y", b"(*,v,)"), (b"z", b"y y y")];
 
-const CASES: [Case; 6] = [
+static CASES: [Case; 6] = [
     Case {
         row: "groups that name each other",
         groups: CYCLE,
@@ -145,7 +145,7 @@ struct Asked {
     told: (bool, bool),
 }
 
-const LOOK_UPS: [Asked; 8] = [
+static LOOK_UPS: [Asked; 8] = [
     Asked {
         groups: CYCLE,
         field: Field::User,

@@ -34,7 +34,7 @@ fn spelled<R: Abort>(rt: &R, alloc: Global, text: &[u8]) -> Vec<u8> {
 }
 
 // Texts, and their members.
-const TEXTS: [(&[u8], &[u8]); 18] = [
+static TEXTS: [(&[u8], &[u8]); 18] = [
     (b"", b""),
     (b" \t ", b""),
     (b"a", b"a;"),

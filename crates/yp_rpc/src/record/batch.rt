@@ -20,7 +20,7 @@ const FULL_LEN: usize = HEAD + FRAGMENT_MAX;
 const HELD_ROOM: usize = HELD_MAX * FULL_LEN;
 
 // Whole fragments, and the bytes of the next one.
-#[derive(Debug, Drop)]
+#[derive(Drop)]
 pub(super) struct Batch {
     // the whole fragments up to `start`, the place of a head, and `len` bytes behind it
     bytes: Vec<u8>,

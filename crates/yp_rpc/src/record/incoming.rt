@@ -2,7 +2,7 @@
 
 ghost use Rattle.std.specs.Prelude.{◌≡◌, ◌+◌, ◌≤◌, ◌<◌, List, [], length, take, drop, Some};
 ghost use Rattle.yp_io.specs.Counts.{CountsFaults};
-ghost use Rattle.yp_io.specs.inside.Ready.{TriesToRead};
+ghost use Rattle.yp_io.specs.Ready.{TriesToRead};
 ghost use Rattle.yp_rpc.specs.inside.Incoming.{BeginsWith, Fills, count_of};
 
 use crate::record::RecordFault;
@@ -18,7 +18,7 @@ const READ_MAX: usize = 4_096;
 static ROOM: [u8; READ_MAX] = [0; READ_MAX];
 
 /// What the bytes that came begin with.
-#[derive(Clone, Copy, Debug, PartialEq, Eq)]
+#[derive(Clone, Copy)]
 pub enum First {
     /// A whole record: `len` bytes, which are spelled in so many.
     Whole { len: usize, spelled: usize },
@@ -30,7 +30,7 @@ pub enum First {
 
 /// The bytes that came of a stream and belong to no record that was taken. It is seen as these bytes, and has memory
 /// for them alone while there are some, and else for none.
-#[derive(Debug, Drop)]
+#[derive(Drop)]
 pub struct Incoming {
     alloc: Global,
     bytes: Vec<u8>,

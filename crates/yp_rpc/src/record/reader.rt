@@ -23,7 +23,7 @@ struct Record {
 }
 
 // What was read of a record that isn't at its end. Where nothing was, it is `NOT_BEGUN`.
-#[derive(Clone, Copy, Debug)]
+#[derive(Clone, Copy)]
 struct Part {
     // the bytes and the empty fragments that its heads name
     named: u64,
@@ -46,7 +46,7 @@ const NOT_BEGUN: Part = Part {
 /// Reads one record after another, each at once or piece by piece. It is seen as a place in the stream and what was
 /// read of the record there. The place is how many bytes were taken as whole records, or 2^64 - 1 where there were
 /// more.
-#[derive(Debug, Drop)]
+#[derive(Drop)]
 pub struct RecordReader {
     place: u64,
     part: Part,

@@ -15,7 +15,7 @@ use yp_io::{Failed, NoMemory, Sink};
 
 /// Writes one record after another, in fragments of 8,192 bytes; the last one of a record has from 1 to 8,192. It is
 /// seen as the bytes of the record that wait to be written, at most those of eight fragments.
-#[derive(Debug, Drop)]
+#[derive(Drop)]
 pub struct RecordWriter {
     batch: Batch,
 }

@@ -3,7 +3,7 @@
 ghost use Rattle.std.specs.Prelude.{◌≡◌, ◌≤◌};
 
 use crate::given::{NEVER, assert_same};
-use crate::listeners::{listener, taken};
+use crate::halls::{Caller, Visit, hall, taken};
 use crate::publishers::publisher;
 use crate::sample::desk_of;
 use crate::serve::gate::{Hold, Holding, Kind, Mark};
@@ -17,19 +17,20 @@ use std::sync::Wait;
 use std::thread::Threads;
 use yp_board::readers::{Naming, Opened};
 use yp_host::workers::{Outcomes, Totals};
-use yp_io::{MemInbox, MemListen};
+use yp_io::{MemHall, MemInbox};
 use yp_server::{ServeSpec, Served, serve};
 use yp_worker::Tally;
 
-// What is served: the file of the map, the inputs of connections, how many workers there are, 1 to 8, how these are
-// held, the call of the listener that fails, and the read of the text. Then the datagrams that come in turn, the most
-// turns, a mark before which no turn is taken, and the call of the inbox that fails. What is wanted: the tally, what
-// all workers count, the replies, and what comes of the inbox: how many turns there are, the replies, and whether it
-// fails.
+// What is served: the file of the map, who calls, how many are to be accepted, how many workers there are, 1 to 8, how
+// these are held, the call of the hall that fails, and the read of the text. Then the datagrams that come in turn, the
+// most turns, a mark before which no turn is taken, and the call of the inbox that fails. What is wanted: the tally,
+// what all workers count, the replies, and what comes of the inbox: how many turns there are, the replies, and whether
+// it fails.
 struct Case {
     name: &'static str,
     file: &'static str,
-    inputs: &'static [&'static str],
+    callers: &'static [Caller],
+    most: u32,
     workers: u32,
     holds: &'static [Hold],
     failing: u64,
@@ -68,7 +69,7 @@ fn mailed(rt: &impl Abort, alloc: Global, inbox: &MemInbox, fault: bool) -> Mail
 fn seen<D, B, A, T, C>(
     rt: &impl Abort,
     alloc: Global,
-    served: &Served<D, B, A, T, C, MemListen, Behind<'_, '_, MemInbox>>,
+    served: &Served<D, B, A, T, C, MemHall, Behind<'_, '_, MemInbox>>,
 ) -> Came {
     let output = taken(rt, alloc, &served.listen);
     let mailed = mailed(rt, alloc, served.inbox.inside(), served.inbox_fault);
@@ -91,7 +92,14 @@ fn served<J: Naming + Send + Sync, R: Threads + Wait + RandomSource + Abort + Sy
         turns: case.turns,
     };
     let file = words(rt, alloc, case.file);
-    let listen = listener(rt, alloc, NAMES, case.inputs, case.failing);
+    let visit = Visit {
+        callers: case.callers,
+        most: case.most,
+        failing: case.failing,
+        pausing: 0,
+        script: &[],
+    };
+    let listen = hall(rt, alloc, NAMES, &visit);
     let inbox = inbox(rt, alloc, case.mail, case.unmailed);
     let inbox = Behind::new(inbox, gate, case.until);
     let desk = desk_of(rt, alloc, TEXT, 200, case.unread);
@@ -133,7 +141,8 @@ const ONE_MADE: Totals = Totals { made: 1, ..NONE };
 const TWO_WORKERS: Case = Case {
     name: "two workers",
     file: "FILE",
-    inputs: &["MATCH MATCH", "MATCH"],
+    callers: &[("MATCH MATCH", 0, 0), ("MATCH", 0, 0)],
+    most: 2,
     workers: 2,
     holds: &[],
     failing: NEVER,
@@ -156,7 +165,7 @@ const TWO_WORKERS: Case = Case {
 static TRANSFER_AND_MAKES: Case = Case {
     name: "a transfer and two makes",
     file: "",
-    inputs: &["XFR MAKE", "MAKE"],
+    callers: &[("XFR MAKE", 0, 0), ("MAKE", 0, 0)],
     workers: 1,
     unread: 0,
     totals: Totals {
@@ -189,7 +198,8 @@ fn two_workers(rt: HostRuntime) {
 static LATER: Case = Case {
     name: "a later connection",
     file: "",
-    inputs: &["", "MAKE", "MATCH"],
+    callers: &[("", 0, 0), ("MAKE", 0, 0), ("MATCH", 0, 0)],
+    most: 3,
     holds: &[
         ((Kind::Accepted, 1, 1), (Kind::Replied, 2, 1)),
         ((Kind::Replied, 2, 1), (Kind::Replied, 3, 1)),
@@ -211,7 +221,7 @@ fn later_connection_sees_build(rt: HostRuntime) {
 
 static IDLE: Case = Case {
     name: "an idle connection",
-    inputs: &["MATCH MATCH", "MAKE"],
+    callers: &[("MATCH MATCH", 0, 0), ("MAKE", 0, 0)],
     holds: &[
         ((Kind::Accepted, 2, 1), (Kind::Replied, 1, 1)),
         ((Kind::Replied, 1, 1), (Kind::Replied, 2, 1)),
@@ -226,12 +236,13 @@ fn idle_connection_sees_newer(rt: HostRuntime) {
     try_case(&rt, rt.alloc(), &IDLE);
 }
 
+// The hall is asked for a watch first.
 static FIRST_ACCEPT: Case = Case {
     name: "the first accept fails",
     file: "",
-    inputs: &["MATCH", "MATCH"],
+    callers: &[("MATCH", 0, 0), ("MATCH", 0, 0)],
     workers: 1,
-    failing: 0,
+    failing: 1,
     tally: Tally {
         connections: 0,
         calls: 0,
@@ -246,11 +257,11 @@ fn listen_fault(rt: HostRuntime) {
     try_case(&rt, rt.alloc(), &FIRST_ACCEPT);
 }
 
+// One more is to be accepted than calls.
 static SECOND_ACCEPT: Case = Case {
     name: "the second accept fails",
     file: "",
-    inputs: &["MATCH", "MATCH"],
-    failing: 1,
+    callers: &[("MATCH", 0, 0)],
     tally: Tally {
         connections: 1,
         calls: 1,
@@ -268,7 +279,7 @@ fn later_listen_fault(rt: HostRuntime) {
 // The first connection is held before the second write of ALL.
 static HELD: Case = Case {
     name: "a held stream",
-    inputs: &["ALL MATCH", "MATCH MAKE"],
+    callers: &[("ALL MATCH", 0, 0), ("MATCH MAKE", 0, 0)],
     holds: &[
         ((Kind::Accepted, 2, 1), (Kind::Piece, 1, 1)),
         ((Kind::Piece, 1, 2), (Kind::Replied, 2, 2)),
@@ -292,16 +303,17 @@ fn held_stream(rt: HostRuntime) {
 // of them has come to its first write.
 static SEVEN_HELD: Case = Case {
     name: "seven held streams",
-    inputs: &[
-        "ALL",
-        "ALL",
-        "ALL",
-        "ALL",
-        "ALL",
-        "ALL",
-        "ALL",
-        "MATCH MAKE",
+    callers: &[
+        ("ALL", 0, 0),
+        ("ALL", 0, 0),
+        ("ALL", 0, 0),
+        ("ALL", 0, 0),
+        ("ALL", 0, 0),
+        ("ALL", 0, 0),
+        ("ALL", 0, 0),
+        ("MATCH MAKE", 0, 0),
     ],
+    most: 8,
     workers: 8,
     holds: &[
         ((Kind::Accepted, 8, 1), (Kind::Piece, 1, 1)),
@@ -338,7 +350,8 @@ fn held_streams_of_seven(rt: HostRuntime) {
 // the connection is held.
 static BESIDE: Case = Case {
     name: "a datagram",
-    inputs: &["MATCH"],
+    callers: &[("MATCH", 0, 0)],
+    most: 1,
     workers: 1,
     holds: &[((Kind::Piece, 1, 1), (Kind::Asked, 0, 1))],
     mail: &["NULL"],
@@ -362,7 +375,8 @@ fn datagram_beside(rt: HostRuntime) {
 // The second turn fails. The connection is served all the same.
 static UNMAILED: Case = Case {
     name: "an inbox that fails",
-    inputs: &["MATCH"],
+    callers: &[("MATCH", 0, 0)],
+    most: 1,
     workers: 1,
     mail: &["NULL", "NULL"],
     turns: 3,

@@ -92,18 +92,30 @@ impl TestHost {
     }
 }
 
-// A version of this order, in which `alpha` has this value.
-fn version<R: RandomSource + Abort>(
+/// A version of this order, with these rows.
+pub fn version_of<R: RandomSource + Abort>(
+    rt: &R,
+    alloc: Global,
+    order: u32,
+    rows: &[(&[u8], &[u8])],
+) -> Arc<Version> {
+    let mut builder = VersionBuilder::new(alloc, rt, order, b"m1").expect(rt, "a builder");
+    for (key, value) in rows {
+        let is_pushed = matches!(builder.push(key, value), Ok(true));
+        assert!(rt; is_pushed);
+    }
+    let version = builder.finish().expect(rt, "a version");
+    Arc::new(alloc, version).expect(rt, "a shared version")
+}
+
+/// A version of this order, in which `alpha` has this value.
+pub fn version<R: RandomSource + Abort>(
     rt: &R,
     alloc: Global,
     order: u32,
     value: &[u8],
 ) -> Arc<Version> {
-    let mut builder = VersionBuilder::new(alloc, rt, order, b"m1").expect(rt, "a builder");
-    let is_pushed = matches!(builder.push(b"alpha", value), Ok(true));
-    assert!(rt; is_pushed);
-    let version = builder.finish().expect(rt, "a version");
-    Arc::new(alloc, version).expect(rt, "a shared version")
+    version_of(rt, alloc, order, &[(b"alpha", value)])
 }
 
 // The maps of the host.
@@ -114,21 +126,25 @@ pub fn catalog(rt: &impl Abort, alloc: Global) -> Catalog {
     catalog_of(rt, alloc, b"m1", MAPS)
 }
 
-/// What is shown of these maps at first: the value `alpha:1` of passwd.byname.
-pub fn start<R: RandomSource + Abort>(rt: &R, alloc: Global) -> Vec<Option<Arc<Version>>> {
-    vec![in alloc; Some(version(rt, alloc, 7, b"alpha:1")), None].expect(rt, "versions")
+/// What is shown of these maps where passwd.byname has this version.
+pub fn start(rt: &impl Abort, alloc: Global, version: Arc<Version>) -> Vec<Option<Arc<Version>>> {
+    vec![in alloc; Some(version), None].expect(rt, "versions")
 }
 
 // A board of these maps.
 fn board<R: RandomSource + Abort>(rt: &R, alloc: Global) -> PlainBoard {
     let catalog = catalog(rt, alloc);
-    let start = start(rt, alloc);
+    let start = start(rt, alloc, version(rt, alloc, 7, b"alpha:1"));
     assert_fits(rt, start.len(), &catalog);
     PlainBoard::new(alloc, catalog, start).expect(rt, "a board")
 }
 
-// The versions that others show, the next last.
-fn waiting<R: RandomSource + Abort>(rt: &R, alloc: Global, values: &[&[u8]]) -> Vec<Arc<Version>> {
+/// Versions with these values of `alpha` that others show, the next last.
+pub fn waiting<R: RandomSource + Abort>(
+    rt: &R,
+    alloc: Global,
+    values: &[&[u8]],
+) -> Vec<Arc<Version>> {
     let mut waiting = Vec::new(alloc);
     for value in values {
         let next = version(rt, alloc, 8, *value);

@@ -1,88 +1,54 @@
 //! Connections one after another by one worker, and the points of its gate.
 
-use crate::given::{assert_same, named};
-use crate::sample::output_of;
+use crate::given::assert_same;
+use crate::halls::Visit;
 use crate::worker::gate::Recorder;
-use crate::worker::host::{TestHost, host_of};
+use crate::worker::host::version;
+use crate::worker::run::{BOTH, Row, TWO, try_row, visited};
 use std::alloc::Global;
 use std::process::Abort;
 use std::random::RandomSource;
-use yp_answer::session::{End, Session};
-use yp_io::{MemSink, MemSource, MemWire, Pair, Peer};
-use yp_worker::{Gate, OpenGate, Point, Worker};
+use std::sync::Wait;
+use yp_io::Notice;
+use yp_worker::{Point, Tally};
 
-const PEER: Peer = Peer {
-    addr: [127, 0, 0, 1],
-    port: 700,
+// The worker catches up before each connection, and serves it to its end before the next.
+const ONE_BY_ONE: Row<'static> = Row {
+    name: "nothing is shown, and the worker goes on with what it knew",
+    visit: Visit {
+        callers: &[("MATCH", 0, 0), ("MATCH MATCH", 0, 0)],
+        script: &[
+            Notice::Quiet,
+            Notice::Ready { place: 0 },
+            Notice::Quiet,
+            Notice::Ready { place: 0 },
+        ],
+        ..TWO
+    },
+    tally: Tally {
+        connections: 2,
+        calls: 3,
+        listen_fault: false,
+    },
+    closed: &[(1, "ONE"), (2, "ONE ONE")],
+    ..BOTH
 };
 
-// MATCH of `alpha` in passwd.byname of `d` (yp.x), and the replies with the values `alpha:1` and `alpha:2`.
-static NAMES: &str = "\
-MATCH = 80000050 00000001 00000000 00000002 000186a4 00000002 00000003 00000000 00000000 00000000 \
-    00000000 00000001 64000000 0000000d 70617373 77642e62 796e616d 65000000 00000005 616c7068 \
-    61000000
-ONE = 80000028 00000001 00000001 00000000 00000000 00000000 00000000 00000001 00000007 616c7068 \
-    613a3100
-TWO = 80000028 00000001 00000001 00000000 00000000 00000000 00000000 00000001 00000007 616c7068 \
-    613a3200
-";
-
-// A wire with this input. Its sink takes at most 30 bytes in a write.
-fn wire(rt: &impl Abort, alloc: Global, input: &str) -> MemWire {
-    Pair {
-        source: MemSource::new(named(rt, alloc, NAMES, input), 1000, Vec::new(alloc)),
-        sink: MemSink::new(alloc, 30, Vec::new(alloc)),
-    }
-}
-
-// What came of a connection: its end, how many records were read, and what it wrote.
-type Came = (End, u64, Vec<u8>);
-
-// Serves a connection with this input, numbered so.
-fn serve<G: Gate + Copy>(
-    rt: &impl Abort,
-    alloc: Global,
-    worker: &mut Worker<TestHost, G>,
-    connection: u64,
-    input: &str,
-) -> Came {
-    let (wire, end) = worker.one(wire(rt, alloc, input), PEER, connection);
-    (end, worker.calls(), output_of(rt, alloc, &wire))
-}
-
-// Two connections one after the other, the second with this input, behind which others show these values, each before
-// the worker catches up.
-fn served<R: RandomSource + Abort, G: Gate + Copy>(
-    rt: &R,
-    alloc: Global,
-    values: &[&[u8]],
-    gate: G,
-    input: &str,
-) -> (Came, Came) {
-    let session = Session::new(alloc).expect(rt, "a session");
-    let mut worker = Worker::new(host_of(rt, alloc, values), session, gate, 9);
-    let first = serve(rt, alloc, &mut worker, 1, "MATCH");
-    let second = serve(rt, alloc, &mut worker, 2, input);
-    (first, second)
-}
-
-// What others show, the reply on the first connection, and both on the second. Where none is shown, memory runs out
-// for the worker, which goes on with what it knew.
-type Row = (&'static [&'static [u8]], &'static str, &'static str);
-
-static ROWS: [Row; 3] = [
-    (&[], "ONE", "ONE ONE"),
-    (&[b"alpha:2"], "TWO", "TWO TWO"),
-    (&[b"alpha:1", b"alpha:2"], "ONE", "TWO TWO"),
+static ROWS: [Row<'static>; 3] = [
+    ONE_BY_ONE,
+    Row {
+        name: "a newer version",
+        shown: &[b"alpha:2"],
+        closed: &[(1, "TWO"), (2, "TWO TWO")],
+        ..ONE_BY_ONE
+    },
+    Row {
+        name: "a newer version for the second alone",
+        shown: &[b"alpha:1", b"alpha:2"],
+        closed: &[(1, "ONE"), (2, "TWO TWO")],
+        ..ONE_BY_ONE
+    },
 ];
-
-fn try_row<R: RandomSource + Abort>(rt: &R, alloc: Global, row: &Row) {
-    let (values, first, second) = row;
-    let one = (End::Clean, 1, named(rt, alloc, NAMES, first));
-    let two = (End::Clean, 2, named(rt, alloc, NAMES, second));
-    let came = served(rt, alloc, values, OpenGate, "MATCH MATCH");
-    assert_same(rt, &came, &(one, two), "two connections");
-}
 
 #[test]
 fn two_connections(rt: HostRuntime) {
@@ -92,9 +58,14 @@ fn two_connections(rt: HostRuntime) {
 }
 
 // The points of a worker that serves two connections.
-fn points<R: RandomSource + Abort>(rt: &R, alloc: Global) -> Vec<Point> {
+fn points<R: Wait + RandomSource + Abort>(rt: &R, alloc: Global) -> Vec<Point> {
     let gate = Recorder::new(alloc);
-    served(rt, alloc, &[], &gate, "");
+    let visit = Visit {
+        callers: &[("MATCH", 0, 0), ("", 0, 0)],
+        ..TWO
+    };
+    let first = version(rt, alloc, 7, b"alpha:1");
+    visited(rt, alloc, &visit, first, Vec::new(alloc), &gate);
     gate.into_points()
 }
 

@@ -1,172 +1,176 @@
-//! A worker that serves the connections of a listener in memory.
+//! A worker that serves the connections of a hall in memory.
 
 ghost use Rattle.std.specs.Prelude.{◌≡◌, ◌<◌, []};
 ghost use Rattle.yp_board.specs.Views.{IsFront};
-ghost use Rattle.yp_io.specs.inside.MemListen.{MemListenModel, calls_of};
 ghost use Rattle.yp_answer.specs.inside.session.Hosts.{conduct_by};
-ghost use Rattle.yp_worker.specs.Receptions.{listen_tells, opening_by};
+ghost use Rattle.yp_worker.specs.Receptions.{opening_by};
 ghost use Rattle.yp_worker.specs.inside.Receptions.{terms_by};
 ghost use Rattle.yp_worker.specs.Summing.{SumsUp, counting_of};
 
 use crate::given::{NEVER, assert_same, named};
-use crate::listeners::{listener, taken};
-use crate::worker::reader::{Handed, ReaderHost, two_readers};
+use crate::halls::{Closed, Visit, closed, hall, taken};
+use crate::worker::host::{version, waiting};
+use crate::worker::reader::{Handed, ReaderHost, known, two_readers};
 use std::alloc::Global;
 use std::marker::Brand;
 use std::process::Abort;
 use std::random::RandomSource;
 use std::sync::ledger::{Blank, Ledger};
-use std::sync::{Mutex, Wait};
+use std::sync::{Arc, Mutex, Wait};
 use std::thread::Threads;
-use yp_answer::session::Session;
+use yp_answer::session::Buffers;
 use yp_board::Tell;
-use yp_board::readers::{Naming, Opened, Writer};
-use yp_io::{Listen, MemListen};
-use yp_worker::{HandsOver, Listening, OpenGate, Pass, Reception, Tally, Worker, laws, run_beside};
+use yp_board::readers::{Naming, Opened, Reader, Writer};
+use yp_io::{Hall, MemHall};
+use yp_version::Version;
+use yp_worker::{
+    Gate, HandsOver, Listening, OpenGate, Pass, Reception, Tally, Worker, laws, run_beside,
+};
 
-// NULL of YP (RFC 5531 section 9, yp.x), and its reply; XFR of hosts.byname of `d` from the host `m2`, and its reply
-// with SUCC.
+// NULL of YP (RFC 5531 section 9, yp.x), and its reply; MATCH of `alpha` in passwd.byname of `d`, and its replies with
+// the values `alpha:1` and `alpha:2`; XFR of hosts.byname of `d` from the host `m2`, and its reply with SUCC; ALL of
+// passwd.byname of `d`.
 static NAMES: &str = "\
 NULL = 80000028 00000001 00000000 00000002 000186a4 00000002 00000000 00000000 00000000 00000000 \
     00000000
 NULL_REPLY = 80000018 00000001 00000001 00000000 00000000 00000000 00000000
+MATCH = 80000050 00000001 00000000 00000002 000186a4 00000002 00000003 00000000 00000000 00000000 \
+    00000000 00000001 64000000 0000000d 70617373 77642e62 796e616d 65000000 00000005 616c7068 \
+    61000000
+ONE = 80000028 00000001 00000001 00000000 00000000 00000000 00000000 00000001 00000007 616c7068 \
+    613a3100
+TWO = 80000028 00000001 00000001 00000000 00000000 00000000 00000000 00000001 00000007 616c7068 \
+    613a3200
 XFR = 80000058 00000005 00000000 00000002 000186a4 00000002 00000006 00000000 00000000 00000000 \
     00000000 00000001 64000000 0000000c 686f7374 732e6279 6e616d65 00000000 00000002 6d320000 \
     00000009 40000000 00000400
 TAKEN = 80000020 00000005 00000001 00000000 00000000 00000000 00000000 00000009 00000001
+ALL = 80000044 00000004 00000000 00000002 000186a4 00000002 00000008 00000000 00000000 00000000 \
+    00000000 00000001 64000000 0000000d 70617373 77642e62 796e616d 65000000
 ";
 
-// What the lock kept, how many transfers hosts carried out, how many connections were accepted, and what each that went
-// back had taken.
-type Came = (Tally, u64, u32, Vec<u8>);
+// The bytes of a text of these names and of other words.
+pub fn words(rt: &impl Abort, alloc: Global, text: &str) -> Vec<u8> {
+    named(rt, alloc, NAMES, text)
+}
 
-// Runs a worker that reads a board over a listener to the end.
-fn served<J: Reception, E: Ledger, B: Tell, R: Wait + RandomSource + Abort>(
+// What came of the connections of a hall: what the lock kept, how many transfers hosts carried out, and the hall.
+type Ran = (Tally, u64, MemHall);
+
+// Runs a worker that reads a board over a hall to the end.
+fn served<'r, J: Reception, E: Ledger, N: Naming, G, R: Wait + RandomSource + Abort>(
     rt: &R,
     alloc: Global,
     out: Blank,
     ended: Blank,
-    listen: MemListen,
-    writer: &mut B,
-    reader: B::Reader,
-) -> (Tally, Came)
+    listen: MemHall,
+    host: ReaderHost<'r, N, R>,
+    gate: G,
+) -> (Tally, Ran)
 where
-    B::Reader: Drop,
+    G: Gate + Copy + Drop,
     requires out { (out.name ≡ J.name) × (out.parts ≡ J.parts) × (0 < out.parts) }
     requires ended { (ended.name ≡ E.name) × (ended.parts ≡ E.parts) × (0 < ended.parts) }
-    requires opening { listen_tells calls_of (λ (l : MemListenModel). l.most) (λ (l : MemListenModel). l.accepted)
-        (λ (l : MemListenModel). l.returned) (λ (l : MemListenModel). l.faults) listen ≡ J.opening }
-    requires catalogue { (B.Reader.seen reader).catalogue ≡ J.catalogue }
-    requires knows { IsFront J.starts (B.Reader.seen reader).known }
+    requires opening { opening_by ⟦<MemHall as Hall>⟧ listen ≡ J.opening }
+    requires catalogue { host.reader.catalogue ≡ J.catalogue }
+    requires knows { IsFront J.starts host.reader.known }
+    requires none { host.transfers ≡ 0 }
     requires most { 9 ≡ J.most }
 {
     let (book, share) = out.open::<J>();
     let (ends, mine) = ended.open::<E>();
     let mut pass = Pass::new(share, mine);
-    let none = none_of::<B>(&reader);
-    let mut worker = worker::<B>(rt, alloc, reader);
-    let listening = Mutex::new(Listening::<J, E, ReaderHost<B>, MemListen>::new(
+    let none = none_of::<N, R>(&host.reader);
+    let mut worker = worker(rt, alloc, host, gate);
+    let listening = Mutex::new(Listening::<J, E, ReaderHost<'r, N, R>, MemHall>::new(
         listen, book, ends, none,
     ));
     let own = worker.run(rt, &listening, &mut pass);
-    (
-        own,
-        closed(rt, alloc, listening.into_inner(), &mut pass, writer),
-    )
+    let mut writer = worker.into_host().writer.expect(rt, "a writer");
+    let ran = ended_with::<J, E, N, R>(listening.into_inner(), &mut pass, &mut writer);
+    (own, ran)
 }
 
-// Runs two workers that read a board, each in a thread, over a listener to the end.
-fn shared<J, E, B, R: Threads + Wait + Sync + RandomSource + Abort>(
+// Runs two workers that read a board, each in a thread, over a hall to the end.
+fn shared<'r, J, E, N, R: Threads + Wait + Sync + RandomSource + Abort>(
     rt: &R,
     alloc: Global,
     out: Blank,
     ended: Blank,
-    listen: MemListen,
-    writer: &mut B,
-    readers: (B::Reader, B::Reader),
-) -> Came
+    listen: MemHall,
+    writer: &mut Writer<N, &'r R>,
+    hosts: (ReaderHost<'r, N, R>, ReaderHost<'r, N, R>),
+) -> Ran
 where
     J: Reception + Send + Sync,
     E: Ledger + Send + Sync,
-    B: Tell + Send,
-    B::Reader: Send + Drop,
-    B::Front: Send,
+    N: Naming + Send + Sync,
     requires out { (out.name ≡ J.name) × (out.parts ≡ J.parts) × (out.parts ≡ 2) }
     requires ended { (ended.name ≡ E.name) × (ended.parts ≡ E.parts) × (ended.parts ≡ 2) }
-    requires opening { listen_tells calls_of (λ (l : MemListenModel). l.most) (λ (l : MemListenModel). l.accepted)
-        (λ (l : MemListenModel). l.returned) (λ (l : MemListenModel). l.faults) listen ≡ J.opening }
-    requires first { (B.Reader.seen readers.0).catalogue ≡ J.catalogue }
-    requires second { (B.Reader.seen readers.1).catalogue ≡ J.catalogue }
+    requires opening { opening_by ⟦<MemHall as Hall>⟧ listen ≡ J.opening }
+    requires first { hosts.0.reader.catalogue ≡ J.catalogue }
+    requires second { hosts.1.reader.catalogue ≡ J.catalogue }
+    requires none { (hosts.0.transfers ≡ 0) × (hosts.1.transfers ≡ 0) }
     requires starts { J.starts ≡ [] }
     requires most { 9 ≡ J.most }
 {
     let (book, mut mine) = out.open::<J>();
     let (ends, mut my_ends) = ended.open::<E>();
     let (theirs, their_ends) = (mine.split_off(1, 0), my_ends.split_off(1, 0));
-    let none = none_of::<B>(&readers.0);
-    let listening = Mutex::new(Listening::<J, E, ReaderHost<B>, MemListen>::new(
+    let none = none_of::<N, R>(&hosts.0.reader);
+    let listening = Mutex::new(Listening::<J, E, ReaderHost<'r, N, R>, MemHall>::new(
         listen, book, ends, none,
     ));
-    let first = (worker::<B>(rt, alloc, readers.0), Pass::new(mine, my_ends));
+    let first = (
+        worker(rt, alloc, hosts.0, OpenGate),
+        Pass::new(mine, my_ends),
+    );
     let second = (
-        worker::<B>(rt, alloc, readers.1),
+        worker(rt, alloc, hosts.1, OpenGate),
         Pass::new(theirs, their_ends),
     );
     let ((mut pass, _), (other, _)) = run_beside(rt, &listening, first, second);
     pass.merge(other);
-    closed(rt, alloc, listening.into_inner(), &mut pass, writer)
+    ended_with::<J, E, N, R>(listening.into_inner(), &mut pass, writer)
 }
 
 // Closes what workers listened on, once all of them have ended.
-fn closed<J: Reception, E: Ledger, B: Tell>(
-    rt: &impl Abort,
-    alloc: Global,
-    listening: Listening<J, E, ReaderHost<B>, MemListen>,
+fn ended_with<'r, J: Reception, E: Ledger, N: Naming, R: Wait>(
+    listening: Listening<J, E, ReaderHost<'r, N, R>, MemHall>,
     pass: &mut Pass<J, E>,
-    writer: &mut B,
-) -> Came
+    writer: &mut Writer<N, &'r R>,
+) -> Ran
     requires all { pass.old.parts ≡ J.parts }
     requires none_out { pass.old.out ≡ 0 }
     requires ended { 0 < pass.old.ended }
 {
     let (listen, tally, sum) = listening.close(pass);
-    cover::<J, ReaderHost<B>, MemListen, B>(writer, &listen, &tally, &sum, &sum.front);
-    let output = taken(rt, alloc, &listen);
-    (tally, sum.transfers, listen.accepted(), output)
+    cover::<J, ReaderHost<'r, N, R>, MemHall, Writer<N, &'r R>>(
+        writer, &listen, &tally, &sum, &sum.front,
+    );
+    (tally, sum.transfers, listen)
 }
 
 // What nobody has counted, with what this reader knows.
-fn none_of<B: Tell>(reader: &B::Reader) -> Handed<B>
+fn none_of<N: Naming, R: Wait>(reader: &Reader<N>) -> Handed<N>
     ensures { result.transfers ≡ 0 }
 {
     Handed {
         transfers: 0,
-        front: B::known(reader),
+        front: known::<N, R>(reader),
     }
 }
 
-// A worker with this reader, which answers at most 9 records of a connection.
-fn worker<B: Tell>(
-    rt: &impl Abort,
-    alloc: Global,
-    reader: B::Reader,
-) -> Worker<ReaderHost<B>, OpenGate>
-    ensures { result ≡ record {
-      host = record { reader = reader; transfers = 0 };
-      most = 9;
-      progress = result.progress;
-    } }
+// A worker with this host, which answers at most 9 records of a connection.
+fn worker<H, G>(rt: &impl Abort, alloc: Global, host: H, gate: G) -> Worker<H, G>
+    ensures { result ≡ record { host = host; most = 9 } }
 {
-    let session = Session::new(alloc).expect(rt, "a session");
-    let host = ReaderHost {
-        reader,
-        transfers: 0,
-    };
-    Worker::new(host, session, OpenGate, 9)
+    let buffers = Buffers::new(alloc).expect(rt, "buffers");
+    Worker::new(host, buffers, gate, 9)
 }
 
 // Covers what each connection was answered on: it is a front of what is shown.
-fn cover<J: Reception, H: HandsOver, L: Listen, B: Tell>(
+fn cover<J: Reception, H: HandsOver, L: Hall, B: Tell>(
     writer: &mut B,
     listen: &L,
     tally: &Tally,
@@ -175,12 +179,104 @@ fn cover<J: Reception, H: HandsOver, L: Listen, B: Tell>(
 )
     requires reached { H.reached sum.now ≡ B.kept front.now }
     requires summed { SumsUp (conduct_by H.Host) (counting_of H.counted H.none H.plus) (terms_by J.Reception) J.opening
-        (opening_by L.Listen listen.now) tally.now.calls (H.summed sum.now) (H.reached sum.now) }
+        (opening_by L.Hall listen.now) tally.now.calls (H.summed sum.now) (H.reached sum.now) }
     ensures { SumsUp (conduct_by H.Host) (counting_of H.counted H.none H.plus) (terms_by J.Reception) J.opening
-        (opening_by L.Listen listen.now) tally.now.calls (H.summed sum.now) (B.log writer.new) }
+        (opening_by L.Hall listen.now) tally.now.calls (H.summed sum.now) (B.log writer.new) }
 {
     writer.covers(front);
     laws::sums_reach_further::<H>();
+}
+
+// Runs a worker that reads a board over this hall. The first map has this version, and others show these, the next
+// last.
+fn one<N: Naming, G: Gate + Copy + Drop, R: Wait + RandomSource + Abort>(
+    rt: &R,
+    alloc: Global,
+    opened: Opened,
+    listen: MemHall,
+    first: Arc<Version>,
+    waiting: Vec<Arc<Version>>,
+    gate: G,
+) -> (Tally, Ran)
+    requires board { opened ≡ N.book }
+{
+    let (writer, reader, _) = two_readers::<N, R>(rt, alloc, opened, first);
+    let (out, ended) = (Blank::new(1), Blank::new(1));
+    let host = ReaderHost {
+        reader,
+        writer: Some(writer),
+        waiting,
+        transfers: 0,
+    };
+    served::<Brand, Brand, N, G, R>(rt, alloc, out, ended, listen, host, gate)
+}
+
+// What came of a visit: what the worker counted, what the lock kept, how many transfers were carried out, how many
+// connections were accepted, how many were let go, and those that were closed.
+pub type Came = (Tally, Tally, u64, u64, u64, Vec<Closed>);
+
+// What comes of a visit to a worker that reads a board.
+pub fn visited<G: Gate + Copy + Drop, R: Wait + RandomSource + Abort>(
+    rt: &R,
+    alloc: Global,
+    visit: &Visit<'_>,
+    first: Arc<Version>,
+    waiting: Vec<Arc<Version>>,
+    gate: G,
+) -> Came {
+    let listen = hall(rt, alloc, NAMES, visit);
+    let (own, (tally, transfers, listen)) = one::<Brand, G, R>(
+        rt,
+        alloc,
+        Opened::new(),
+        listen,
+        first,
+        waiting,
+        gate,
+    );
+    let closed = closed(rt, alloc, &listen);
+    let accepted = u64::from(listen.accepted());
+    (own, tally, transfers, accepted, listen.let_go(), closed)
+}
+
+// A visit, and the values of `alpha` that others show behind `alpha:1`, each where the worker catches up. What comes of
+// it: what was counted, how many transfers were carried out, how many connections were let go, and of each that was
+// closed its port and what it had taken.
+#[derive(Clone, Copy)]
+pub struct Row<'v> {
+    pub name: &'static str,
+    pub visit: Visit<'v>,
+    pub shown: &'static [&'static [u8]],
+    pub tally: Tally,
+    pub transfers: u64,
+    pub let_go: u64,
+    pub closed: &'v [(u16, &'static str)],
+}
+
+// What is to be closed.
+pub fn closed_of(rt: &impl Abort, alloc: Global, wanted: &[(u16, &str)]) -> Vec<Closed> {
+    let mut all = Vec::new(alloc);
+    for (port, output) in wanted {
+        all.push((*port, words(rt, alloc, output)))
+            .expect(rt, "memory for a connection");
+    }
+    all
+}
+
+pub fn try_row<R: Wait + RandomSource + Abort>(rt: &R, alloc: Global, row: &Row<'_>) {
+    let first = version(rt, alloc, 7, b"alpha:1");
+    let waiting = waiting(rt, alloc, row.shown);
+    let came = visited(rt, alloc, &row.visit, first, waiting, OpenGate);
+    let closed = closed_of(rt, alloc, row.closed);
+    let wanted = (
+        row.tally,
+        row.tally,
+        row.transfers,
+        row.tally.connections,
+        row.let_go,
+        closed,
+    );
+    assert_same(rt, &came, &wanted, row.name);
 }
 
 const SERVED: Tally = Tally {
@@ -189,85 +285,61 @@ const SERVED: Tally = Tally {
     listen_fault: false,
 };
 
-// What both connections ask, the calls of the listener that fail, what was counted, how many transfers were carried
-// out, how many connections were accepted, and what was written.
-#[derive(Clone, Copy)]
-struct Row {
-    input: &'static str,
-    failing: u64,
-    tally: Tally,
-    transfers: u64,
-    accepted: u32,
-    output: &'static str,
-}
-
-const BOTH: Row = Row {
-    input: "NULL NULL",
+// Two callers, who never wait.
+pub const TWO: Visit<'static> = Visit {
+    callers: &[("NULL NULL", 0, 0), ("NULL NULL", 0, 0)],
+    most: 2,
     failing: NEVER,
-    tally: SERVED,
-    transfers: 0,
-    accepted: 2,
-    output: "NULL_REPLY NULL_REPLY NULL_REPLY NULL_REPLY",
+    pausing: 0,
+    script: &[],
 };
 
-static ROWS: [Row; 4] = [
+pub const BOTH: Row<'static> = Row {
+    name: "two connections",
+    visit: TWO,
+    shown: &[],
+    tally: SERVED,
+    transfers: 0,
+    let_go: 0,
+    closed: &[(1, "NULL_REPLY NULL_REPLY"), (2, "NULL_REPLY NULL_REPLY")],
+};
+
+// The hall is asked for a watch first.
+static ROWS: [Row<'static>; 4] = [
     BOTH,
     Row {
-        input: "NULL XFR",
+        name: "two transfers",
+        visit: Visit {
+            callers: &[("NULL XFR", 0, 0), ("NULL XFR", 0, 0)],
+            ..TWO
+        },
         transfers: 2,
-        output: "NULL_REPLY TAKEN NULL_REPLY TAKEN",
+        closed: &[(1, "NULL_REPLY TAKEN"), (2, "NULL_REPLY TAKEN")],
         ..BOTH
     },
     Row {
-        failing: 0,
+        name: "the first accept fails",
+        visit: Visit { failing: 1, ..TWO },
         tally: Tally {
             connections: 0,
             calls: 0,
             listen_fault: true,
         },
-        accepted: 0,
-        output: "",
+        closed: &[],
         ..BOTH
     },
     Row {
-        failing: 1,
+        name: "the second accept fails",
+        visit: Visit { failing: 2, ..TWO },
         tally: Tally {
             connections: 1,
             calls: 2,
             listen_fault: true,
         },
-        accepted: 1,
-        output: "NULL_REPLY NULL_REPLY",
+        closed: &[(1, "NULL_REPLY NULL_REPLY")],
         ..BOTH
     },
 ];
-
-// Runs a worker that reads a board over this listener.
-fn one<N: Naming, R: Wait + RandomSource + Abort>(
-    rt: &R,
-    alloc: Global,
-    opened: Opened,
-    listen: MemListen,
-) -> (Tally, Came)
-    requires board { opened ≡ N.book }
-{
-    let (mut writer, reader, _) = two_readers::<N, R>(rt, alloc, opened);
-    let (out, ended) = (Blank::new(1), Blank::new(1));
-    served::<Brand, Brand, Writer<N, &R>, R>(rt, alloc, out, ended, listen, &mut writer, reader)
-}
-
-fn try_row<R: Wait + RandomSource + Abort>(rt: &R, alloc: Global, row: &Row) {
-    let output = named(rt, alloc, NAMES, row.output);
-    let listen = listener(rt, alloc, NAMES, &[row.input, row.input], row.failing);
-    let came = one::<Brand, R>(rt, alloc, Opened::new(), listen);
-    let all = (row.tally, row.transfers, row.accepted, output);
-    assert_same(
-        rt,
-        &came,
-        &(row.tally, all),
-        "the connections of a listener",
-    );
-}
 
 #[test]
 fn all_connections_of_a_listener(rt: HostRuntime) {
@@ -276,27 +348,47 @@ fn all_connections_of_a_listener(rt: HostRuntime) {
     }
 }
 
-// Runs two workers that read one board, each in a thread, over this listener.
+// A host that reads a board, on which others show nothing.
+fn host<'r, N: Naming, R: Wait>(alloc: Global, reader: Reader<N>) -> ReaderHost<'r, N, R>
+    ensures reader { result.reader ≡ reader }
+    ensures transfers { result.transfers ≡ 0 }
+{
+    ReaderHost {
+        reader,
+        writer: None,
+        waiting: Vec::new(alloc),
+        transfers: 0,
+    }
+}
+
+// Runs two workers that read one board, each in a thread, over this hall.
 fn two<N: Naming + Send + Sync, R: Threads + Wait + Sync + RandomSource + Abort>(
     rt: &R,
     alloc: Global,
     opened: Opened,
-    listen: MemListen,
-) -> Came
+    listen: MemHall,
+) -> Ran
     requires board { opened ≡ N.book }
 {
-    let (mut writer, first, second) = two_readers::<N, R>(rt, alloc, opened);
+    let first = version(rt, alloc, 7, b"alpha:1");
+    let (mut writer, one, other) = two_readers::<N, R>(rt, alloc, opened, first);
     let (out, ended) = (Blank::new(2), Blank::new(2));
-    let readers = (first, second);
-    shared::<Brand, Brand, Writer<N, &R>, R>(rt, alloc, out, ended, listen, &mut writer, readers)
+    let hosts = (host(alloc, one), host(alloc, other));
+    shared::<Brand, Brand, N, R>(rt, alloc, out, ended, listen, &mut writer, hosts)
 }
 
 #[test]
 fn two_workers_in_threads(rt: HostRuntime) {
     let alloc = rt.alloc();
-    let output = named(&rt, alloc, NAMES, BOTH.output);
-    let listen = listener(&rt, alloc, NAMES, &[BOTH.input, BOTH.input], NEVER);
-    let came = two::<Brand, _>(&rt, alloc, Opened::new(), listen);
+    let listen = hall(&rt, alloc, NAMES, &BOTH.visit);
+    let (tally, transfers, listen) = two::<Brand, _>(&rt, alloc, Opened::new(), listen);
+    let output = words(&rt, alloc, "NULL_REPLY NULL_REPLY NULL_REPLY NULL_REPLY");
+    let came = (
+        tally,
+        transfers,
+        listen.accepted(),
+        taken(&rt, alloc, &listen),
+    );
     let wanted = (SERVED, 0, 2, output);
     assert_same(&rt, &came, &wanted, "the connections of two workers");
 }

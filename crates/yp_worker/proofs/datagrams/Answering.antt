@@ -6,7 +6,6 @@ use Rattle.yp_io.specs.declared.stream.Peer.{Peer}
 use Rattle.yp_messages.specs.declared.transfer.XfrStat.{XfrStat}
 use Rattle.yp_board.specs.Logs.{Log}
 use Rattle.yp_board.specs.Views.{Seen, IsFront}
-use Rattle.yp_publisher.specs.sharing.Shares.{Learns}
 use Rattle.yp_answer.specs.declared.make.MakeJob.{MakeJob}
 use Rattle.yp_answer.specs.declared.procedure.Path.TheVariants.{Datagram}
 use Rattle.yp_answer.specs.Maps.{maps_of}
@@ -82,27 +81,17 @@ module _ {H : Type 0} (conduct : Conduct H) (peer : Peer) where
   carried_counts (Open xid job) turn old new h = rw (h.2, h.3) h.4.counted
 
   -- a datagram's turn, from its link
-  pub answered : {T : Type 0} (counted : H → T) (turn : Turn) (old start new : H)
-      → Learns (conduct.seen old) (conduct.seen start) → conduct.counts start ≡ conduct.counts old
-      → counted start ≡ counted old → Link conduct Datagram peer turn start new
-      → AnswersMail conduct counted peer turn old new
-  answered counted turn old start new learned uncounted kept link =
+  pub answered : (turn : Turn) (old new : H) → Link conduct Datagram peer turn old new → AnswersMail conduct peer turn old new
+  answered turn old new link =
       let response = reply Datagram (maps_of (conduct.seen link.mid)) peer turn.message in
-      let learns : Later (conduct.seen old) (conduct.seen start) =
-      record { grown = learned.grown; catalogue = ap (λ (s : Seen). s.catalogue) learned.same } in
-      let went = later_then (conduct.seen old) (conduct.seen start) (conduct.seen new) learns
-      (later_then (conduct.seen start) (conduct.seen link.mid) (conduct.seen new)
-      (stepped (asks Datagram turn.message) start link.mid link.step) (carried response turn link.mid new link.carried)) in
+      let went = later_then (conduct.seen old) (conduct.seen link.mid) (conduct.seen new)
+      (stepped (asks Datagram turn.message) old link.mid link.step) (carried response turn link.mid new link.carried) in
       record {
-        start = start;
-        learned = learned;
-        uncounted = uncounted;
-        carried = kept;
         link = link;
         grown = went.grown;
         catalogue = went.catalogue;
         counts = carried_counts response turn link.mid new link.carried
-            ∙ ap (λ (counts : Counts). counts_behind counts turn) (link.uncounted ∙ uncounted);
+            ∙ ap (λ (counts : Counts). counts_behind counts turn) link.uncounted;
       }
 
   -- ---- behind the reply
@@ -151,14 +140,13 @@ module _ {H : Type 0} (conduct : Conduct H) (peer : Peer) where
   )
 
   -- a datagram's turn once its reply is out, and what waited is carried out
-  pub answers_sent : {T : Type 0} (counted : H → T) (turn : Turn) (old new ready : H) → turn.flushed ≡ false
-      → AnswersMail conduct counted peer turn old new
+  pub answers_sent : (turn : Turn) (old new ready : H) → turn.flushed ≡ false → AnswersMail conduct peer turn old new
       → CarriesAwaited conduct (option_map (λ taken. (taken, peer)) turn.taken) new ready
-      → AnswersMail conduct counted peer (sent turn) old ready
-  answers_sent counted turn old new ready is answers behind =
+      → AnswersMail conduct peer (sent turn) old ready
+  answers_sent turn old new ready is answers behind =
       let link = answers.link in
       let response = reply Datagram (maps_of (conduct.seen link.mid)) peer turn.message in
-      answered counted (sent turn) old answers.start ready answers.learned answers.uncounted answers.carried record {
+      answered (sent turn) old ready record {
         mid = link.mid;
         step = link.step;
         uncounted = link.uncounted;

@@ -8,6 +8,8 @@ use Rattle.yp_answer.specs.session.Hosts.{Counts, Conduct, counts_over}
 use Rattle.yp_rpc.specs.Turns.{Meets, drops, listens, replies, is_quiet, Runs, is_spent, is_done, sends, loses_letter, takes, loses_turn, loses_reply, InboxTells, datagram_max, TakesTurns}
 use Rattle.yp_rpc.specs.declared.turns.Ended.{Ended}
 use Rattle.yp_rpc.specs.declared.turns.Ended.TheVariants.{Done, Spent}
+use Rattle.yp_board.specs.Views.{Seen}
+use Rattle.yp_worker.specs.Working.{IsTold}
 use Rattle.yp_worker.specs.datagrams.Mailing.{Awaited, Mailing, AnswersMail, CarriesAwaited, Clears, Hears, Closes, mail_ways}
 use Rattle.yp_worker.specs.datagrams.Serving.{MailTurn, Dropped, Rested, Answered, reply_posts, posts_in, posts_over, answered_turns, DoesTurn, DoesTurns, LosesAnswer, EndsTurns, ServesPosts, ServesMail}
 use Rattle.yp_worker.proofs.datagrams.Answering.{Later, later_then, same, sent, answers_sent}
@@ -71,12 +73,12 @@ module _ {H T : Type 0} (conduct : Conduct H) (counted : H → T) where
   -- a datagram that was heard, before others
   heard_before : (most : ℕ) (events : List InboxEvent) (end : Result Ended Failed) (old waiting next : Mailing H) (new : H)
       (from : Peer) (bytes : List ℕ) (answer : Option (List ℕ))
-      → Clears conduct old waiting → length bytes ≤ datagram_max → Hears conduct counted from bytes answer waiting next
+      → Clears conduct old waiting → length bytes ≤ datagram_max → Hears conduct from bytes answer waiting next
       → ServesPosts conduct counted most end events next new
       → ServesPosts conduct counted (suc most) end (Arrived from bytes ∷ reply_posts from answer ++ events) old new
   heard_before most events end old waiting next new from bytes answer clears short heard later =
       let turn = heard.turn in
-      let answers = answers_sent conduct from counted turn waiting.host next.host later.ready heard.unsent heard.answers
+      let answers = answers_sent conduct from turn waiting.host next.host later.ready heard.unsent heard.answers
       (subst (λ w. CarriesAwaited conduct w next.host later.ready) heard.waits later.carried) in
       let whole = before most events end waiting old next new (Answered from (sent conduct from turn)) clears later
       (subst (λ (l : List ℕ). length l ≤ datagram_max) (sym heard.message_is) short, refl, answers) answers.counts in
@@ -95,9 +97,9 @@ module _ {H T : Type 0} (conduct : Conduct H) (counted : H → T) where
   met_before most turn answers events end old waiting next new clears (replies from bytes reply a b short heard) later =
       heard_before most events end old waiting next new from bytes (Some reply) clears short heard later
   met_before most turn answers events end old waiting next new clears (is_quiet a b rests) later =
-      let carried = subst (λ (m : Mailing H). CarriesAwaited conduct m.waiting m.host later.ready) rests later.carried in
-      let ready = ready_is waiting.waiting waiting.host later.ready clears.cleared carried in
-      before most events end waiting old next new Rested clears later ready (ap conduct.counts ready)
+      let ready = ready_is next.waiting next.host later.ready (rests.waiting ∙ clears.cleared) later.carried in
+      let told = subst (λ (h : H). IsTold conduct counted waiting.host h) (sym ready) rests.told in
+      before most events end waiting old next new Rested clears later told told.counts
 
   -- ---- the ends
 
@@ -135,7 +137,7 @@ module _ {H T : Type 0} (conduct : Conduct H) (counted : H → T) where
         short = subst (λ (l : List ℕ). length l ≤ datagram_max) (sym heard.message_is) short;
         reply = subst IsSome (sym heard.answer_is) refl;
         unsent = heard.unsent;
-        answers = subst (λ (h : H). AnswersMail conduct counted from heard.turn waiting.host h) (sym (ap (λ (m : Mailing H). m.host) closes)) heard.answers;
+        answers = subst (λ (h : H). AnswersMail conduct from heard.turn waiting.host h) (sym (ap (λ (m : Mailing H). m.host) closes)) heard.answers;
       }),
     );
     all = refl;
@@ -176,7 +178,8 @@ module _ {H T : Type 0} (conduct : Conduct H) (counted : H → T) where
 
   turn_later : (one : MailTurn) (old new : H) → DoesTurn conduct counted one old new → Later (conduct.seen old) (conduct.seen new)
   turn_later (Dropped from bytes) old new does = same conduct old new does.1
-  turn_later Rested old new does = same conduct old new does
+  turn_later Rested old new does =
+      record { grown = does.learned.grown; catalogue = ap (λ (s : Seen). s.catalogue) does.learned.same }
   turn_later (Answered from turn) old new does = record { grown = does.2.grown; catalogue = does.2.catalogue }
 
   turns_later : (turns : List MailTurn) (old new : H) → DoesTurns conduct counted turns old new

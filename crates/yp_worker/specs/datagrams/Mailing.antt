@@ -5,10 +5,10 @@ use Rattle.yp_io.specs.declared.stream.Failed.{Failed}
 use Rattle.yp_board.specs.Views.{IsFront}
 use Rattle.yp_answer.specs.declared.procedure.Path.TheVariants.{Datagram}
 use Rattle.yp_answer.specs.Transfer.{Taken}
-use Rattle.yp_publisher.specs.sharing.Shares.{Learns}
 use Rattle.yp_answer.specs.session.Hosts.{Conduct, Turn, Link, CarriesOut, counts_behind}
 use Rattle.yp_rpc.specs.Turns.{Want, Turn as Taking, Ways, ways_of}
 use Rattle.yp_rpc.specs.declared.turns.Ended.{Ended}
+use Rattle.yp_worker.specs.Working.{IsTold}
 
 -- a transfer that was taken and isn't yet carried out, and its caller
 abbrev pub Awaited : Type 0
@@ -35,28 +35,17 @@ module _ {H : Type 0} (conduct : Conduct H) where
   Goes old Taking new = Clears old new
   Goes old want new = ⊥
 
-  -- A quiet turn changes nothing.
-  abbrev pub Rests : Mailing H → Mailing H → Type 0
-  Rests old new = new ≡ old
-
   -- What is left behind the last turn: a transfer whose reply went out is carried out. Where the inbox has failed no
   -- such reply is left, and what waits is dropped.
   abbrev pub Closes : Result Ended Failed → Mailing H → Mailing H → Type 0
   Closes (Ok ended) old new = Clears old new
   Closes (Err why) old new = new ≡ record old { waiting = None }
 
--- a host counts so
-module _ {H T : Type 0} (conduct : Conduct H) (counted : H → T) where
-  -- A datagram of a peer had its turn with the host. The host was told what others showed, or not, and from there on
-  -- the reply is that on what it then knows, and a map that the datagram asks for was made. A transfer that it asks for
-  -- was carried out exactly where the reply went out. What was known before is a front of what is known, and the host
-  -- counts on from what it had counted before.
+  -- A datagram of a peer had its turn with the host: the reply is that on what it then knows, and a map that the
+  -- datagram asks for was made. A transfer that it asks for was carried out exactly where the reply went out. What was
+  -- known before is a front of what is known.
   pub record AnswersMail (peer : Peer) (turn : Turn) (old new : H) : Type 0 where
-    pub start : H
-    pub learned : Learns (conduct.seen old) (conduct.seen start)
-    pub uncounted : conduct.counts start ≡ conduct.counts old
-    pub carried : counted start ≡ counted old
-    pub link : Link conduct Datagram peer turn start new
+    pub link : Link conduct Datagram peer turn old new
     pub grown : IsFront (conduct.seen old).known (conduct.seen new).known
     pub catalogue : (conduct.seen new).catalogue ≡ (conduct.seen old).catalogue
     pub counts : conduct.counts new ≡ counts_behind (conduct.counts old) turn
@@ -70,5 +59,12 @@ module _ {H T : Type 0} (conduct : Conduct H) (counted : H → T) where
     pub answers : AnswersMail peer turn old.host new.host
     pub waits : new.waiting ≡ option_map (λ taken. (taken, peer)) turn.taken
 
+-- a host counts so
+module _ {H T : Type 0} (conduct : Conduct H) (counted : H → T) where
+  -- In a quiet turn the host was told what others showed, or not.
+  pub record Rests (old new : Mailing H) : Type 0 where
+    pub told : IsTold conduct counted old.host new.host
+    pub waiting : new.waiting ≡ old.waiting
+
   abbrev pub mail_ways : Ways (Mailing H)
-  mail_ways = ways_of (Goes conduct) Hears (Rests conduct)
+  mail_ways = ways_of (Goes conduct) (Hears conduct) Rests

@@ -9,10 +9,11 @@ use Rattle.yp_answer.specs.session.Hosts.{Conduct, Turn, counts_over}
 use Rattle.yp_rpc.specs.Turns.{InboxTells, Runs, Sees, datagram_max}
 use Rattle.yp_rpc.specs.declared.turns.Ended.{Ended}
 use Rattle.yp_rpc.specs.declared.turns.Ended.TheVariants.{Done, Spent}
+use Rattle.yp_worker.specs.Working.{IsTold}
 use Rattle.yp_worker.specs.datagrams.Mailing.{Mailing, AnswersMail, CarriesAwaited, Closes, mail_ways}
 
--- what a server makes of a turn: a datagram that is too long is dropped, any other is answered, and a quiet turn is
--- nothing
+-- what a server makes of a turn: a datagram that is too long is dropped, any other is answered, and in a quiet turn its
+-- host may be told what others showed
 pub data MailTurn : Type 0 where
   Dropped : Peer → List ℕ → MailTurn
   Rested : MailTurn
@@ -45,9 +46,9 @@ module _ {H T : Type 0} (conduct : Conduct H) (counted : H → T) where
   -- what a turn does to the host, where its reply goes out
   abbrev pub DoesTurn : MailTurn → H → H → Type 0
   DoesTurn (Dropped from bytes) old new = (datagram_max < length bytes) × (new ≡ old)
-  DoesTurn Rested old new = new ≡ old
+  DoesTurn Rested old new = IsTold conduct counted old new
   DoesTurn (Answered from turn) old new =
-      (length turn.message ≤ datagram_max) × (turn.flushed ≡ true) × AnswersMail conduct counted from turn old new
+      (length turn.message ≤ datagram_max) × (turn.flushed ≡ true) × AnswersMail conduct from turn old new
 
   -- turns, one after the other
   abbrev pub DoesTurns : List MailTurn → H → H → Type 0
@@ -62,7 +63,7 @@ module _ {H T : Type 0} (conduct : Conduct H) (counted : H → T) where
     pub short : length turn.message ≤ datagram_max
     pub reply : IsSome turn.answer
     pub unsent : turn.flushed ≡ false
-    pub answers : AnswersMail conduct counted from turn old new
+    pub answers : AnswersMail conduct from turn old new
 
   -- What ends a run of at most so many turns behind so many: nothing behind the most, or the inbox fails, at a turn or
   -- at a reply.

@@ -1,49 +1,31 @@
--- Many conversations of one host: what was done in them, one after the other, and how each of them stands.
-use Rattle.std.specs.Prelude.{◌≡◌, ◌≢◌, ℕ, ◌==◌, if◌then◌else◌, List, [], ◌∷◌, ◌++◌, map, Option}
+-- The guests of a worker: how each of them stands, and what a worker has done with all of them.
+use Rattle.std.specs.Prelude.{◌≡◌, ◌≢◌, ◌<◌, ◌≤◌, ◌+◌, ℕ, Bool, true, false, List, ◌++◌, length, map, Contains, Option, Some, IfSome, option_map, ⊤}
+use Rattle.std.specs.Prelude.{◌⊎◌}
+use Rattle.std.specs.List.{All}
+use Rattle.slab.specs.Slab.{Slab, get, slab_len, Updates}
 use Rattle.yp_io.specs.Callers.{CallerWire}
-use Rattle.yp_io.specs.Calls.{ListenerHistory}
+use Rattle.yp_io.specs.Counts.{capped, next_count}
+use Rattle.yp_io.specs.Calls.{ListenerHistory, ClosedConnection}
 use Rattle.yp_io.specs.Dials.{Connected, connected, IsFresh}
 use Rattle.yp_io.specs.declared.stream.Peer.{Peer}
 use Rattle.yp_io.specs.declared.ready.TrySource as try_source
 use Rattle.yp_io.specs.declared.ready.TrySink as try_sink
-use Rattle.yp_publisher.specs.sharing.Shares.{Learns}
 use Rattle.yp_answer.specs.session.Hosts.{Conduct}
 use Rattle.yp_answer.specs.session.Wires.{Wire}
-use Rattle.yp_answer.specs.inside.session.Cuts.{Deed, DoesDeed, Talk, IsCut, SeesOn, cut_of, told_by}
-use Rattle.yp_worker.specs.Receptions.{IsExpected}
-
--- ---- what a worker does
-
--- its host was told what others showed; or a deed was done in the conversation of a number, with this peer
-pub data WorkerStep : Type 0 where
-  Learned : WorkerStep
-  Did : (number : ℕ) (peer : Peer) (deed : Deed) → WorkerStep
-
--- the deeds of one conversation
-abbrev pub deeds_of : ℕ → List WorkerStep → List Deed
-deeds_of number [] = []
-deeds_of number (Learned ∷ steps) = deeds_of number steps
-deeds_of number (Did one peer deed ∷ steps) =
-    if one == number then deed ∷ deeds_of number steps else deeds_of number steps
+use Rattle.yp_answer.specs.session.Cuts.{Deed, IsCut}
+use Rattle.yp_answer.specs.inside.session.Cuts.{Talk, SeesOn, cut_of, told_by}
+use Rattle.yp_answer.specs.inside.session.Errands.{IsDue}
+use Rattle.yp_worker.specs.declared.tally.Tally.{Tally}
+use Rattle.yp_worker.specs.Working.{Working, WorkerStep, Learned, Did, deeds_of, TakesSteps}
+use Rattle.yp_worker.specs.Receptions.{Terms, IsUnder, IsExpected}
+use Rattle.yp_worker.specs.inside.Receptions.{Passed}
+use Rattle.yp_worker.specs.Summing.{Counting, ServedConnection, ends_of, calls_of, let_go_of, WasServed, AreApart}
 
 -- steps, and then these deeds of one conversation
 abbrev pub steps_then : List WorkerStep → ℕ → Peer → List Deed → List WorkerStep
 steps_then steps number peer deeds = steps ++ map (Did number peer) deeds
 
--- a host counts so
-module _ {H T : Type 0} (conduct : Conduct H) (counted : H → T) where
-  -- what a step does to the host
-  abbrev pub TakesStep : WorkerStep → H → H → Type 0
-  TakesStep Learned old new = Learns (conduct.seen old) (conduct.seen new)
-      × (conduct.counts new ≡ conduct.counts old) × (counted new ≡ counted old)
-  TakesStep (Did number peer deed) old new = DoesDeed conduct peer deed old new
-
-  -- steps, one after the other
-  abbrev pub TakesSteps : List WorkerStep → H → H → Type 0
-  TakesSteps [] old new = new ≡ old
-  TakesSteps (step ∷ steps) old new = (mid : H) × TakesStep step old mid × TakesSteps steps mid new
-
--- ---- a conversation of it
+-- ---- a guest
 
 -- who called and with which wire, the number of the conversation, and how it stands
 pub record GuestState (S K : Type 0) : Type 0 where
@@ -84,3 +66,105 @@ pub record WorksOn {H T S K : Type 0} (conduct : Conduct H) (counted : H → T) 
   pub taken : (first : H) (steps : List WorkerStep) → TakesSteps conduct counted steps first before
       → TakesSteps conduct counted (steps_then steps old.number old.origin.peer deeds) first after
   pub sees : SeesOn (conduct.seen before) (conduct.seen after)
+
+-- ---- all guests of a worker
+
+-- what a worker has at work: its guests, each under the key of its place, the connections that its closer tells and how
+-- many it has closed, how many its watch let go, and what was counted
+pub record Serving (S K : Type 0) : Type 0 where
+  pub guests : Slab (GuestState S K)
+  pub closed : Option (List ClosedConnection)
+  pub closed_count : ℕ
+  pub let_go : ℕ
+  pub tally : Tally
+
+abbrev pub serving_of : {S K C W : Type 0} → (C → Option (List ClosedConnection)) → (C → ℕ) → (W → ℕ)
+    → Slab (GuestState S K) → C → W → Tally → Serving S K
+serving_of closed closed_count let_go guests closer watch tally = record {
+  guests = guests;
+  closed = closed closer;
+  closed_count = closed_count closer;
+  let_go = let_go watch;
+  tally = tally;
+}
+
+-- how many connections came to it: those that were closed, and its guests
+abbrev pub came_to : {S K : Type 0} → Tally → Slab (GuestState S K) → ℕ
+came_to tally guests = tally.connections + slab_len guests
+
+-- the number of the guest at a key
+abbrev pub number_at : {S K : Type 0} → Slab (GuestState S K) → ℕ → Option ℕ
+number_at guests key = option_map (λ guest. guest.number) (get guests key)
+
+-- a count and one more where a connection is let go
+abbrev pub let_go_where : Bool → ℕ → ℕ
+let_go_where true before = next_count before
+let_go_where false before = before
+
+-- one where the door is closed to all who come
+abbrev pub closed_door : Bool → ℕ
+closed_door true = 0
+closed_door false = 1
+
+-- What a worker holds of a listener has changed as connections came to it and as it ended.
+pub record Comes (old new : Passed) (came came' : ℕ) (before after : Bool) : Type 0 where
+  pub parts : new.parts ≡ old.parts
+  pub out : new.out + came ≡ old.out + came'
+  pub ended : new.ended + closed_door before ≡ old.ended + closed_door after
+
+-- A deed was done in the conversation of a guest or of a connection that was closed, with its peer.
+abbrev pub IsOwned : {S K : Type 0} → Slab (GuestState S K) → List ServedConnection → WorkerStep → Type 0
+IsOwned guests stays Learned = ⊤
+IsOwned {S} {K} guests stays (Did number peer deed) =
+    ((key : ℕ) × (guest : GuestState S K) × (get guests key ≡ Some guest) × (guest.number ≡ number)
+    × (guest.origin.peer ≡ peer))
+    ⊎ ((stay : ServedConnection) × Contains stays stay × (stay.number ≡ number) × (stay.ended.came.peer ≡ peer))
+
+module _ {S K : Type 0} (source : try_source.Ghosts S) (sink : try_sink.Ghosts K) where
+  -- A guest stands behind these steps, with one of so many numbers. What waits of it is a transfer of these maps.
+  pub record IsSeated (past : Option ListenerHistory) (maps : ℕ) (steps : List WorkerStep) (numbers : ℕ)
+      (guest : GuestState S K) : Type 0 where
+    pub is : IsGuest source sink past steps guest
+    pub low : guest.number < numbers
+    pub due : IfSome guest.talk.waiting (IsDue maps)
+
+  -- A worker took steps, from one that was such a worker: its guests stand behind them, and the connections that it has
+  -- closed were served in them. No two have one number, and each deed is of one of them. Its closer tells them where
+  -- the listener tells its connections, and no more of them were let go than its watch says.
+  pub record HasServed {H T : Type 0} (conduct : Conduct H) (counting : Counting H T) (terms : Terms)
+      (past : Option ListenerHistory) (serving : Serving S K) (worker : Working H) : Type 0 where
+    pub first : Working H
+    pub steps : List WorkerStep
+    pub stays : List ServedConnection
+    pub under : IsUnder conduct terms first
+    pub from_none : counting.counted first.host ≡ counting.none
+    pub takes : TakesSteps conduct counting.counted steps first.host worker.host
+    pub guests : (key : ℕ) → IfSome (get serving.guests key)
+        (IsSeated past (length terms.catalogue.maps) steps (came_to serving.tally serving.guests))
+    pub differ : (key other number : ℕ) → key ≢ other → number_at serving.guests key ≡ Some number
+        → number_at serving.guests other ≢ Some number
+    pub served : All (WasServed past terms.most steps) stays
+    pub apart : AreApart stays
+    pub low : All (λ stay. stay.number < came_to serving.tally serving.guests) stays
+    pub gone : (key number : ℕ) → number_at serving.guests key ≡ Some number
+        → All (λ stay. stay.number ≢ number) stays
+    pub owned : All (IsOwned serving.guests stays) steps
+    pub bound : came_to serving.tally serving.guests < 18446744073709551616
+    pub connections_are : serving.tally.connections ≡ length stays
+    pub calls_are : serving.tally.calls ≡ calls_of stays
+    pub told : IfSome past (λ _. serving.closed ≡ Some (ends_of stays))
+    pub closed_are : serving.closed_count ≡ capped 0 (length stays)
+    pub let_go_are : capped 0 (let_go_of stays) ≤ serving.let_go
+
+-- The guest at a key went on, and all others stand as they stood. What waits of it is a transfer of the host's maps.
+pub record GoesOnAt {H T S K : Type 0} (conduct : Conduct H) (counted : H → T) (source : try_source.Ghosts S)
+    (sink : try_sink.Ghosts K) (key : ℕ) (old new : Slab (GuestState S K)) (before after : H)
+    (P : GuestState S K → Type 0) : Type 0 where
+  pub was : GuestState S K
+  pub now : GuestState S K
+  pub found : get old key ≡ Some was
+  pub updates : Updates old new key (Some now)
+  pub count : slab_len new ≡ slab_len old
+  pub works : WorksOn conduct counted source sink was now before after
+  pub due : IfSome now.talk.waiting (IsDue (length (conduct.seen after).catalogue.maps))
+  pub comes_to : P now

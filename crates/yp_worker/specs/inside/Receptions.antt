@@ -6,7 +6,7 @@ use Rattle.yp_board.specs.Logs.{Log}
 use Rattle.yp_io.specs.Calls.{ListenerHistory, Halves, IsFreshCall, came_by}
 use Rattle.yp_io.specs.declared.called.Called.{Called}
 use Rattle.yp_worker.specs.declared.listening.Admission.{Admission}
-use Rattle.yp_worker.specs.declared.listening.Admission.TheVariants.{Came, Closed, Failed}
+use Rattle.yp_worker.specs.declared.listening.Admission.TheVariants.{Came, NotNow, Closed, Failed}
 use Rattle.yp_worker.specs.Receptions.{Terms, terms_of, IsExpected, ListenTells}
 
 -- the terms of a reception
@@ -23,7 +23,7 @@ abbrev pub terms_by : record {
 terms_by reception = terms_of reception.catalogue reception.starts reception.most
 
 -- what the lock of a listener keeps: the listener, how many connections came by it and how many records of those that
--- were closed were read, each up to the last count, whether an accept has failed, how many connections are out with
+-- were closed were read, each up to the last count, whether an accept or a watch has failed, how many are out with
 -- workers that haven't ended yet, and how many workers have ended
 pub record ListenerState (L : Type 0) : Type 0 where
   pub listen : L
@@ -51,5 +51,6 @@ pub record IsExpectedCall {S K : Type 0} (halves : Halves S K) (past : Option Li
 abbrev pub Admits : {S K : Type 0} → (Called S K → Type 0) → Admission S K → Passed → Passed → Type 0
 Admits P (Came call connection) old new =
     P call × (new ≡ record old { out = old.out + 1 }) × (new.out < 18446744073709551616)
+Admits P NotNow old new = new ≡ old
 Admits P Closed old new = new ≡ record old { ended = old.ended + 1 }
 Admits P Failed old new = new ≡ record old { ended = old.ended + 1 }

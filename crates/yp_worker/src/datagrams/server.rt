@@ -105,9 +105,9 @@ fn reply_to<H: Host>(
 impl<H: CatchUp> Handler for MailServer<H> {
     ghost goes = { Goes (conduct_by H.Host) };
 
-    ghost hears = { Hears (conduct_by H.Host) H.counted };
+    ghost hears = { Hears (conduct_by H.Host) };
 
-    ghost rests = { Rests (conduct_by H.Host) };
+    ghost rests = { Rests (conduct_by H.Host) H.counted };
 
     ghost letters = { λ _. 0 };
 
@@ -117,12 +117,13 @@ impl<H: CatchUp> Handler for MailServer<H> {
     }
 
     fn hear(&mut self, from: Peer, mail: &[u8], buf: &mut [u8]) -> usize {
-        // Where there is no memory for that, it goes on with what the host knew.
-        let _ = self.host.catch_up();
         let (len, waiting) = reply_to(&mut self.host, mail, from, buf);
         self.waiting = waiting;
         len
     }
 
-    fn rest(&mut self) {}
+    fn rest(&mut self) {
+        // Where there is no memory for that, the host goes on with what it knew.
+        let _ = self.host.catch_up();
+    }
 }

@@ -11,7 +11,7 @@ pub returns-in-Err-clause-does : goal.returns-in-Err-clause-does
 returns-in-Err-clause-does g c =
     let seen : Seeing g.row.S.Denot g.row.K.Denot g.row.D.Denot g.row.C.Denot g.row.A.Denot g.row.I.Denot g.row.T.Denot = seeing g.S.Source g.K.Sink g.D.Disk g.C.Clock g.A.Dial g.I.Inbox g.T.Texts in
     let office = office_of c.args.outside in
-    let door = opening_by g.L.Listen c.args.outside.listen in
+    let door = opening_by g.L.Hall c.args.outside.listen in
     let wires = g.W.Witness.wires c.args.witness.now in
     subst (λ (status : Status). Does seen (command_of (texts c.args.words.now)) status office office door door wires wires) (sym c.status_of-status.ensures.status)
     (unparsed_does seen office door wires (command_of (texts c.args.words.now)) c.in-Err.fault c.in-Err.ensures.usage)

@@ -16,6 +16,6 @@ under_locks-requires-clause-spare g c κs within =
 
 pub returns-clause-all : goal.returns-clause-all
 returns-clause-all g c =
-    let tells = opening_by g.L.Listen in
+    let tells = opening_by g.L.Hall in
     all_accepted c.under_locks.result (tells c.args.listen) (λ s. tells s.listen) (λ s. s.tally.connections)
     (λ s. s.tally.listen_fault) c.under_locks.ensures.gone

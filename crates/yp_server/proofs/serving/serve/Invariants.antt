@@ -9,7 +9,7 @@ abbrev pub ghosts-under_locks-J-Reception : goal.ghosts-under_locks-J-Reception
 ghosts-under_locks-J-Reception g a = record {
   starts = g.B.Show.log a.resources.publisher.board;
   most = a.spec.now.most;
-  opening = opening_by g.L.Listen a.resources.listen;
+  opening = opening_by g.L.Hall a.resources.listen;
 }
 
 abbrev pub ghosts-under_locks-J-Site : goal.ghosts-under_locks-J-Site

@@ -53,7 +53,7 @@ returns-clause-counted g c = λ datagram_worker manned begins log reaches.
       datagrams = g.H.CatchUp.counted c.gather-datagram_worker.result.server.host;
       of_connections = c.sums_reach_further.ensures (terms_of g.J.Site.catalogue g.J.Reception.starts g.J.Reception.most)
           g.J.Reception.opening
-          (opening_by g.L.Listen c.close-listen.result.0)
+          (opening_by g.L.Hall c.close-listen.result.0)
           c.close-listen.result.1.calls (g.H.HandsOver.summed closed)
           (g.H.HandsOver.reached closed) log c.close-listen.ensures.summed
           (front_then (g.H.HandsOver.reached closed) reached log c.hand_over-mailed.ensures.kept reaches);

@@ -48,7 +48,7 @@ pub returns-in-Ok-serve-clause-hosted : goal.returns-in-Ok-serve-clause-hosted
 returns-in-Ok-serve-clause-hosted g c =
     let did = c.in-Ok-serve.ensures in
     let made = c.publisher_of-publisher.ensures in
-    let here = opening_by g.L.Listen in
+    let here = opening_by g.L.Hall in
     let letters = box_by g.I.Inbox in
     let tells = dial_by g.A.Dial in
     let given = supply_of (g.T.Texts.faults c.shared-desk.result.texts) (tells c.shared-desk.result.dial) in

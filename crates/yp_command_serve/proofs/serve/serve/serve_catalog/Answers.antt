@@ -18,7 +18,7 @@ returns-in-Err-clause-does g c = λ connections.
     rw c.in-Err.ensures.err
     (nothing_done (seeing g.S.Source g.K.Sink g.D.Disk g.C.Clock g.A.Dial g.I.Inbox g.T.Texts)
     (serve_job_of c.args.catalog.own connections c.args.spec.now.turns c.args.catalog.maps c.args.hosts) c.args.office
-    (opening_by g.L.Listen c.args.listen))
+    (opening_by g.L.Hall c.args.listen))
 
 pub tell_end-status-requires-clause-number : goal.tell_end-status-requires-clause-number
 tell_end-status-requires-clause-number g c =
@@ -61,7 +61,7 @@ returns-clause-does g c = λ connections.
       listen = c.args.listen;
       inbox = old.inbox;
     } in
-    let tells = opening_by g.L.Listen in
+    let tells = opening_by g.L.Hall in
     let names : map name_view c.deref.result.now ≡ c.args.catalog.maps =
     ap (λ (l : List MapName). map name_view l) c.deref.ensures.value ∙ c.in-Ok.ensures.names ∙ c.requires.disks in
     let shut = shut_of tells old new resources back did.result.0 refl refl refl refl refl did.ensures.untouched

@@ -13,12 +13,12 @@ use Rattle.yp_command_serve.proofs.serve.serve.serve_maps.Goals as goal
 pub returns-in_default-clause-does : goal.returns-in_default-clause-does
 returns-in_default-clause-does g c =
     nothing_done (seeing g.S.Source g.K.Sink g.D.Disk g.C.Clock g.A.Dial g.I.Inbox g.T.Texts) (serve_job_view c.args.job)
-    c.args.office (opening_by g.L.Listen c.args.listen)
+    c.args.office (opening_by g.L.Hall c.args.listen)
 
 pub returns-in-Err-NoMemory-clause-does : goal.returns-in-Err-NoMemory-clause-does
 returns-in-Err-NoMemory-clause-does g c =
     nothing_done (seeing g.S.Source g.K.Sink g.D.Disk g.C.Clock g.A.Dial g.I.Inbox g.T.Texts) (serve_job_view c.args.job)
-    c.args.office (opening_by g.L.Listen c.args.listen)
+    c.args.office (opening_by g.L.Hall c.args.listen)
 
 pub serve_catalog-requires-clause-named : goal.serve_catalog-requires-clause-named
 serve_catalog-requires-clause-named g c κs within =
@@ -30,7 +30,7 @@ returns-clause-does g c =
     seeing g.S.Source g.K.Sink g.D.Disk g.C.Clock g.A.Dial g.I.Inbox g.T.Texts in
     let job = c.args.job in
     let did = c.serve_catalog in
-    let tells = opening_by g.L.Listen in
+    let tells = opening_by g.L.Hall in
     let same : serve_job_of c.in-Ok-new.catalog.own job.connections job.turns c.in-Ok-new.catalog.maps c.in-Ok.hosts
     ≡ serve_job_view job =
     ap (λ (k : Catalogue). serve_job_of k.own job.connections job.turns k.maps c.in-Ok.hosts) c.in-Ok-new.ensures.ok

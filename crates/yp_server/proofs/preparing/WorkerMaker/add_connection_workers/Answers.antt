@@ -7,15 +7,15 @@ use Rattle.yp_server.proofs.Posted.{none_seated, one_seated}
 use Rattle.yp_server.proofs.Rows.{all_before, all_last}
 use Rattle.yp_server.proofs.preparing.WorkerMaker.add_connection_workers.Goals as goal
 
-pub loop-session-preserved : goal.loop-session-preserved
-loop-session-preserved g c =
-    let before = c.loop-session.invariant in
+pub loop-buffers-preserved : goal.loop-buffers-preserved
+loop-buffers-preserved g c =
+    let before = c.loop-buffers.invariant in
     let one = c.in-Some.ensures.len in
     let reader = c.in-Some-pop.ensures.len in
     let all_workers = c.push_reserved.ensures.items in
-    let longer = length_push c.loop-session.all_workers.items (Connections c.connection_worker-connection_worker.result) in
+    let longer = length_push c.loop-buffers.all_workers.items (Connections c.connection_worker-connection_worker.result) in
     record {
-      all_workers = one_seated before_work _ c.loop-session.all_workers.items _ c.connection_worker-connection_worker.result before.all_workers all_workers c.connection_worker-connection_worker.ensures.connection_worker;
+      all_workers = one_seated before_work _ c.loop-buffers.all_workers.items _ c.connection_worker-connection_worker.result before.all_workers all_workers c.connection_worker-connection_worker.ensures.connection_worker;
       count = rw all_workers (omega (arith, longer, before.count, one));
       room = rw (all_workers, c.push_reserved.ensures.capacity) (omega (arith, longer, before.room, one));
       readers = omega (arith, before.readers, one, reader);
@@ -32,8 +32,8 @@ loop-session-preserved g c =
       charges = let less = c.connection_worker-connection_worker.ensures.charges in omega (arith, less, before.charges, one);
     }
 
-pub loop-session-init : goal.loop-session-init
-loop-session-init g c = record {
+pub loop-buffers-init : goal.loop-buffers-init
+loop-buffers-init g c = record {
   all_workers = none_seated before_work c.args.all_workers.now.items;
   count = omega (arith, c.requires.one);
   room = omega (arith, c.requires.one, c.requires.room);
@@ -47,4 +47,4 @@ loop-session-init g c = record {
 pub connection_worker-connection_worker-requires-clause-knows : goal.connection_worker-connection_worker-requires-clause-knows
 connection_worker-connection_worker-requires-clause-knows g c =
     all_last (λ reader. IsAtStart g.J.Site.catalogue g.J.Reception.starts (g.B.Reader.View.seen reader)) _ _ _
-    c.in-Some-pop.ensures.items c.loop-session.invariant.knows
+    c.in-Some-pop.ensures.items c.loop-buffers.invariant.knows

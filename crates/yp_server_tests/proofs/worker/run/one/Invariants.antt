@@ -1,13 +1,23 @@
-use Rattle.yp_io.specs.inside.MemListen.{calls_of}
-use Rattle.yp_worker.specs.Receptions.{listen_tells}
+use Rattle.yp_io.specs.inside.MemHall.{entries_of}
 use Rattle.yp_server_tests.proofs.worker.run.one.Given as goal
 
--- what this listener is before its first connection, and what the reader knows then
+-- what this hall is before its first connection, and what the reader knows then
 abbrev pub ghosts-served-J-Reception : goal.ghosts-served-J-Reception
-ghosts-served-J-Reception g a = record { starts = a.reader.known; most = 9; opening = listen_tells calls_of (λ l. l.most) (λ l. l.accepted) (λ l. l.returned) (λ l. l.faults) a.listen }
+ghosts-served-J-Reception g a = record {
+  starts = a.host.reader.known;
+  most = 9;
+  opening = record {
+    past = entries_of a.listen;
+    most = a.listen.most;
+    accepted = a.listen.accepted;
+    returned = a.listen.returned;
+    let_go = a.listen.let_go;
+    faults = a.listen.faults;
+  };
+}
 
 abbrev pub ghosts-served-J-Site : goal.ghosts-served-J-Site
-ghosts-served-J-Site g a = record { catalogue = a.reader.catalogue }
+ghosts-served-J-Site g a = record { catalogue = a.host.reader.catalogue }
 
 abbrev pub ghosts-served-J-Ledger : goal.ghosts-served-J-Ledger
 ghosts-served-J-Ledger g a = record { name = a.out.name; parts = a.out.parts }

@@ -1,14 +1,24 @@
 use Rattle.std.specs.Prelude.{[]}
-use Rattle.yp_io.specs.inside.MemListen.{calls_of}
-use Rattle.yp_worker.specs.Receptions.{listen_tells}
+use Rattle.yp_io.specs.inside.MemHall.{entries_of}
 use Rattle.yp_server_tests.proofs.worker.run.two.Given as goal
 
--- this listener before its first connection
+-- this hall before its first connection
 abbrev pub ghosts-shared-J-Reception : goal.ghosts-shared-J-Reception
-ghosts-shared-J-Reception g a = record { starts = []; most = 9; opening = listen_tells calls_of (λ l. l.most) (λ l. l.accepted) (λ l. l.returned) (λ l. l.faults) a.listen }
+ghosts-shared-J-Reception g a = record {
+  starts = [];
+  most = 9;
+  opening = record {
+    past = entries_of a.listen;
+    most = a.listen.most;
+    accepted = a.listen.accepted;
+    returned = a.listen.returned;
+    let_go = a.listen.let_go;
+    faults = a.listen.faults;
+  };
+}
 
 abbrev pub ghosts-shared-J-Site : goal.ghosts-shared-J-Site
-ghosts-shared-J-Site g a = record { catalogue = a.readers.0.catalogue }
+ghosts-shared-J-Site g a = record { catalogue = a.hosts.0.reader.catalogue }
 
 abbrev pub ghosts-shared-J-Ledger : goal.ghosts-shared-J-Ledger
 ghosts-shared-J-Ledger g a = record { name = a.out.name; parts = a.out.parts }

@@ -1,5 +1,5 @@
 use Rattle.yp_answer.specs.session.Hosts.{conduct_of}
-use Rattle.yp_worker.specs.Receptions.{listen_tells, terms_of}
+use Rattle.yp_worker.specs.Receptions.{terms_of}
 use Rattle.yp_worker.specs.Summing.{counting_of}
 use Rattle.yp_worker.proofs.Receiving.{kept_none}
 use Rattle.yp_worker.proofs.Summing.{sums_none}

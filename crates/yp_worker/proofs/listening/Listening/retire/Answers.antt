@@ -1,4 +1,5 @@
-use Rattle.std.proofs.Common.{arith}
+use Rattle.std.proofs.Common.{◌∙◌, ℕ, ap, arith}
+use Rattle.yp_io.specs.Counts.{capped}
 use Rattle.std.proofs.lemmas.List.{length-map}
 use Rattle.yp_answer.specs.session.Hosts.{conduct_of}
 use Rattle.yp_worker.specs.Receptions.{opening_by, terms_of}
@@ -12,17 +13,23 @@ invariant_of-self g c =
     let conduct = conduct_of g.H.View.seen g.H.Host.told g.H.Host.counts g.H.View.stepped g.H.Host.made g.H.Host.carried in
     let counting = counting_of g.H.CatchUp.counted g.H.HandsOver.none g.H.HandsOver.plus in
     let terms = terms_of g.J.Site.catalogue g.J.Reception.starts g.J.Reception.most in
-    let seen = opening_by g.L.Listen in
+    let seen = opening_by g.L.Hall in
     let has = c.requires.served in
+    let past = c.end.ensures.past ∙ c.take_in.ensures.past in
+    let most = c.end.ensures.most ∙ c.take_in.ensures.most in
+    let accepted = c.end.ensures.accepted ∙ c.take_in.ensures.accepted in
+    let returned = c.end.ensures.returned ∙ c.take_in.ensures.returned in
+    let faults = c.end.ensures.faults ∙ c.take_in.ensures.faults in
+    let let_go = c.end.ensures.let_go ∙ ap (λ (n : ℕ). capped n (g.L.Watch.Watch.let_go c.args.watch)) c.take_in.ensures.let_go in
     let longer = length-map has.stays (λ (s : ServedConnection). s.ended) in (
-      kept_closed g.J.Reception.opening (seen c.self.inside.listen) (seen c.take_in.new.self) _ _ _ _ c.self.invariant.0
-          (ends_of has.stays) (g.L.Listen.closed c.args.closer) (g.L.Listen.closed_count c.args.closer) _
-          (omega (arith, c.sub.ensures.total, has.connections_are, longer)) has.told (omega (arith, has.closed_are, longer)) c.take_in.ensures.past c.take_in.ensures.most
-          c.take_in.ensures.accepted c.take_in.ensures.returned c.take_in.ensures.faults,
+      kept_closed g.J.Reception.opening (seen c.self.inside.listen) (seen c.end.new.self) _ _ _ _ c.self.invariant.0
+          (ends_of has.stays) (g.L.Hall.closed c.args.closer) (g.L.Hall.closed_count c.args.closer) _
+          (omega (arith, c.sub.ensures.total, has.connections_are, longer)) has.told (omega (arith, has.closed_are, longer)) past most
+          accepted returned faults,
       rw (c.hand_over.ensures.added, c.saturating_add-self-inside.ensures) (sums_ended conduct counting terms
-          g.J.Reception.opening (seen c.self.inside.listen) (seen c.take_in.new.self) _ _
+          g.J.Reception.opening (seen c.self.inside.listen) (seen c.end.new.self) _ _
           (g.H.HandsOver.summed c.self.inside.sum) (g.H.HandsOver.reached c.self.inside.sum) _ _ _ c.args.worker.now
-          (g.L.Listen.closed c.args.closer) (g.L.Listen.closed_count c.args.closer) c.self.invariant.0.tells
-          c.self.invariant.1 has c.take_in.ensures.past c.take_in.ensures.returned c.hand_over.ensures.covered
+          (g.L.Hall.closed c.args.closer) (g.L.Hall.closed_count c.args.closer) (g.L.Watch.Watch.let_go c.args.watch)
+          c.self.invariant.0.tells c.self.invariant.1 has past returned let_go c.hand_over.ensures.covered
           c.hand_over.ensures.kept),
     )

@@ -1,9 +1,9 @@
-use Rattle.std.specs.Prelude.{◌≡◌, ◌+◌}
 use Rattle.yp_board.specs.Views.{IsFront}
+use Rattle.std.specs.Prelude.{true}
 use Rattle.yp_answer.specs.session.Hosts.{conduct_of}
 use Rattle.yp_worker.specs.Receptions.{IsUnder, terms_of}
 use Rattle.yp_worker.specs.Summing.{counting_of}
-use Rattle.yp_worker.specs.inside.Summing.{HasEnded}
+use Rattle.yp_worker.specs.inside.Guests.{Comes, HasServed, came_to, serving_of}
 use Rattle.yp_worker.proofs.worker.Worker.run.Given as goal
 
 abbrev pub invariant-loop : goal.invariant-loop
@@ -16,7 +16,8 @@ invariant-loop g l =
       finite : (goal.iterator-loop g).is_finite l.iterator';
       under : IsUnder conduct terms l.self;
       grown : IsFront (g.H.View.seen l.initial.self.host).known (g.H.View.seen l.self.host).known;
-      served : HasEnded conduct counting terms g.J.Reception.opening.past l.tally.connections l.tally.calls l.self
-          (g.L.Listen.closed l.closer) (g.L.Listen.closed_count l.closer);
-      pass : l.pass ≡ record l.initial.pass { out = l.initial.pass.out + l.tally.connections };
+      served : HasServed g.L.In.TrySource g.L.Out.TrySink conduct counting terms g.J.Reception.opening.past
+          (serving_of g.L.Hall.closed g.L.Hall.closed_count g.L.Watch.Watch.let_go l.shift.guests l.shift.closer l.shift.watch l.shift.tally)
+          l.self;
+      comes : Comes l.initial.pass l.pass 0 (came_to l.shift.tally l.shift.guests) true l.shift.is_open;
     }

@@ -23,3 +23,8 @@ returns-in_default g c =
       comes_to = c.step.ensures.comes_to;
       due = c.step.ensures.due;
     }
+
+pub returns-then-is_some-clause-goes : goal.returns-then-is_some-clause-goes
+returns-then-is_some-clause-goes g c =
+    let conduct = conduct_of g.H.View.seen g.H.Host.told g.H.Host.counts g.H.View.stepped g.H.Host.made g.H.Host.carried in
+    goes_then conduct c.args.terms.now.peer _ _ _ _ _ _ c.loop.invariant.goes c.step.ensures.goes

@@ -11,6 +11,6 @@ returns-clause-hears g c =
       message_is = replied.1;
       answer_is = replied.2;
       unsent = replied.3;
-      answers = answered conduct c.args.from g.H.CatchUp.counted replied.0 c.self.inside.host c.catch_up.new.self c.reply_to-len.new.host c.catch_up.ensures.learned c.catch_up.ensures.counts c.catch_up.ensures.counted replied.5;
+      answers = answered conduct c.args.from replied.0 c.self.inside.host c.reply_to-len.new.host replied.5;
       waits = replied.4;
     })

@@ -1,5 +1,0 @@
-use Rattle.std.proofs.Common.{◌≡◌, ◌≤◌, length, vec_capacity}
-use Rattle.yp_server.proofs.resources.sessions_of.Given as goal
-
-abbrev pub invariant-loop : goal.invariant-loop
-invariant-loop l = (length l.sessions.items ≡ l.counter) × (l.count ≤ vec_capacity l.sessions)
