@@ -276,11 +276,12 @@ fn later_listen_fault(rt: HostRuntime) {
     try_case(&rt, rt.alloc(), &SECOND_ACCEPT);
 }
 
-// The first connection is held before the second write of ALL.
+// Each worker has one of the two connections, and the first is held before the second write of ALL.
 static HELD: Case = Case {
     name: "a held stream",
     callers: &[("ALL MATCH", 0, 0), ("MATCH MAKE", 0, 0)],
     holds: &[
+        ((Kind::Accepted, 1, 1), (Kind::Accepted, 2, 1)),
         ((Kind::Accepted, 2, 1), (Kind::Piece, 1, 1)),
         ((Kind::Piece, 1, 2), (Kind::Replied, 2, 2)),
     ],
@@ -299,8 +300,8 @@ fn held_stream(rt: HostRuntime) {
     try_case(&rt, rt.alloc(), &HELD);
 }
 
-// Seven connections are held before the second write of ALL, until the eighth has been served, which begins once each
-// of them has come to its first write.
+// Each worker has one connection. Seven are held before the second write of ALL, until the eighth has been served,
+// which begins once each of them has come to its first write.
 static SEVEN_HELD: Case = Case {
     name: "seven held streams",
     callers: &[
@@ -316,6 +317,13 @@ static SEVEN_HELD: Case = Case {
     most: 8,
     workers: 8,
     holds: &[
+        ((Kind::Accepted, 1, 1), (Kind::Accepted, 8, 1)),
+        ((Kind::Accepted, 2, 1), (Kind::Accepted, 8, 1)),
+        ((Kind::Accepted, 3, 1), (Kind::Accepted, 8, 1)),
+        ((Kind::Accepted, 4, 1), (Kind::Accepted, 8, 1)),
+        ((Kind::Accepted, 5, 1), (Kind::Accepted, 8, 1)),
+        ((Kind::Accepted, 6, 1), (Kind::Accepted, 8, 1)),
+        ((Kind::Accepted, 7, 1), (Kind::Accepted, 8, 1)),
         ((Kind::Accepted, 8, 1), (Kind::Piece, 1, 1)),
         ((Kind::Accepted, 8, 1), (Kind::Piece, 2, 1)),
         ((Kind::Accepted, 8, 1), (Kind::Piece, 3, 1)),

@@ -54,12 +54,15 @@ TO_701 = 7f000001 000002bd
 TO_OTHER = 0a000009 000002bc
 ";
 
-// A datagram: the address and port of its sender, its words, and its length with zeros behind them.
+// A datagram: the address and port of its sender, its words, and its length with zeros behind them. One without words
+// is a quiet turn.
 type Mail = ([u8; 4], u16, &'static str, usize);
 
-// What others show, the datagrams, a turn each, the calls of the inbox that fail, and the most turns. Then what comes
-// of that: how it ends, the turns that are taken, the transfers that are carried out, and what is sent, each letter
-// behind the place that it goes to.
+const QUIET: Mail = (OWN_HOST, 0, "", 0);
+
+// What others show, one before each quiet turn, the datagrams, a turn each, the calls of the inbox that fail, and the
+// most turns. Then what comes of that: how it ends, the turns that are taken, the transfers that are carried out, and
+// what is sent, each letter behind the place that it goes to.
 struct Row {
     name: &'static str,
     shown: &'static [&'static [u8]],
@@ -86,8 +89,11 @@ fn letter_of(rt: &impl Abort, alloc: Global, mail: &Mail) -> Letter {
 fn mail_of(rt: &impl Abort, alloc: Global, mail: &[Mail]) -> Vec<Option<Letter>> {
     let mut letters = Vec::new(alloc);
     for datagram in mail {
-        let letter = letter_of(rt, alloc, datagram);
-        letters.push(Some(letter)).expect(rt, "memory for mail");
+        let letter = match datagram.2 {
+            "" => None,
+            _ => Some(letter_of(rt, alloc, datagram)),
+        };
+        letters.push(letter).expect(rt, "memory for mail");
     }
     letters
 }
@@ -221,10 +227,28 @@ fn replies_to_datagrams(rt: HostRuntime) {
     }
 }
 
-// What others show between datagrams. Where none is shown, memory runs out, and the server goes on with what it knew.
+// What others show is learnt in quiet turns. Where none is shown, memory runs out, and the server goes on with what it
+// knew.
 static NEWER: [Row; 2] = [
     Row {
-        name: "a newer value, and then no memory",
+        name: "a newer value in a quiet turn, and then no memory",
+        shown: &[b"alpha:2"],
+        mail: &[
+            (OWN_HOST, 700, "MATCH", 0),
+            QUIET,
+            (OWN_HOST, 701, "MATCH", 0),
+            QUIET,
+            (OWN_HOST, 700, "MATCH", 0),
+        ],
+        failing: NEVER,
+        most: 5,
+        ended: Ok(Ended::Spent),
+        turns: 5,
+        transfers: 0,
+        sent: "TO_700 MATCHED ONE TO_701 MATCHED TWO TO_700 MATCHED TWO",
+    },
+    Row {
+        name: "none where no turn is quiet",
         shown: &[b"alpha:2"],
         mail: &[(OWN_HOST, 700, "MATCH", 0), (OWN_HOST, 701, "MATCH", 0)],
         failing: NEVER,
@@ -232,18 +256,7 @@ static NEWER: [Row; 2] = [
         ended: Ok(Ended::Spent),
         turns: 2,
         transfers: 0,
-        sent: "TO_700 MATCHED TWO TO_701 MATCHED TWO",
-    },
-    Row {
-        name: "a newer value at the second",
-        shown: &[b"alpha:1", b"alpha:2"],
-        mail: &[(OWN_HOST, 700, "MATCH", 0), (OWN_HOST, 701, "MATCH", 0)],
-        failing: NEVER,
-        most: 2,
-        ended: Ok(Ended::Spent),
-        turns: 2,
-        transfers: 0,
-        sent: "TO_700 MATCHED ONE TO_701 MATCHED TWO",
+        sent: "TO_700 MATCHED ONE TO_701 MATCHED ONE",
     },
 ];
 
@@ -389,9 +402,9 @@ fn check_value<R: RandomSource + Abort>(
     let mut sent = named(rt, alloc, NAMES, words);
     sent.extend_from_slice(&value[..replied.min(len)])
         .expect(rt, "a reply");
-    let mail = [(OWN_HOST, 700, "MATCH", 0)];
-    let came = served(rt, alloc, &[&value], &mail, NEVER, 1);
-    assert_same(rt, &came, &(Ok(Ended::Spent), 1, 0, sent), words);
+    let mail = [QUIET, (OWN_HOST, 700, "MATCH", 0)];
+    let came = served(rt, alloc, &[&value], &mail, NEVER, 2);
+    assert_same(rt, &came, &(Ok(Ended::Spent), 2, 0, sent), words);
 }
 
 #[test]
