@@ -6,7 +6,7 @@
     live.py pull [STORE ..]     has maps fetched from the first host behind those of YP_SERVE (XFR): those that are
                                 named, or all
     live.py push [STORE ..]     has the slaves of YP_PUSH fetch maps: those that are named, or all. `yp push` tells how
-                                that went, of copies of the maps in the folder `push`, since the server keeps its own
+                                that went
     live.py orders [STORE ..]   prints the order of each map at this server, at the hosts behind the maps of YP_SERVE
                                 and at the slaves of YP_PUSH; where one isn't as at this server, that didn't go well
 
@@ -185,35 +185,26 @@ def pull(site, stores):
 # push
 
 
-def run(*words, folder=None):
+def run(*words):
     """The status with which the program ends, its output and its note."""
-    ended = subprocess.run([PROGRAM, *words], cwd=folder, capture_output=True, encoding="utf-8", errors="replace")
+    ended = subprocess.run([PROGRAM, *words], capture_output=True, encoding="utf-8", errors="replace")
     return ended.returncode, ended.stdout, ended.stderr.strip()
 
 
-def copy(site, store):
-    """Whether the folder `push` now has the version of a map that the server shows."""
-    # No host has this name, so none is the master of the copy.
-    status, _, note = run("xfr", "-", "force", store, f"{site.name}@{site.own}", folder="push")
-    if note == f"yp: transfer {YPERR}":
-        print(f"{store} isn't pushed, since it is secure", flush=True)
-    elif status:
-        fail(f"{store} isn't copied: {note}")
-    return status == 0
+def is_secure(store):
+    """Whether the version of a map that is stored is secure."""
+    _, lines, _ = run("check", store)
+    return lines.endswith(" secure\n")
 
 
 def push(site, stores):
     if not site.slaves:
         return
-    os.makedirs("push", exist_ok=True)
-    stores = stores or site.stores
-    domains = {store.split("/")[0] for store in stores}
-    has_servers = {domain: copy(site, f"{domain}/ypservers") for domain in domains}
-    for store in stores:
-        if not has_servers[store.split("/")[0]] or not copy(site, store):
+    for store in stores or site.stores:
+        if is_secure(store):
+            print(f"{store} isn't pushed, since it is secure", flush=True)
             continue
-        words = ["push", site.name, *site.push_port, str(WINDOW), str(TURNS), store, *site.slaves]
-        status, lines, note = run(*words, folder="push")
+        status, lines, note = run("push", site.name, *site.push_port, str(WINDOW), str(TURNS), store, *site.slaves)
         for line in lines.splitlines():
             print(f"{store} {line}", flush=True)
         if status:

@@ -21,17 +21,17 @@ use yp_system::{
     TcpHall, TextFolder, UdpInbox, read_words,
 };
 
-/// When the file of a map is locked, which a command reads or writes. A session answers from what it loaded, and may
-/// never write. A server keeps its files for itself, so that each has one writer. Netgroups that are reversed are only
-/// read.
+/// When a command keeps a map for itself. A server does so for life, so that each map has one writer. A session answers
+/// from what it loaded, and may never write. What is checked, pushed or reversed is only read.
 fn locking_of(command: &Command, name: &MapName) -> Locking {
     match command {
-        Command::Build { .. } => Locking::AtOnce,
-        Command::Xfr(_) => Locking::AtOnce,
-        Command::Walk(_) => Locking::AtOnce,
-        Command::Serve(_) => Locking::AtOnce,
-        Command::Revnet { store, .. } if store.map == name.map => Locking::AtOnce,
-        _ => Locking::AtFirstWrite,
+        Command::Build { .. } => Locking::FromReading,
+        Command::Xfr(_) => Locking::FromReading,
+        Command::Walk(_) => Locking::FromReading,
+        Command::Serve(_) => Locking::FromStart,
+        Command::Revnet { store, .. } if store.map == name.map => Locking::FromReading,
+        Command::Session { .. } => Locking::FromWriting,
+        _ => Locking::Never,
     }
 }
 

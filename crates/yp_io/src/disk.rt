@@ -57,6 +57,11 @@ pub trait Disk {
         ensures durable { OnOk result (IsDurable (history self.new)) }
         ensures cause { CountsFaults (faults self.old) (faults self.new) result };
 
+    /// Nothing more is read for now, so what keeps other programs from writing may be let go.
+    fn release(&mut self)
+        ensures same { history self.new ≡ history self.old }
+        ensures faults { faults self.new ≡ faults self.old };
+
     /// What is read may be left by a crash now.
     ghost reads_image: { (disk : Self) → IsReadAnImage (history disk) };
 

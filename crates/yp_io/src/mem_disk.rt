@@ -334,4 +334,11 @@ impl Disk for MemDisk {
         }
         Ok(())
     }
+
+    /// It does nothing.
+    fn release(&mut self)
+        ensures others { self.new ≡ self.old }
+        ensures same { Some (history_of self.new) ≡ Some (history_of self.old) }
+        ensures faults { self.new.faults ≡ self.old.faults }
+    {}
 }

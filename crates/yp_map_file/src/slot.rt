@@ -103,7 +103,8 @@ impl<D: Disk> Slot<D> {
         self.known.generation()
     }
 
-    /// Syncs the disk and answers what its file stands for, in at most four calls of the disk. It writes nothing.
+    /// Syncs the disk, answers what its file stands for, in at most four calls of the disk, and releases it. It writes
+    /// nothing.
     pub fn load(
         &mut self,
         alloc: Global,
@@ -127,7 +128,9 @@ impl<D: Disk> Slot<D> {
             → HasRisen (D.faults self.old.disk) (D.faults self.new.disk) }
     {
         self.stage = Stage::Unready;
-        let (known, version) = load::load(alloc, rt, &mut self.disk)?;
+        let loaded = load::load(alloc, rt, &mut self.disk);
+        self.disk.release();
+        let (known, version) = loaded?;
         self.known = known;
         self.stage = Stage::Loaded;
         Ok(version)

@@ -2,7 +2,7 @@
 
 ghost use Rattle.std.specs.Prelude.{None};
 
-use crate::locked::{LockedFile, Locking, MapFile};
+use crate::locked::{FileLock, LockedFile, MapFile};
 use std::alloc::{AllocError, Global};
 use std::fs::{DirBuilder, File, OpenFile, OpenOptions};
 use std::io::ErrorKind;
@@ -21,8 +21,28 @@ const FILE_MODE: u32 = 0o600;
 /// The permissions of a folder that is made.
 const FOLDER_MODE: u32 = 0o700;
 
-/// The file of a map as a disk, which tells nothing of its bytes. It is opened and locked at its first call. A file
-/// that isn't there is an empty one, and is made at the first write, with its folders.
+/// When a program keeps the map for itself, so that nobody else writes it. It does so by a file beside the map's, whose
+/// name no map has, so also where the map has no file yet.
+#[derive(Clone, Copy, PartialEq, Eq)]
+pub enum Locking {
+    /// Before it is read, also where there is no folder for it yet.
+    FromStart,
+
+    /// Before it is read, or at the first write where there is no folder for it yet.
+    FromReading,
+
+    /// At the first write. Until then others that may write, too, can read it, and nobody writes it.
+    FromWriting,
+
+    /// Never, since it is only read. Who writes it waits only while it is read.
+    Never,
+}
+
+/// The file of a map as a disk, which tells nothing of its bytes. It is opened at its first call. A file that isn't
+/// there is an empty one, and is made at the first write, with its folders.
+///
+/// Whoever may write the map keeps other writers away until it ends. The file itself is locked for a reader until that
+/// releases it, and for a writer from a write to the sync behind it. So a reader never meets a version half written.
 #[derive(Drop)]
 pub struct FileDisk<R: Files + Clock + Drop> {
     place: Place<R>,
@@ -44,7 +64,9 @@ impl<R: Files + Clock + Drop> FileDisk<R> {
             system,
             folder: format!(in alloc; "{ROOT}/{domain}")?,
             path: format!(in alloc; "{ROOT}/{domain}/{map}")?,
+            claim_path: format!(in alloc; "{ROOT}/{domain}/.{map}.lock")?,
             locking,
+            claim: Claim::NotYet,
             opened: Opened::NotYet,
             synced: Synced::NotYet,
         };
@@ -70,6 +92,17 @@ enum Opened<F> {
     Found(LockedFile<F>),
 }
 
+// What keeps other writers away.
+#[derive(Drop)]
+enum Claim<F> {
+    NotYet,
+
+    // The map may only be read.
+    Refused,
+
+    Made(FileLock<F>),
+}
+
 // How the syncs went since the file was opened.
 #[derive(Clone, Copy, PartialEq, Eq)]
 enum Synced {
@@ -88,7 +121,9 @@ struct Place<R: Files + Clock + Drop> {
     system: R,
     folder: String,
     path: String,
+    claim_path: String,
     locking: Locking,
+    claim: Claim<R::File>,
     opened: Opened<R::File>,
     synced: Synced,
 }
@@ -97,17 +132,86 @@ impl<R: Files + Clock + Drop> Place<R>
 where
     R::File: MapFile,
 {
-    // The file, where there is one, locked against those who write it.
-    fn file(&mut self) -> io::Result<Option<&mut LockedFile<R::File>>> {
+    // Makes what keeps other writers away, with its folders, unless that is done or the map may only be read.
+    fn make_claim(&mut self) -> io::Result<()> {
+        if let Claim::NotYet = self.claim {
+            self.claim = match make(&self.system, &self.folder, &self.claim_path, false) {
+                Ok(file) => Claim::Made(FileLock::new(file)),
+                Err(error) if is_for_reading_alone(error.kind()) => Claim::Refused,
+                Err(error) => return Err(error),
+            };
+        }
+        Ok(())
+    }
+
+    // Keeps all others who may write away. It answers whether the map may be written.
+    fn claim_alone(&mut self) -> io::Result<bool> {
+        self.make_claim()?;
+        match &mut self.claim {
+            Claim::Made(lock) => {
+                lock.take(&self.system)?;
+                Ok(true)
+            }
+            _ => Ok(false),
+        }
+    }
+
+    // Keeps those away who have the map for themselves. It answers whether the map may be written.
+    fn claim_with_others(&mut self) -> io::Result<bool> {
+        self.make_claim()?;
+        match &mut self.claim {
+            Claim::Made(lock) => {
+                lock.share(&self.system)?;
+                Ok(true)
+            }
+            _ => Ok(false),
+        }
+    }
+
+    fn has_folder(&self) -> bool {
+        match fs::metadata(&self.system, &self.folder) {
+            Ok(found) => found.is_dir(),
+            Err(_) => false,
+        }
+    }
+
+    // Whether nobody else may write.
+    fn is_alone(&self) -> bool {
+        match &self.claim {
+            Claim::Made(lock) => lock.is_only(),
+            _ => false,
+        }
+    }
+
+    // Looks for the file, where that wasn't done yet.
+    fn open(&mut self) -> io::Result<()> {
         if let Opened::NotYet = self.opened {
-            self.opened = match open(&self.system, &self.path)? {
+            self.opened = match open(&self.system, &self.path, self.locking)? {
                 Some(file) => Opened::Found(LockedFile::new(file)),
                 None => Opened::Nothing,
             };
         }
+        Ok(())
+    }
+
+    // The file, where there is one, while nobody writes it.
+    fn file(&mut self) -> io::Result<Option<&mut LockedFile<R::File>>> {
+        let mut is_kept = match self.locking {
+            Locking::FromStart => self.claim_alone()?,
+            Locking::FromReading => self.has_folder() && self.claim_alone()?,
+            _ => false,
+        };
+        self.open()?;
+        if let Opened::Found(_) = self.opened
+            && self.locking == Locking::FromWriting
+        {
+            is_kept = self.claim_with_others()?;
+        }
         match &mut self.opened {
             Opened::Found(file) => {
-                file.lock(&self.system, self.locking)?;
+                if !is_kept {
+                    file.lock().share(&self.system)?;
+                }
                 Ok(Some(file))
             }
             _ => Ok(None),
@@ -129,11 +233,30 @@ where
         }
     }
 
+    // Keeps all others who may write away, and fails where one of them has written since the file was read.
+    fn begin_writing(&mut self) -> io::Result<()> {
+        if self.locking == Locking::Never || !self.claim_alone()? {
+            return Err(ErrorKind::PermissionDenied.into());
+        }
+        match &self.opened {
+            Opened::Found(file) if !file.is_as_read()? => {}
+            _ => return Ok(()),
+        }
+        if let Claim::Made(lock) = &mut self.claim {
+            lock.give_back();
+        }
+        Err(ErrorKind::StaleNetworkFileHandle.into())
+    }
+
     fn write_at(&mut self, at: u64, piece: &[u8]) -> io::Result<()> {
-        if self.file()?.is_none() {
+        self.file()?;
+        if !self.is_alone() {
+            self.begin_writing()?;
+        }
+        if let Opened::Nothing = self.opened {
             // Another program may have made it meanwhile, which is found at the next opening.
             self.opened = Opened::NotYet;
-            let file = make(&self.system, &self.folder, &self.path)?;
+            let file = make(&self.system, &self.folder, &self.path, true)?;
             self.opened = Opened::Found(LockedFile::new(file));
         }
         match &mut self.opened {
@@ -150,32 +273,51 @@ where
         let Some(file) = self.file()? else {
             return Ok(());
         };
+        let is_written = file.lock().is_only();
         let answer = file.sync();
-        let answer = answer.and_then(|()| self.sync_folders());
-        self.synced = match answer {
-            Ok(()) => Synced::Whole,
-            Err(_) => Synced::Lost,
-        };
-        answer
+        if is_written {
+            file.lock().give_back();
+        }
+        if answer.is_err() {
+            self.synced = Synced::Lost;
+            return answer;
+        }
+        self.sync_folders()
     }
 
-    fn sync_folders(&self) -> io::Result<()> {
+    fn sync_folders(&mut self) -> io::Result<()> {
         if self.synced == Synced::NotYet {
-            sync_folder(&self.system, &self.folder)?;
-            sync_folder(&self.system, ROOT)?;
-            sync_folder(&self.system, ".")?;
+            let folder = File::open(&self.system, &self.folder)?;
+            let root = File::open(&self.system, ROOT)?;
+            let here = File::open(&self.system, ".")?;
+            // A folder that can't be opened is tried again, and what the sync of one has lost is lost.
+            self.synced = Synced::Lost;
+            folder.sync_all()?;
+            root.sync_all()?;
+            here.sync_all()?;
+            self.synced = Synced::Whole;
         }
         Ok(())
+    }
+
+    // Lets others write the file that it has read.
+    fn release(&mut self) {
+        if let Opened::Found(file) = &mut self.opened {
+            file.lock().give_back();
+        }
     }
 }
 
 // Opens a file that is there. One that may only be read is read, and a write to it fails.
-fn open<R: Files>(files: &R, path: &str) -> io::Result<Option<R::File>> {
+fn open<R: Files>(files: &R, path: &str, locking: Locking) -> io::Result<Option<R::File>> {
     match fs::metadata(files, path) {
         Ok(found) if found.is_file() => {}
         Ok(_) => return Err(ErrorKind::InvalidInput.into()),
         Err(error) if error.kind() == ErrorKind::NotFound => return Ok(None),
         Err(error) => return Err(error),
+    }
+    if locking == Locking::Never {
+        return Ok(Some(File::open(files, path)?));
     }
     match OpenOptions::new().read(true).write(true).open(files, path) {
         Ok(file) => Ok(Some(file)),
@@ -189,8 +331,8 @@ fn is_for_reading_alone(kind: ErrorKind) -> bool {
     kind == ErrorKind::PermissionDenied || kind == ErrorKind::ReadOnlyFilesystem
 }
 
-// Makes a file that isn't there, with its folders.
-fn make<R: Files>(files: &R, folder: &str, path: &str) -> io::Result<R::File> {
+// Makes a file that isn't there, with its folders. Where it may not be new, one that is there is opened.
+fn make<R: Files>(files: &R, folder: &str, path: &str, is_new: bool) -> io::Result<R::File> {
     DirBuilder::new()
         .recursive(true)
         .mode(FOLDER_MODE)
@@ -198,13 +340,10 @@ fn make<R: Files>(files: &R, folder: &str, path: &str) -> io::Result<R::File> {
     OpenOptions::new()
         .read(true)
         .write(true)
-        .create_new(true)
+        .create(true)
+        .create_new(is_new)
         .mode(FILE_MODE)
         .open(files, path)
-}
-
-fn sync_folder<R: Files>(files: &R, folder: &str) -> io::Result<()> {
-    File::open(files, folder)?.sync_all()
 }
 
 impl<R: Files + Clock + Drop> Disk for FileDisk<R>
@@ -253,5 +392,9 @@ where
             Ok(()) => Ok(()),
             Err(_) => Err(count_fault(&mut self.faults)),
         }
+    }
+
+    fn release(&mut self) {
+        self.place.release();
     }
 }

@@ -24,10 +24,10 @@ mod words;
 
 pub use clock::SystemClock;
 pub use dial::{TcpDial, TcpWire};
-pub use disk::FileDisk;
+pub use disk::{FileDisk, Locking};
 pub use hall::{PAYMENT_SECONDS, RECORD_SECONDS, REST_SECONDS, SocketCall, TcpCloser, TcpHall};
 pub use inbox::{TURN_SECONDS, UdpInbox};
-pub use locked::{LockedFile, Locking, MapFile};
+pub use locked::MapFile;
 pub use patient::Patient;
 pub use places::Limits;
 pub use socket::{SocketSink, SocketSource};

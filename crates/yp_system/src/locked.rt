@@ -1,4 +1,4 @@
-//! An open file that programs lock against one another.
+//! Open files that programs lock against one another.
 
 use std::fs::{File, OpenFile, TryLockError};
 use std::io;
@@ -16,21 +16,14 @@ const PAUSE_MILLISECONDS: u64 = 20;
 /// The front of a file that each version which is stored changes: the cells of a store file.
 const FRONT_LEN: usize = 64;
 
-/// When a file is locked for its writer. Who writes a file has the only lock on it.
-#[derive(Clone, Copy, PartialEq, Eq)]
-pub enum Locking {
-    /// As it is opened.
-    AtOnce,
-
-    /// At the first write. Until then others may read it, too, and nobody writes it.
-    AtFirstWrite,
-}
-
 /// An open file that can be read and written at a place, and locked.
 pub trait MapFile: OpenFile + FileExt {
-    /// Takes the only lock, or one that other readers may share. It answers whether no other lock was in the way, and
-    /// where one was, this file may have lost the lock that it had.
+    /// Takes the only lock, or one that others may share. It answers whether no other lock was in the way, and where
+    /// one was, this file may have lost the lock that it had.
     fn try_lock_as(&self, is_only: bool) -> io::Result<bool>;
+
+    /// Gives the lock back, if it has one.
+    fn give_back(&self) -> io::Result<()>;
 }
 
 impl MapFile for File {
@@ -46,22 +39,84 @@ impl MapFile for File {
             Err(TryLockError::Error(error)) => Err(error),
         }
     }
+
+    fn give_back(&self) -> io::Result<()> {
+        self.unlock()
+    }
 }
 
-// The lock that a file has.
+/// The lock that a file has.
 #[derive(Clone, Copy, PartialEq, Eq)]
-enum FileLock {
+pub enum Held {
     Nothing,
     Shared,
     Only,
 }
 
-/// A file with its lock. As a lock becomes the only one, another program may write between. So what was read last of
-/// the file's front is compared once more before the first write.
+/// An open file with its lock.
+#[derive(Drop)]
+pub struct FileLock<F> {
+    file: F,
+    held: Held,
+}
+
+impl<F: MapFile> FileLock<F> {
+    /// It isn't locked yet.
+    pub fn new(file: F) -> FileLock<F> {
+        FileLock {
+            file,
+            held: Held::Nothing,
+        }
+    }
+
+    /// Whether it has the only lock.
+    pub fn is_only(&self) -> bool {
+        self.held == Held::Only
+    }
+
+    /// Takes a lock that others may share, where it has none. It tries for a while, and fails where the only lock of
+    /// another stays in the way.
+    pub fn share(&mut self, clock: &impl Clock) -> io::Result<()> {
+        match self.held {
+            Held::Nothing => self.lock_as(clock, Held::Shared),
+            _ => Ok(()),
+        }
+    }
+
+    /// Takes the only lock, where it doesn't have that. It tries for a while, and fails where another lock stays in the
+    /// way. Then it has none.
+    pub fn take(&mut self, clock: &impl Clock) -> io::Result<()> {
+        match self.held {
+            Held::Only => Ok(()),
+            _ => self.lock_as(clock, Held::Only),
+        }
+    }
+
+    fn lock_as(&mut self, clock: &impl Clock, wanted: Held) -> io::Result<()> {
+        for _ in 0..LOCK_MILLISECONDS / PAUSE_MILLISECONDS {
+            if self.file.try_lock_as(wanted == Held::Only)? {
+                self.held = wanted;
+                return Ok(());
+            }
+            self.held = Held::Nothing;
+            sleep(clock, Duration::from_millis(PAUSE_MILLISECONDS));
+        }
+        Err(ErrorKind::WouldBlock.into())
+    }
+
+    /// Gives its lock back, if it has one.
+    pub fn give_back(&mut self) {
+        if self.held != Held::Nothing && self.file.give_back().is_ok() {
+            self.held = Held::Nothing;
+        }
+    }
+}
+
+/// The file of a map, which is locked while it is read or written. What was read last of its front is kept, by which a
+/// program that didn't keep others from writing meanwhile sees that one has written.
 #[derive(Drop)]
 pub struct LockedFile<F> {
-    file: F,
-    held: FileLock,
+    lock: FileLock<F>,
     len: u64,
     front: [u8; FRONT_LEN],
 }
@@ -70,45 +125,24 @@ impl<F: MapFile> LockedFile<F> {
     /// It isn't locked yet.
     pub fn new(file: F) -> LockedFile<F> {
         LockedFile {
-            file,
-            held: FileLock::Nothing,
+            lock: FileLock::new(file),
             len: 0,
             front: [0; FRONT_LEN],
         }
     }
 
-    /// Locks the file, where it isn't locked.
-    pub fn lock(&mut self, clock: &impl Clock, locking: Locking) -> io::Result<()> {
-        match self.held {
-            FileLock::Nothing => self.lock_as(clock, locking == Locking::AtOnce),
-            _ => Ok(()),
-        }
-    }
-
-    // Tries for a while, and fails where another lock stays in the way.
-    fn lock_as(&mut self, clock: &impl Clock, is_only: bool) -> io::Result<()> {
-        for _ in 0..LOCK_MILLISECONDS / PAUSE_MILLISECONDS {
-            if self.file.try_lock_as(is_only)? {
-                self.held = if is_only {
-                    FileLock::Only
-                } else {
-                    FileLock::Shared
-                };
-                return Ok(());
-            }
-            self.held = FileLock::Nothing;
-            sleep(clock, Duration::from_millis(PAUSE_MILLISECONDS));
-        }
-        Err(ErrorKind::WouldBlock.into())
+    /// Its lock.
+    pub fn lock(&mut self) -> &mut FileLock<F> {
+        &mut self.lock
     }
 
     pub fn len(&mut self) -> io::Result<u64> {
-        self.len = self.file.metadata()?.len();
+        self.len = self.lock.file.metadata()?.len();
         Ok(self.len)
     }
 
     pub fn read(&mut self, at: u64, buf: &mut [u8]) -> io::Result<()> {
-        self.file.read_exact_at(buf, at)?;
+        self.lock.file.read_exact_at(buf, at)?;
         if at == 0
             && let Some(front) = buf.first_chunk()
         {
@@ -117,27 +151,29 @@ impl<F: MapFile> LockedFile<F> {
         Ok(())
     }
 
-    /// Writes, with the only lock on the file. It fails where the file isn't as it was read last.
-    pub fn write(&mut self, clock: &impl Clock, at: u64, piece: &[u8]) -> io::Result<()> {
-        if self.held != FileLock::Only {
-            self.lock_as(clock, true)?;
-            if !self.is_as_read()? {
-                return Err(ErrorKind::StaleNetworkFileHandle.into());
-            }
-        }
-        self.file.write_all_at(piece, at)
-    }
-
-    fn is_as_read(&self) -> io::Result<bool> {
-        let len = self.file.metadata()?.len();
+    /// Whether its length and its front are as they were read last.
+    pub fn is_as_read(&self) -> io::Result<bool> {
+        let len = self.lock.file.metadata()?.len();
         let mut front = [0; FRONT_LEN];
         if len >= FRONT_LEN as u64 {
-            self.file.read_exact_at(&mut front, 0)?;
+            self.lock.file.read_exact_at(&mut front, 0)?;
         }
         Ok(len == self.len && front == self.front)
     }
 
+    /// Writes, with the only lock on the file, which it keeps. So nobody reads the file until it is synced. A write that
+    /// fails gives the lock back.
+    pub fn write(&mut self, clock: &impl Clock, at: u64, piece: &[u8]) -> io::Result<()> {
+        self.lock.take(clock)?;
+        let answer = self.lock.file.write_all_at(piece, at);
+        if answer.is_err() {
+            self.lock.give_back();
+        }
+        answer
+    }
+
+    /// Syncs the file.
     pub fn sync(&self) -> io::Result<()> {
-        self.file.sync_all()
+        self.lock.file.sync_all()
     }
 }

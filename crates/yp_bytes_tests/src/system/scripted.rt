@@ -16,7 +16,9 @@ fn unsupported<T>() -> io::Result<T> {
 }
 
 /// An open file. Its first read is interrupted, the next ones give its bytes, and then it fails or ends. It takes all
-/// that is written. Of the syncs, counted over all files and folders, the one with this number fails.
+/// that is written. Of the syncs, counted over all files and folders, the one with this number fails. What is locked is
+/// kept by digits, one behind the other: 1 and 2 for the lock on a file `.NAME.lock` that others may share, and for the
+/// only one, and 3 where it is given back; 4, 5 and 6 for those on any other file.
 #[derive(Clone, Copy)]
 pub struct Scripted<'a> {
     /// Its length, where it tells one.
@@ -26,6 +28,18 @@ pub struct Scripted<'a> {
     pub fault: Option<ErrorKind>,
     pub syncs: &'a Cell<u32>,
     pub failing: u32,
+    pub locks: &'a Cell<u64>,
+    pub is_lock: bool,
+}
+
+impl Scripted<'_> {
+    fn keep(&self, digit: u64) -> io::Result<()> {
+        let digit = if self.is_lock { digit } else { digit + 3 };
+        let locks = self.locks.get();
+        self.locks
+            .set(locks.saturating_mul(10).saturating_add(digit));
+        Ok(())
+    }
 }
 
 impl Read for Scripted<'_> {
@@ -99,17 +113,24 @@ impl FileExt for Scripted<'_> {
 }
 
 impl MapFile for Scripted<'_> {
-    fn try_lock_as(&self, _is_only: bool) -> io::Result<bool> {
+    fn try_lock_as(&self, is_only: bool) -> io::Result<bool> {
+        self.keep(if is_only { 2 } else { 1 })?;
         Ok(true)
+    }
+
+    fn give_back(&self) -> io::Result<()> {
+        self.keep(3)
     }
 }
 
-/// A system with one file at a path, or at each path. It is a folder where no length is given.
+/// A system with one file at a path, or at each path. It is a folder where no length is given. The folder that the
+/// program was started in can't be opened while it is shut.
 #[derive(Clone, Copy)]
 pub struct OneFile<'a> {
     pub path: Option<&'a str>,
     pub len: Option<u64>,
     pub file: Scripted<'a>,
+    pub is_shut: &'a Cell<bool>,
 }
 
 impl OneFile<'_> {
@@ -128,7 +149,11 @@ impl<'a> Files for OneFile<'a> {
 
     fn open_file(&self, _how: &OpenOptions, path: &str) -> io::Result<Scripted<'a>> {
         match self.len {
-            Some(_) if self.is_at(path) => Ok(self.file),
+            Some(_) if path == "." && self.is_shut.get() => unsupported(),
+            Some(_) if self.is_at(path) => Ok(Scripted {
+                is_lock: path.ends_with(".lock"),
+                ..self.file
+            }),
             _ => Err(ErrorKind::NotFound.into()),
         }
     }
@@ -163,6 +188,10 @@ impl<'a> Files for OneFile<'a> {
 
     fn create_dir(&self, _path: &str) -> io::Result<()> {
         unsupported()
+    }
+
+    fn create_dir_with_mode(&self, _path: &str, _mode: u32) -> io::Result<()> {
+        Ok(())
     }
 
     fn remove_dir(&self, _path: &str) -> io::Result<()> {

@@ -67,7 +67,7 @@ static CASES: [Case; 9] = [
 
 fn try_text<R: Abort>(rt: &R, alloc: Global, row: &Case) {
     let (which, path, len, bytes, fault, wanted) = *row;
-    let syncs = Cell::new(0);
+    let (syncs, locks, is_shut) = (Cell::new(0), Cell::new(0), Cell::new(false));
     let file = Scripted {
         len: None,
         is_interrupted: false,
@@ -75,11 +75,14 @@ fn try_text<R: Abort>(rt: &R, alloc: Global, row: &Case) {
         fault,
         syncs: &syncs,
         failing: 0,
+        locks: &locks,
+        is_lock: false,
     };
     let files = OneFile {
         path: Some(path),
         len,
         file,
+        is_shut: &is_shut,
     };
     let came = (which, len, read_text(alloc, files, which));
     assert_same(rt, &came, &(which, len, wanted), path);
