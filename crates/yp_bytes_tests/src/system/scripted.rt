@@ -33,8 +33,9 @@ pub struct Scripted<'a> {
 }
 
 impl Scripted<'_> {
-    fn keep(&self, digit: u64) -> io::Result<()> {
-        let digit = if self.is_lock { digit } else { digit + 3 };
+    // Keeps a digit: the first where this is a lock, else the second.
+    fn keep(&self, of_lock: u64, of_other: u64) -> io::Result<()> {
+        let digit = if self.is_lock { of_lock } else { of_other };
         let locks = self.locks.get();
         self.locks
             .set(locks.saturating_mul(10).saturating_add(digit));
@@ -114,12 +115,16 @@ impl FileExt for Scripted<'_> {
 
 impl MapFile for Scripted<'_> {
     fn try_lock_as(&self, is_only: bool) -> io::Result<bool> {
-        self.keep(if is_only { 2 } else { 1 })?;
+        if is_only {
+            self.keep(2, 5)?;
+        } else {
+            self.keep(1, 4)?;
+        }
         Ok(true)
     }
 
     fn give_back(&self) -> io::Result<()> {
-        self.keep(3)
+        self.keep(3, 6)
     }
 }
 
