@@ -25,7 +25,7 @@ use Rattle.yp_command_serve.specs.declared.serve.resources.NotHosted.{NotHosted}
 use Rattle.yp_command_serve.specs.declared.serve.resources.ServerResources.{ServerResources}
 use Rattle.yp_command_serve.specs.declared.serve.resources.NotHosted.TheVariants as unhosted
 use Rattle.yp_command_serve.specs.declared.serve.tally.Hosted.{Hosted}
-use Rattle.yp_command_serve.specs.serve.Hosting.{IsHosted}
+use Rattle.yp_command_serve.specs.serve.Hosting.{ServeSetup, ServerTells, IsServed, IsHosted}
 use Rattle.yp_command_serve.specs.inside.serve.Hosting.{IsUnhosted}
 use Rattle.yp_command_serve.specs.serve.Serve.{Job, setup, place, IsToAccept, ServesMaps, IsShut}
 use Rattle.yp_command_serve.specs.serve.Serve.{ServesOrRefuses, TellsServed, HasServeCauses, ServeDoes}
@@ -239,6 +239,19 @@ unhosted_of history faults (Ok h) old opened new each is same = tt
 unhosted_of history faults (Err why) old opened new each is same =
     subst (λ (w : NotHosted). IsUnhosted history faults w old new) (sym is)
     (opened_written history faults old opened new each same)
+
+-- maps that were loaded, and then served
+pub hosted_of : {D : Type 0} (history : D → Option History) (faults : D → ℕ) (setup : ServeSetup)
+    (hosted : Result Hosted NotHosted) (loaded : List (StoredMap D)) (was now : ServerTells) (old new : List D)
+    → AllZip (IsOpened history faults) old loaded
+    → IfOk hosted (λ h. IsServed history faults setup loaded h was now new)
+    → IfOk hosted (λ h. IsHosted history faults setup h was now old new)
+hosted_of history faults setup (Ok h) loaded was now old new opened served = record {
+  maps = loaded;
+  opened = opened;
+  served = served;
+}
+hosted_of history faults setup (Err why) loaded was now old new opened served = tt
 
 -- the map whose file wasn't loaded is one of as many as there are disks
 pub number_within : {D : Type 0} (history : D → Option History) (faults : D → ℕ)

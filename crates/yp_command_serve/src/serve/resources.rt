@@ -123,9 +123,8 @@ fn unshared<M: ClockMoment, A, T, C: Clock>(desk: Desk<A, T, SharedClock<M, C>>)
     }
 }
 
-/// Serves maps from a resources, by workers in threads and a worker of datagrams, until all connections were served
-/// and all
-/// turns taken. Where a file isn't loaded, or memory runs out, nobody is served.
+/// Serves maps over these resources, by workers in threads and a worker of datagrams, until all connections were served
+/// and all turns taken. Where a file isn't loaded, or memory runs out, nobody is served.
 pub(crate) fn host<D, A, T, C, L, I, R>(
     alloc: Global,
     rt: &R,

@@ -1,7 +1,7 @@
 use Rattle.std.proofs.Common.{◌∙◌}
 use Rattle.yp_command_serve.proofs.serve.Disks.{all_opened, stopped_count}
 use Rattle.yp_command_serve.proofs.serve.Starts.{levels}
-use Rattle.yp_command_serve.proofs.serve.Told.{unhosted_of}
+use Rattle.yp_command_serve.proofs.serve.Told.{hosted_of, unhosted_of}
 use Rattle.yp_command_serve.proofs.serve.resources.host.Goals as goal
 
 pub host_loaded-requires-clause-count : goal.host_loaded-requires-clause-count
@@ -22,6 +22,11 @@ pub returns-in-Err-clause-count : goal.returns-in-Err-clause-count
 returns-in-Err-clause-count g c =
     (stopped_count g.D.Disk.history g.D.Disk.faults c.args.resources.disks.items c.in-Err.field-0.disks.items
     c.in-Err.field-0.map c.in-Err.field-0.fault c.in-Err.ensures.refused).0
+
+pub returns-in-Ok-clause-hosted : goal.returns-in-Ok-clause-hosted
+returns-in-Ok-clause-hosted g c =
+    hosted_of g.D.Disk.history g.D.Disk.faults _ c.host_loaded.result.0 c.in-Ok.loaded _ _ c.args.resources.disks.items
+    c.host_loaded.result.1.disks.items c.in-Ok.ensures.loaded c.host_loaded.ensures.hosted
 
 pub returns-in-Ok-clause-unhosted : goal.returns-in-Ok-clause-unhosted
 returns-in-Ok-clause-unhosted g c =
