@@ -161,8 +161,8 @@ impl<F: MapFile> LockedFile<F> {
         Ok(len == self.len && front == self.front)
     }
 
-    /// Writes, with the only lock on the file, which it keeps. So nobody reads the file until it is synced. A write that
-    /// fails gives the lock back.
+    /// Writes, with the only lock on the file, which it keeps. So nobody reads the file until it is synced. A write
+    /// that fails gives the lock back.
     pub fn write(&mut self, clock: &impl Clock, at: u64, piece: &[u8]) -> io::Result<()> {
         self.lock.take(clock)?;
         let answer = self.lock.file.write_all_at(piece, at);
