@@ -144,30 +144,22 @@ where
         Ok(())
     }
 
-    // Keeps all others who may write away. It answers whether the map may be written.
-    fn claim_alone(&mut self) -> io::Result<bool> {
+    // Keeps those away who have the map for themselves, and, if it is to be alone, all who may write. It answers whether
+    // the map may be written.
+    fn claim(&mut self, is_alone: bool) -> io::Result<bool> {
         self.make_claim()?;
-        match &mut self.claim {
-            Claim::Made(lock) => {
-                lock.take(&self.system)?;
-                Ok(true)
-            }
-            _ => Ok(false),
+        let Claim::Made(lock) = &mut self.claim else {
+            return Ok(false);
+        };
+        if is_alone {
+            lock.take(&self.system)?;
+        } else {
+            lock.share(&self.system)?;
         }
+        Ok(true)
     }
 
-    // Keeps those away who have the map for themselves. It answers whether the map may be written.
-    fn claim_with_others(&mut self) -> io::Result<bool> {
-        self.make_claim()?;
-        match &mut self.claim {
-            Claim::Made(lock) => {
-                lock.share(&self.system)?;
-                Ok(true)
-            }
-            _ => Ok(false),
-        }
-    }
-
+    // Whether the folder of the map is there.
     fn has_folder(&self) -> bool {
         match fs::metadata(&self.system, &self.folder) {
             Ok(found) => found.is_dir(),
@@ -197,15 +189,15 @@ where
     // The file, where there is one, while nobody writes it.
     fn file(&mut self) -> io::Result<Option<&mut LockedFile<R::File>>> {
         let mut is_kept = match self.locking {
-            Locking::FromStart => self.claim_alone()?,
-            Locking::FromReading => self.has_folder() && self.claim_alone()?,
+            Locking::FromStart => self.claim(true)?,
+            Locking::FromReading => self.has_folder() && self.claim(true)?,
             _ => false,
         };
         self.open()?;
         if let Opened::Found(_) = self.opened
             && self.locking == Locking::FromWriting
         {
-            is_kept = self.claim_with_others()?;
+            is_kept = self.claim(false)?;
         }
         match &mut self.opened {
             Opened::Found(file) => {
@@ -235,7 +227,7 @@ where
 
     // Keeps all others who may write away, and fails where one of them has written since the file was read.
     fn begin_writing(&mut self) -> io::Result<()> {
-        if self.locking == Locking::Never || !self.claim_alone()? {
+        if self.locking == Locking::Never || !self.claim(true)? {
             return Err(ErrorKind::PermissionDenied.into());
         }
         match &self.opened {
