@@ -22,10 +22,11 @@ use yp_system::{
 };
 
 /// When a command keeps a map for itself. A server does so for life, so that each map has one writer. A session answers
-/// from what it loaded, and may never write. What is checked, pushed or reversed is only read.
+/// from what it loaded, and may never write. What is checked, dumped, pushed or reversed is only read.
 fn locking_of(command: &Command, name: &MapName) -> Locking {
     match command {
         Command::Build { .. } => Locking::FromReading,
+        Command::Load { .. } => Locking::FromReading,
         Command::Xfr(_) => Locking::FromReading,
         Command::Walk(_) => Locking::FromReading,
         Command::Serve(_) => Locking::FromStart,

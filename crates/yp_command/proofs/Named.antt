@@ -19,10 +19,10 @@ use Rattle.yp_command.specs.Forms as form
 use Rattle.yp_command.specs.declared.command.Command.{Command}
 use Rattle.yp_command.specs.declared.words.ParseFault.{ParseFault}
 use Rattle.yp_command.specs.Words.{Meaning, meaning, ◌>>=◌, word, served, stores_and_hosts, servers}
-use Rattle.yp_command.specs.Words.{is_new_store, is_new_server, once, session, serve, check, build, xfr, walk, revnet}
-use Rattle.yp_command.specs.Words.{sample, push, bind, portmap, getport, asking, match_key, maps, innetgr, sentence}
-use Rattle.yp_command.specs.Words.{command_of, each, end, optional, Once, Session, Serve, Check, Build, Xfr, Walk}
-use Rattle.yp_command.specs.Words.{Revnet, Sample, Push, Bind, Portmap, Getport, Ask}
+use Rattle.yp_command.specs.Words.{is_new_store, is_new_server, once, session, serve, check, dump, build, load, xfr}
+use Rattle.yp_command.specs.Words.{walk, revnet, sample, push, bind, portmap, getport, asking, match_key, maps, innetgr}
+use Rattle.yp_command.specs.Words.{sentence, command_of, each, end, optional, Once, Session, Serve, Check, Dump, Build}
+use Rattle.yp_command.specs.Words.{Load, Xfr, Walk, Revnet, Sample, Push, Bind, Portmap, Getport, Ask}
 use Rattle.yp_command.specs.inside.Words.{IsNamed, IsOneMap, AreMaps as MakeMaps, HasNames, Answers}
 use Rattle.yp_client.specs.declared.question.Question.TheVariants.{Cat, Catk, Match, Which, Poll, Maps, Innetgr}
 use Rattle.yp_client.specs.Questions.{ByteQuestion}
@@ -382,6 +382,12 @@ check_named words =
     read (word 1 form.store words) _ λ store store_is. read (end 2 words) _ λ end _.
     whole (Check store) (store_named store (store_read 1 words store store_is))
 
+dump_named : (words : List (List ℕ)) → Named (dump words)
+unfolding dump
+dump_named words =
+    read (word 1 form.store words) _ λ store store_is. read (end 2 words) _ λ end _.
+    whole (Dump store) (store_named store (store_read 1 words store store_is))
+
 build_named : (words : List (List ℕ)) → Named (build words)
 unfolding build IsOfKind
 build_named words =
@@ -392,6 +398,15 @@ build_named words =
     whole (Build name store flag) (
     let kind = of_word IsOfKind form.kind_store 2 words store kind_said store_is in
     (one_map name store (name_read 1 words name name_is) kind.0, kind.1))
+
+load_named : (words : List (List ℕ)) → Named (load words)
+unfolding load
+load_named words =
+    read (word 1 form.name words) _ λ name name_is.
+    read (word 2 form.store words) _ λ store store_is.
+    read (optional 3 form.flag words) _ λ flag _.
+    read (end 4 words) _ λ end _.
+    whole (Load name store flag) (one_map name store (name_read 1 words name name_is) (store_read 2 words store store_is))
 
 xfr_named : (words : List (List ℕ)) → Named (xfr words)
 unfolding xfr
@@ -541,7 +556,9 @@ sentence_named first words =
     named_if (bytes_eq first (codes "session")) _ _ (session_named words) (
     named_if (bytes_eq first (codes "serve")) _ _ (serve_named words) (
     named_if (bytes_eq first (codes "check")) _ _ (check_named words) (
+    named_if (bytes_eq first (codes "dump")) _ _ (dump_named words) (
     named_if (bytes_eq first (codes "build")) _ _ (build_named words) (
+    named_if (bytes_eq first (codes "load")) _ _ (load_named words) (
     named_if (bytes_eq first (codes "xfr")) _ _ (xfr_named words) (
     named_if (bytes_eq first (codes "walk")) _ _ (walk_named words) (
     named_if (bytes_eq first (codes "revnet")) _ _ (revnet_named words) (
@@ -556,7 +573,7 @@ sentence_named first words =
     named_if (bytes_eq first (codes "poll")) _ _ (asking_named Poll words (λ domain map short. short)) (
     named_if (bytes_eq first (codes "match")) _ _ (match_key_named words) (
     named_if (bytes_eq first (codes "maps")) _ _ (maps_named words) (
-    named_if (bytes_eq first (codes "innetgr")) _ _ (innetgr_named words) (none_named 0))))))))))))))))))))
+    named_if (bytes_eq first (codes "innetgr")) _ _ (innetgr_named words) (none_named 0))))))))))))))))))))))
 
 -- what the words ask for has such names
 asked_named : (words : List (List ℕ)) (meaning : Meaning) → command_of words ≡ Ok meaning → HasNames meaning

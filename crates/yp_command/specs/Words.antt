@@ -32,8 +32,10 @@ pub data Meaning : Type 0 where
   -- the datagrams, the maps that are served, and the hosts that are known
   Serve : (own : List ℕ) (port workers connections turns : ℕ) (stores : List Name) (hosts : List Host) → Meaning
   Check : (store : Name) → Meaning
+  Dump : (store : Name) → Meaning
   -- the flag is true for a secure version, and none where the words don't say
   Build : (name : List ℕ) (store : Name) (flag : Option Bool) → Meaning
+  Load : (name : List ℕ) (store : Name) (flag : Option Bool) → Meaning
   -- the own name, whether the order doesn't count, the map, the host that has it, and the flag
   Xfr : (name : List ℕ) (force : Bool) (store : Name) (host : Host) (flag : Option Bool) → Meaning
   -- the same, and between the host and the flag the port and the most turns
@@ -149,6 +151,12 @@ check words = do
   _ ← end 2 words
   Ok (Check store)
 
+unfoldable pub dump : Sentence
+dump words = do
+  store ← word 1 form.store words
+  _ ← end 2 words
+  Ok (Dump store)
+
 unfoldable pub build : Sentence
 build words = do
   name ← word 1 form.name words
@@ -156,6 +164,14 @@ build words = do
   flag ← optional 3 form.flag words
   _ ← end 4 words
   Ok (Build name store flag)
+
+unfoldable pub load : Sentence
+load words = do
+  name ← word 1 form.name words
+  store ← word 2 form.store words
+  flag ← optional 3 form.flag words
+  _ ← end 4 words
+  Ok (Load name store flag)
 
 unfoldable pub xfr : Sentence
 xfr words = do
@@ -274,7 +290,9 @@ sentence first words =
     else if bytes_eq first (codes "session") then session words
     else if bytes_eq first (codes "serve") then serve words
     else if bytes_eq first (codes "check") then check words
+    else if bytes_eq first (codes "dump") then dump words
     else if bytes_eq first (codes "build") then build words
+    else if bytes_eq first (codes "load") then load words
     else if bytes_eq first (codes "xfr") then xfr words
     else if bytes_eq first (codes "walk") then walk words
     else if bytes_eq first (codes "revnet") then revnet words
@@ -321,7 +339,9 @@ stores_of (Once store rows) = []
 stores_of (Session own peer stores hosts) = stores
 stores_of (Serve own port workers connections turns stores hosts) = stores
 stores_of (Check store) = store ∷ []
+stores_of (Dump store) = store ∷ []
 stores_of (Build name store flag) = store ∷ []
+stores_of (Load name store flag) = store ∷ []
 stores_of (Xfr name force store host flag) = store ∷ []
 stores_of (Walk name force store host port turns flag) = store ∷ []
 stores_of (Revnet name store) = store ∷ netgroup_of store ∷ []
@@ -356,7 +376,9 @@ meaning (command.Serve job) =
     Serve job.name.items job.port job.workers job.connections job.turns (map name_view job.stores.items)
     (map host_view job.hosts.items)
 meaning (command.Check store) = Check (name_view store)
+meaning (command.Dump store) = Dump (name_view store)
 meaning (command.Build name store flag) = Build name.items (name_view store) flag
+meaning (command.Load name store flag) = Load name.items (name_view store) flag
 meaning (command.Xfr job) = Xfr job.name.items job.force (name_view job.store) (host_view job.host) job.flag
 meaning (command.Walk job) =
     Walk job.xfr.name.items job.xfr.force (name_view job.xfr.store) (host_view job.xfr.host) job.port job.turns
@@ -383,7 +405,9 @@ TakesMemory (Once store rows) = Unit {0}
 TakesMemory (Session own peer stores hosts) = Unit {0}
 TakesMemory (Serve own port workers connections turns stores hosts) = Unit {0}
 TakesMemory (Check store) = Unit {0}
+TakesMemory (Dump store) = Unit {0}
 TakesMemory (Build name store flag) = Unit {0}
+TakesMemory (Load name store flag) = Unit {0}
 TakesMemory (Xfr name force store host flag) = Unit {0}
 TakesMemory (Walk name force store host port turns flag) = Unit {0}
 TakesMemory (Revnet name store) = Unit {0}

@@ -103,9 +103,19 @@ pub enum Command {
     Check {
         store: MapName,
     },
+    /// Tells the rows of this map.
+    Dump {
+        store: MapName,
+    },
     /// Builds a version of this map from the input, and installs it. `name` is its master, and `flag` is true where the
     /// version is to be secure; without one it is as the version that is shown.
     Build {
+        name: Vec<u8>,
+        store: MapName,
+        flag: Option<bool>,
+    },
+    /// Makes a version of this map of the rows on the input, and installs it, as `Build` does.
+    Load {
         name: Vec<u8>,
         store: MapName,
         flag: Option<bool>,

@@ -7,8 +7,8 @@ ghost use Rattle.yp_command.specs.Words.{command_of, disk_names, stores_of};
 ghost use Rattle.yp_command.specs.inside.Words.{connections_of, port_of};
 ghost use Rattle.yp_command.specs.Words.{row_view, host_view, meaning, texts};
 ghost use Rattle.yp_command.specs.inside.Words.{Answers};
-ghost use Rattle.yp_command.specs.Words.{once, session, serve, check, build, xfr, walk, revnet, sample, push, bind};
-ghost use Rattle.yp_command.specs.Words.{portmap, getport, asking, match_key, maps, innetgr, TakesMemory};
+ghost use Rattle.yp_command.specs.Words.{once, session, serve, check, dump, build, load, xfr, walk, revnet, sample};
+ghost use Rattle.yp_command.specs.Words.{push, bind, portmap, getport, asking, match_key, maps, innetgr, TakesMemory};
 ghost use Rattle.yp_command.specs.Words.{netgroup_of, ypservers_of};
 ghost use Rattle.yp_command.specs.inside.Words.{IsSentenceOfWords, IsUsage, HasNames};
 ghost use Rattle.yp_command.specs.Words.{is_ypservers, with_ypservers};
@@ -155,6 +155,17 @@ fn check(alloc: Global, words: Words) -> Result<Command, ParseFault>
     })
 }
 
+#[tactic(auto, unfolding(crate::specs::Words::dump))]
+fn dump(alloc: Global, words: Words) -> Result<Command, ParseFault>
+    ensures { Answers (dump (texts words.entry.words.now)) result }
+{
+    let store = words.store(1)?;
+    words.end(2)?;
+    Ok(Command::Dump {
+        store: map_name(alloc, store)?,
+    })
+}
+
 #[tactic(auto, unfolding(crate::specs::Words::build))]
 fn build(alloc: Global, words: Words) -> Result<Command, ParseFault>
     ensures { Answers (build (texts words.entry.words.now)) result }
@@ -164,6 +175,21 @@ fn build(alloc: Global, words: Words) -> Result<Command, ParseFault>
     let flag = words.flag_if_any(3)?;
     words.end(4)?;
     Ok(Command::Build {
+        name: bytes(alloc, name)?,
+        store: map_name(alloc, store)?,
+        flag,
+    })
+}
+
+#[tactic(auto, unfolding(crate::specs::Words::load))]
+fn load(alloc: Global, words: Words) -> Result<Command, ParseFault>
+    ensures { Answers (load (texts words.entry.words.now)) result }
+{
+    let name = words.name(1)?;
+    let store = words.store(2)?;
+    let flag = words.flag_if_any(3)?;
+    words.end(4)?;
+    Ok(Command::Load {
         name: bytes(alloc, name)?,
         store: map_name(alloc, store)?,
         flag,
@@ -434,7 +460,9 @@ fn read(alloc: Global, words: Words) -> Result<Command, ParseFault>
         "session" => session(alloc, words),
         "serve" => serve(alloc, words),
         "check" => check(alloc, words),
+        "dump" => dump(alloc, words),
         "build" => build(alloc, words),
+        "load" => load(alloc, words),
         "xfr" => xfr(alloc, words),
         "walk" => walk(alloc, words),
         "revnet" => revnet(alloc, words),
@@ -461,7 +489,9 @@ pub fn stores_of(alloc: Global, command: &Command) -> Result<Vec<MapName>, NoMem
 {
     let names = match command {
         Command::Check { store } => only_name(alloc, store),
+        Command::Dump { store } => only_name(alloc, store),
         Command::Build { store, .. } => only_name(alloc, store),
+        Command::Load { store, .. } => only_name(alloc, store),
         Command::Xfr(job) => only_name(alloc, &job.store),
         Command::Walk(job) => only_name(alloc, &job.xfr.store),
         Command::Revnet { store, .. } => with_netgroup(alloc, store),
@@ -490,7 +520,9 @@ pub fn port_of(command: &Command) -> Option<u16>
         Command::Session { .. } => None,
         Command::Serve(job) => Some(job.port),
         Command::Check { .. } => None,
+        Command::Dump { .. } => None,
         Command::Build { .. } => None,
+        Command::Load { .. } => None,
         Command::Xfr(_) => None,
         Command::Walk(job) => Some(job.port),
         Command::Revnet { .. } => None,
@@ -512,7 +544,9 @@ pub fn connections_of(command: &Command) -> u32
         Command::Once { .. } => 0,
         Command::Session { .. } => 0,
         Command::Check { .. } => 0,
+        Command::Dump { .. } => 0,
         Command::Build { .. } => 0,
+        Command::Load { .. } => 0,
         Command::Xfr(_) => 0,
         Command::Walk(_) => 0,
         Command::Revnet { .. } => 0,

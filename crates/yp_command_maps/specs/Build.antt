@@ -12,9 +12,11 @@ use Rattle.yp_map_file.specs.Stands.{Stands, Nothing, Stored, file_max, stands}
 use Rattle.yp_map_file.specs.Stands as stood
 use Rattle.yp_board.specs.Catalogues.{Name, name_view}
 use Rattle.yp_texts.specs.declared.kind.Kind.{Kind}
+use Rattle.yp_texts.specs.declared.reading.Reading.{Reading}
+use Rattle.yp_texts.specs.declared.reading.Reading.TheVariants as reading
 use Rattle.yp_texts.specs.declared.fault.BuildFault.{BuildFault}
 use Rattle.yp_texts.specs.declared.fault.BuildFault.TheVariants as fault
-use Rattle.yp_texts.specs.After.{Hindrance, HasOther, HasFault, basis_of, material_of, built_after}
+use Rattle.yp_texts.specs.After.{Hindrance, HasOther, HasFault, material_of, built_behind}
 use Rattle.yp_command.specs.Forms.{kind_of}
 use Rattle.yp_command.specs.office.Lines.{map_text}
 use Rattle.yp_command.specs.declared.office.status.Status.{Status}
@@ -27,15 +29,15 @@ use Rattle.yp_command.specs.office.Seeing.{Seeing, input, output, history, momen
 
 -- ---- what is to be built
 
--- the own name, the map and its kind, and whether the version is secure, where that is said
+-- the own name, the map, how its text is read, and whether the version is secure, where that is said
 pub record Job : Type 0 where
   pub name : List ℕ
   pub store : Name
-  pub kind : Kind
+  pub reading : Reading
   pub flag : Option Bool
 
-abbrev pub job_of : List ℕ → Name → Kind → Option Bool → Job
-job_of name store kind flag = record { name = name; store = store; kind = kind; flag = flag }
+abbrev pub job_of : List ℕ → Name → Reading → Option Bool → Job
+job_of name store reading flag = record { name = name; store = store; reading = reading; flag = flag }
 
 -- what the outside held: the text, the bytes of the map's file, and the moment
 pub record BuildInputs : Type 0 where
@@ -59,7 +61,7 @@ pub data Unplanned : Type 0 where
 
 -- the version that a text makes behind the one that stands
 abbrev pub offered : Job → List ℕ → ℕ → Option MapVersion → Result MapVersion Hindrance
-offered job text now standing = built_after (basis_of job.kind job.name job.flag standing) (material_of text now)
+offered job text now standing = built_behind job.reading job.name job.flag standing (material_of text now)
 
 -- a version needs a further generation of its file
 abbrev pub with_generation : ℕ → Result MapVersion Hindrance → Result MapVersion Unplanned
@@ -217,4 +219,9 @@ pub record BuildDoes {S K D C A I T : Type 0} (seen : Seeing S K D C A I T) (nam
     (status : Status) (old new : Office S K D C A I T) : Type 0 where
   pub kind : Kind
   pub of_kind : kind_of store ≡ Some kind
-  pub does : JobDoes seen (job_of name store kind flag) status old new
+  pub does : JobDoes seen (job_of name store (reading.Text kind) flag) status old new
+
+-- What `load` does: the text is read as rows.
+abbrev pub LoadDoes : {S K D C A I T : Type 0} → Seeing S K D C A I T → (name : List ℕ) (store : Name)
+    (flag : Option Bool) → Status → (old new : Office S K D C A I T) → Type 0
+LoadDoes seen name store flag = JobDoes seen (job_of name store reading.Rows flag)

@@ -1,6 +1,6 @@
 -- What `check` tells: what the bytes of a stored file stand for.
-use Rattle.std.specs.Prelude.{◌≡◌, ◌⊎◌, ℕ, Bool, true, false, List, [], ◌++◌, length, Option, if◌then◌else◌}
-use Rattle.std.specs.Prelude.{codes, decimal, IfSome}
+use Rattle.std.specs.Prelude.{◌≡◌, ℕ, Bool, true, false, List, [], ◌++◌, length, Option, if◌then◌else◌}
+use Rattle.std.specs.Prelude.{codes, decimal, ⊤}
 use Rattle.std.specs.Io.KnownBytes.{Appends}
 use Rattle.yp_io.specs.Streams.{AppendsFront}
 use Rattle.yp_version.specs.Versions.{MapVersion}
@@ -13,8 +13,8 @@ use Rattle.yp_command.specs.declared.office.status.Status.{Status}
 use Rattle.yp_command.specs.declared.office.status.Status.TheVariants.{Done, WriteFault, NoMemory, Damaged, NoVersion}
 use Rattle.yp_command.specs.declared.office.status.Status.TheVariants.{DiskFault}
 use Rattle.yp_command.specs.declared.office.office.Office.{Office}
-use Rattle.yp_command.specs.office.Disks.{names_of, IsOnlyRead}
-use Rattle.yp_command.specs.office.Seeing.{Seeing, history, output, DiskFails, WriteFails, HasCauses}
+use Rattle.yp_command.specs.office.Seeing.{Seeing}
+use Rattle.yp_command_maps.specs.Inspect.{Inspects}
 
 -- what stands behind the generation of a secure version
 abbrev pub mark_text : Bool → List ℕ
@@ -56,15 +56,7 @@ check_may_end (NoVersion map) = true
 check_may_end (DiskFault map) = true
 check_may_end _ = false
 
--- What `check` does: it tells what the file of its map stands for, and writes nothing to its disk. Where nothing fails
--- a version that stands is told.
-pub record CheckDoes {S K D C A I T : Type 0} (seen : Seeing S K D C A I T) (store : Name) (status : Status)
-    (old new : Office S K D C A I T) : Type 0 where
-  pub tells : IfSome (history seen old)
-      (λ h. Checks store h.state.reads status (output seen old) (output seen new))
-  pub unwritten : IsOnlyRead (history seen old) (history seen new)
-  pub complete : (version : MapVersion) → IfSome (history seen old) (λ h. stands h.state.reads ≡ stood.Stored version
-      → ¬ DiskFails seen old new → ¬ WriteFails seen old new → (status ≡ Done) ⊎ (status ≡ NoMemory))
-  pub causes : HasCauses seen status old new
-  pub names : names_of new.disks.items ≡ names_of old.disks.items
-  pub stays : new ≡ record old { wire = record old.wire { sink = new.wire.sink }; disks = new.disks }
+-- What `check` does: it tells what the file of its map stands for.
+abbrev pub CheckDoes : {S K D C A I T : Type 0} → Seeing S K D C A I T → Name → Status
+    → (old new : Office S K D C A I T) → Type 0
+CheckDoes seen store = Inspects seen (Checks store) (λ version. ⊤)

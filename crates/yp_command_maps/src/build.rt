@@ -26,7 +26,7 @@ ghost use Rattle.yp_command_maps.specs.Build.{with_generation, fault_status};
 ghost use Rattle.yp_command_maps.specs.inside.Build.{BuildsOn, unread_status, stop_of_open};
 ghost use Rattle.yp_command_maps.specs.Build.{TellsLine};
 ghost use Rattle.yp_command_maps.specs.inside.Build.{stop_of_build, stop_of_after, IsStatusOfStop, IsBuildEnd};
-ghost use Rattle.yp_command_maps.specs.Build.{BuildDoes, build_may_end};
+ghost use Rattle.yp_command_maps.specs.Build.{JobDoes, BuildDoes, LoadDoes, build_may_end};
 ghost use Rattle.yp_command_maps.specs.inside.Build.{IsShortStop};
 
 use crate::catalog::catalog_of;
@@ -43,7 +43,7 @@ use yp_io::{
 };
 use yp_map_file::SlotFault;
 use yp_publisher::{InstallFault, Installed, OpenFault, Origin, Publisher, open_publisher};
-use yp_texts::{AfterFault, BuildFault, Kind, build_after};
+use yp_texts::{AfterFault, BuildFault, Kind, Reading, build_after};
 use yp_version::Version;
 
 /// What is to be built.
@@ -53,8 +53,8 @@ pub(crate) struct BuildJob {
     pub name: Vec<u8>,
     /// The map.
     pub store: MapName,
-    /// Its kind.
-    pub kind: Kind,
+    /// How its text is read.
+    pub reading: Reading,
     /// Whether the version is secure, where that is said.
     pub flag: Option<bool>,
 }
@@ -229,7 +229,7 @@ fn renew<D: Disk>(
 {
     let _standing = publisher.standing(0);
     let last = shown_of(publisher);
-    let version = build_after(alloc, rt, job.kind, text, last, job.flag, now, &job.name)?;
+    let version = build_after(alloc, rt, job.reading, text, last, job.flag, now, &job.name)?;
     let (order, rows) = (version.order(), version.len());
     let installed = store_version(alloc, publisher, version)?;
     Ok(Built {
@@ -380,8 +380,35 @@ fn tell_end<K: Sink>(sink: &mut K, store: MapName, built: Result<Built, BuildSto
     }
 }
 
-/// Builds a map of the text on the input, stores it on the only disk, and tells what was stored. `name` is the own
-/// name.
+/// Makes a map of the text on the input, stores it on the only disk, and tells what was stored.
+fn make_map<S: Source, K: Sink, D: Disk, C: Clock, A: Dial, I: Inbox, T: Texts>(
+    alloc: Global,
+    rt: &impl RandomSource,
+    job: BuildJob,
+    office: &mut Office<S, K, D, C, A, I, T>,
+) -> Status
+    requires named { IsNamed (name_view job.store) }
+    requires name { length job.name.items ≤ name_max }
+    requires catalogue { catalog_fault job.name.items (name_view job.store ∷ []) ≡ None }
+    requires only { names_of office.old.disks.items ≡ name_view job.store ∷ [] }
+    ensures does { JobDoes (seeing S.Source K.Sink D.Disk C.Clock A.Dial I.Inbox T.Texts)
+        (job_view job) result office.old office.new }
+    ensures may_end { IsTrue (build_may_end result) }
+    ensures passed_on { IsPassedOn (seeing S.Source K.Sink D.Disk C.Clock A.Dial I.Inbox T.Texts)
+        result office.old office.new }
+    ensures tellable { IsTellable result }
+{
+    let text = match read_all(alloc, &mut office.wire.source, TEXT_MAX) {
+        Ok(text) => text,
+        Err(unread) => return status_unread(unread),
+    };
+    let now = office.clock.now();
+    let built = build_on(alloc, rt, &job, text, now, &mut office.disks);
+    tell_end(&mut office.wire.sink, job.store, built)
+}
+
+/// Builds a map of the text of its kind on the input, stores it on the only disk, and tells what was stored. `name` is
+/// the own name.
 pub fn build_map<S: Source, K: Sink, D: Disk, C: Clock, A: Dial, I: Inbox, T: Texts>(
     alloc: Global,
     rt: &impl RandomSource,
@@ -405,17 +432,40 @@ pub fn build_map<S: Source, K: Sink, D: Disk, C: Clock, A: Dial, I: Inbox, T: Te
     let Some(kind) = Kind::of_name(&store.map) else {
         unreachable!()
     };
-    let text = match read_all(alloc, &mut office.wire.source, TEXT_MAX) {
-        Ok(text) => text,
-        Err(unread) => return status_unread(unread),
-    };
     let job = BuildJob {
         name,
         store,
-        kind,
+        reading: Reading::Text(kind),
         flag,
     };
-    let now = office.clock.now();
-    let built = build_on(alloc, rt, &job, text, now, &mut office.disks);
-    tell_end(&mut office.wire.sink, job.store, built)
+    make_map(alloc, rt, job, office)
+}
+
+/// Makes a map of the rows on the input, stores it on the only disk, and tells what was stored. `name` is the own name.
+pub fn load_map<S: Source, K: Sink, D: Disk, C: Clock, A: Dial, I: Inbox, T: Texts>(
+    alloc: Global,
+    rt: &impl RandomSource,
+    name: Vec<u8>,
+    store: MapName,
+    flag: Option<bool>,
+    office: &mut Office<S, K, D, C, A, I, T>,
+) -> Status
+    requires named { IsNamed (name_view store) }
+    requires name { length name.items ≤ name_max }
+    requires catalogue { catalog_fault name.items (name_view store ∷ []) ≡ None }
+    requires only { names_of office.old.disks.items ≡ name_view store ∷ [] }
+    ensures does { LoadDoes (seeing S.Source K.Sink D.Disk C.Clock A.Dial I.Inbox T.Texts)
+        name.items (name_view store) flag result office.old office.new }
+    ensures may_end { IsTrue (build_may_end result) }
+    ensures passed_on { IsPassedOn (seeing S.Source K.Sink D.Disk C.Clock A.Dial I.Inbox T.Texts)
+        result office.old office.new }
+    ensures tellable { IsTellable result }
+{
+    let job = BuildJob {
+        name,
+        store,
+        reading: Reading::Rows,
+        flag,
+    };
+    make_map(alloc, rt, job, office)
 }

@@ -20,7 +20,7 @@ use std::alloc::Global;
 use std::random::RandomSource;
 use yp_io::{Clock, Dial, TextFault, Texts};
 use yp_messages::XfrStat;
-use yp_texts::{AfterFault, BuildFault, Kind, build_after, other_master};
+use yp_texts::{AfterFault, BuildFault, Kind, Reading, build_after, other_master};
 use yp_version::Version;
 
 /// Builds a version of a map, where `own` is the host's own name and `shown` the version that is shown of the map. It
@@ -51,7 +51,7 @@ pub fn build_anew<A: Dial, T: Texts, C: Clock>(
     }
     let text = read_text(alloc, &mut desk.texts, kind)?;
     let now = desk.clock.now();
-    match build_after(alloc, rt, kind, text, shown, None, now, own) {
+    match build_after(alloc, rt, Reading::Text(kind), text, shown, None, now, own) {
         Ok(version) => Ok(version),
         Err(AfterFault::Build(fault)) => Err(build_stat(fault)),
         Err(AfterFault::Foreign { .. }) => unreachable!(),

@@ -1,7 +1,8 @@
 -- What every command keeps: the names of the disks, and the moment that the clock tells.
 use Rattle.std.proofs.Common.{◌≡◌, List, refl, ap, ◌∙◌}
 use Rattle.yp_answer.specs.session.Wires.{Wire}
-use Rattle.yp_command.specs.Words.{Meaning, Once, Session, Serve, Check, Build, Xfr, Walk, Sample, Push, Bind, Portmap, Getport, Ask, Revnet}
+use Rattle.yp_command.specs.Words.{Meaning, Once, Session, Serve, Check, Dump, Build, Load, Xfr, Walk, Sample, Push, Bind}
+use Rattle.yp_command.specs.Words.{Portmap, Getport, Ask, Revnet}
 use Rattle.yp_command.specs.declared.office.office.Office.{Office}
 use Rattle.yp_command.specs.declared.office.status.Status.{Status}
 use Rattle.yp_command.specs.office.Disks.{names_of}
@@ -26,7 +27,9 @@ module _ {S K D C A I T : Type 0} (seen : Seeing S K D C A I T) (status : Status
   command_keeps (Session own peer stores hosts) h = record { names = h.names; told = h.told }
   command_keeps (Serve own port workers connections turns stores hosts) h = absurd h
   command_keeps (Check store) h = record { names = h.0.names; told = ap (λ (o : Office S K D C A I T). seen.clock.moment o.clock) h.0.stays }
+  command_keeps (Dump store) h = record { names = h.0.names; told = ap (λ (o : Office S K D C A I T). seen.clock.moment o.clock) h.0.stays }
   command_keeps (Build name store flag) h = record { names = h.0.does.names; told = h.0.does.told }
+  command_keeps (Load name store flag) h = record { names = h.0.names; told = h.0.told }
   command_keeps (Xfr name force store host flag) h = record {
     names = h.0.does.names;
     told = ap (λ (o : Office S K D C A I T). seen.clock.moment o.clock) h.0.does.stays;

@@ -1,7 +1,7 @@
 -- What is done for words that weren't parsed.
 use Rattle.std.proofs.Common.{◌≡◌, ℕ, List, Result, Ok, Err, refl, inr, true}
 use Rattle.yp_answer.specs.session.Wires.{Wire}
-use Rattle.yp_command.specs.Words.{Meaning, Once, Session, Serve, Check, Build, Xfr, Walk, Sample, Push}
+use Rattle.yp_command.specs.Words.{Meaning, Once, Session, Serve, Check, Dump, Build, Load, Xfr, Walk, Sample, Push}
 use Rattle.yp_command.specs.Words.{Bind, Portmap, Getport, Ask, Revnet}
 use Rattle.yp_command.specs.inside.Words.{IsSentenceOfWords, IsUsage}
 use Rattle.yp_command.specs.declared.words.ParseFault.{ParseFault}
@@ -23,7 +23,9 @@ command_may (Once store rows) = refl
 command_may (Session own peer stores hosts) = refl
 command_may (Serve own port workers connections turns stores hosts) = refl
 command_may (Check store) = refl
+command_may (Dump store) = refl
 command_may (Build name store flag) = refl
+command_may (Load name store flag) = refl
 command_may (Xfr name force store host flag) = refl
 command_may (Walk name force store host port turns flag) = refl
 command_may (Revnet name store) = refl

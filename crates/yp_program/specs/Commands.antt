@@ -1,7 +1,7 @@
 -- What the program does, by its command: one line each.
 use Rattle.std.specs.Prelude.{◌≡◌, ◌⊎◌, ℕ, Bool, IsTrue, List, Result, Ok, Err}
 use Rattle.yp_answer.specs.session.Wires.{Wire}
-use Rattle.yp_command.specs.Words.{Meaning, Once, Session, Serve, Check, Build, Xfr, Walk}
+use Rattle.yp_command.specs.Words.{Meaning, Once, Session, Serve, Check, Dump, Build, Load, Xfr, Walk}
 use Rattle.yp_command.specs.Words.{Sample, Push, Bind, Portmap, Getport, Ask, TakesMemory, Revnet}
 use Rattle.yp_command.specs.declared.office.office.Office.{Office}
 use Rattle.yp_command.specs.declared.office.status.Status.{Status}
@@ -12,8 +12,9 @@ use Rattle.yp_command_serve.specs.Sample.{SampleDoes, sample_may_end}
 use Rattle.yp_command_serve.specs.Session.{SessionDoes, session_may_end}
 use Rattle.yp_worker.specs.Receptions.{ListenTells}
 use Rattle.yp_command_serve.specs.serve.Serve.{ServeDoes, serve_job_of, serve_may_end}
-use Rattle.yp_command_maps.specs.Build.{BuildDoes, build_may_end}
+use Rattle.yp_command_maps.specs.Build.{BuildDoes, LoadDoes, build_may_end}
 use Rattle.yp_command_maps.specs.Check.{CheckDoes, check_may_end}
+use Rattle.yp_command_maps.specs.Dump.{DumpDoes, dump_may_end}
 use Rattle.yp_command_maps.specs.Revnet.{RevnetDoes, revnet_may_end}
 use Rattle.yp_command_maps.specs.Xfr.{xfr_job_of, xfr_may_end}
 use Rattle.yp_command_mail.specs.Bind.{BindDoes, bind_may_end, servers_of}
@@ -34,8 +35,11 @@ AloneDoes seen (Once store rows) status old new before after = OnceDoes seen sto
 AloneDoes seen (Session own peer stores hosts) status old new before after =
     SessionDoes seen own peer stores hosts status old new before after
 AloneDoes seen (Check store) status old new before after = CheckDoes seen store status old new × (after ≡ before)
+AloneDoes seen (Dump store) status old new before after = DumpDoes seen store status old new × (after ≡ before)
 AloneDoes seen (Build name store flag) status old new before after =
     BuildDoes seen name store flag status old new × (after ≡ before)
+AloneDoes seen (Load name store flag) status old new before after =
+    LoadDoes seen name store flag status old new × (after ≡ before)
 AloneDoes seen (Xfr name force store host flag) status old new before after =
     TransferDoes seen (xfr_job_of name force store host flag) status old new × (after ≡ before)
 AloneDoes seen (Walk name force store host port turns flag) status old new before after =
@@ -87,7 +91,9 @@ may_end (Once store rows) status = once_may_end status
 may_end (Session own peer stores hosts) status = session_may_end status
 may_end (Serve own port workers connections turns stores hosts) status = serve_may_end status
 may_end (Check store) status = check_may_end status
+may_end (Dump store) status = dump_may_end status
 may_end (Build name store flag) status = build_may_end status
+may_end (Load name store flag) status = build_may_end status
 may_end (Xfr name force store host flag) status = xfr_may_end status
 may_end (Walk name force store host port turns flag) status = walk_may_end status
 may_end (Revnet name store) status = revnet_may_end status

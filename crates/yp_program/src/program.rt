@@ -28,7 +28,7 @@ use yp_answer::session::Witness;
 use yp_command::office::{NamedDisk, Office, Status};
 use yp_command::{Command, ParseFault, ServeJob, parse};
 use yp_command_mail::{ask_mapper, bind_domain, push_map, serve_ports};
-use yp_command_maps::{build_map, check_map, reverse_map};
+use yp_command_maps::{build_map, check_map, dump_map, load_map, reverse_map};
 use yp_command_serve::serve::serve_maps;
 use yp_command_serve::{serve_once, serve_session, tell_sample};
 use yp_io::{Clock, Dial, Disk, Hall, Inbox, Pair, Sink, Source, Texts, Trail, write_all};
@@ -130,6 +130,7 @@ fn obey<S: Source, K: Sink, D: Disk, C: Clock, A: Dial, I: Inbox, T: Texts, W: W
         Command::Once { store, rows } => serve_once(alloc, rt, store, &rows, &mut office, witness),
         Command::Sample { start, count } => tell_sample(alloc, rt, start, count, &mut office),
         Command::Check { store } => check_map(alloc, rt, store, &mut office),
+        Command::Dump { store } => dump_map(alloc, rt, store, &mut office),
         Command::Build { name, store, flag } => build_map(
             alloc,
             rt,
@@ -138,6 +139,7 @@ fn obey<S: Source, K: Sink, D: Disk, C: Clock, A: Dial, I: Inbox, T: Texts, W: W
             flag,
             &mut office,
         ),
+        Command::Load { name, store, flag } => load_map(alloc, rt, name, store, flag, &mut office),
         Command::Xfr(job) => transfer(alloc, rt, job, &mut office),
         Command::Walk(job) => walk(alloc, rt, job, &mut office),
         Command::Revnet { name, store } => reverse_map(alloc, rt, name, store, &mut office),

@@ -1,4 +1,5 @@
 mod Behind
+mod Dumping
 mod LineLists
 mod Places
 mod Pushing

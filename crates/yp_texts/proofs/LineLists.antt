@@ -1,10 +1,11 @@
 -- The lines of a text, taken off at its front.
-use Rattle.std.proofs.Common.{◌≡◌, ℕ, suc, ◌+◌, ◌<◌, Bool, true, false, not, eqb, List, [], ◌∷◌, ◌++◌, length}
+use Rattle.std.proofs.Common.{◌≡◌, ℕ, suc, ◌+◌, ◌<◌, Bool, true, false, not, eqb, List, [], ◌∷◌, ◌++◌, length, get_or}
 use Rattle.std.proofs.Common.{append_assoc, ◌&&◌, ◌==◌, refl, sym, ap, ◌∙◌, inl, inr, arith, rules, tests}
-use Rattle.std.specs.List.{slice_split, position_or_len, before_first, after_first, enumerate_from}
-use Rattle.std.proofs.lemmas.Bool.{cases_lt}
+use Rattle.std.specs.List.{slice_split, list_any, position_or_len, before_first, after_first, enumerate_from}
+use Rattle.std.proofs.lemmas.Bool.{cases_lt, false_from_ne_true}
 use Rattle.std.proofs.lemmas.List.{take_all, drop_all}
-use Rattle.std.proofs.lemmas.List.Splits.{slice_split_first, slice_split_none, length-slice_split}
+use Rattle.std.proofs.lemmas.List.Folds.{list_any_at}
+use Rattle.std.proofs.lemmas.List.Splits.{slice_split_at, slice_split_first, slice_split_none, length-slice_split}
 use Rattle.std.proofs.lemmas.List.Sums.{fails_before_first}
 use Rattle.yp_texts.specs.Lines.{Line, is_line_feed, without_empty_end, lines, lines_from, goes_on, before_last_byte}
 use Rattle.yp_texts.specs.Lines.{put_before, joined, whole_lines}
@@ -36,6 +37,17 @@ lines-cut text some =
           (λ k d below. fails_before_first is_line_feed text k d (omega arith))) ∙ without_empty_end-alone text some
           ∙ sym (rw (all, none) refl)
     ]
+
+-- a line is what stands before a line feed, where none stands in it
+pub lines-ended : (line rest : List ℕ) → list_any is_line_feed line ≡ false
+    → lines (line ++ 10 ∷ rest) ≡ line ∷ lines rest
+lines-ended line rest none =
+    let no_feed : (k d : ℕ) → k < length line → is_line_feed (get_or line k d) ≡ false =
+    λ k d below. false_from_ne_true (is_line_feed (get_or line k d))
+    (λ feed. let some : list_any is_line_feed line ≡ true = list_any_at is_line_feed line k d below feed in cc) in
+    ap without_empty_end (slice_split_at is_line_feed line 10 rest no_feed refl)
+    ∙ without_empty_end-cons line (slice_split is_line_feed rest)
+    (omega (arith, length-slice_split is_line_feed rest))
 
 pub lines_from-cut : (number : ℕ) (text line rest : List ℕ) → lines text ≡ line ∷ lines rest
     → lines_from number text ≡ (number, line) ∷ lines_from (number + 1) rest

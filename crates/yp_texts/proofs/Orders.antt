@@ -5,7 +5,7 @@ use Rattle.std.specs.Option.{option_map_or}
 use Rattle.yp_version.specs.Rows.{Row, value_of}
 use Rattle.yp_version.specs.Versions.{MapVersion}
 use Rattle.yp_version.specs.Drafts.{Draft, with_new, with_row, with_rows, empty_draft}
-use Rattle.yp_texts.specs.declared.kind.Kind.{Kind}
+use Rattle.yp_texts.specs.declared.reading.Reading.{Reading}
 use Rattle.yp_texts.specs.declared.fault.BuildFault.{BuildFault}
 use Rattle.yp_texts.specs.declared.fault.BuildFault.TheVariants as fault
 use Rattle.yp_texts.specs.Rows.{LineRow, rows}
@@ -35,14 +35,14 @@ filled_order draft rows version h = finishes (first_fault draft rows) h where
   finishes (Some f) e = absurd (cc)
 
 -- a version that is built has the order that follows the last one
-built_order : (kind : Kind) (text : List ℕ) (previous : Option ℕ) (now : ℕ) (master : List ℕ) (version : MapVersion)
-    → built kind text previous now master ≡ Ok version → order_after previous now ≡ Some version.order
-built_order kind text previous now master version h = builds (order_after previous now) h where
+built_order : (reading : Reading) (text : List ℕ) (previous : Option ℕ) (now : ℕ) (master : List ℕ) (version : MapVersion)
+    → built reading text previous now master ≡ Ok version → order_after previous now ≡ Some version.order
+built_order reading text previous now master version h = builds (order_after previous now) h where
   builds : (order : Option ℕ)
-      → option_map_or (λ o. filled (empty_draft o master) (rows kind text)) order (Err fault.OrderSpent) ≡ Ok version
+      → option_map_or (λ o. filled (empty_draft o master) (rows reading text)) order (Err fault.OrderSpent) ≡ Ok version
       → order ≡ Some version.order
   builds None e = absurd (cc)
-  builds (Some o) e = ap (λ (n : ℕ). Some n) (filled_order (empty_draft o master) (rows kind text) version e)
+  builds (Some o) e = ap (λ (n : ℕ). Some n) (filled_order (empty_draft o master) (rows reading text) version e)
 
 -- and that order is over the last one
 order_rises : (last now order : ℕ) → order_after (Some last) now ≡ Some order → last < order
@@ -51,9 +51,9 @@ order_rises last now order h = rises (last == order_max) h where
   rises true e = absurd (cc)
   rises false e = let same : max (last + 1) now ≡ order = cc in omega arith
 
-pub built_over : (kind : Kind) (text : List ℕ) (last : Option MapVersion) (now : ℕ) (own : List ℕ) (flag : Option Bool)
+pub built_over : (reading : Reading) (text : List ℕ) (last : Option MapVersion) (now : ℕ) (own : List ℕ) (flag : Option Bool)
     (version : MapVersion)
-    → built kind text (last_order last) now own ≡ Ok version → HasLaterOrder last (secured flag last version)
-built_over kind text None now own flag version h = tt
-built_over kind text (Some last) now own flag version h =
-    order_rises last.order now version.order (built_order kind text (Some last.order) now own version h)
+    → built reading text (last_order last) now own ≡ Ok version → HasLaterOrder last (secured flag last version)
+built_over reading text None now own flag version h = tt
+built_over reading text (Some last) now own flag version h =
+    order_rises last.order now version.order (built_order reading text (Some last.order) now own version h)

@@ -4,6 +4,8 @@ use Rattle.std.specs.Prelude.{Ok, Err, option_map, unwrap_or, bytes_eq, if◌the
 use Rattle.std.specs.Option.{option_map_or}
 use Rattle.yp_version.specs.Versions.{MapVersion}
 use Rattle.yp_texts.specs.declared.kind.Kind.{Kind}
+use Rattle.yp_texts.specs.declared.reading.Reading.{Reading}
+use Rattle.yp_texts.specs.declared.reading.Reading.TheVariants.{Text}
 use Rattle.yp_texts.specs.declared.fault.BuildFault.{BuildFault}
 use Rattle.yp_texts.specs.Builds.{built}
 
@@ -54,15 +56,15 @@ abbrev pub secured_build : Option Bool → Option MapVersion → Result MapVersi
 secured_build flag last (Ok version) = Ok (secured flag last version)
 secured_build flag last (Err fault) = Err (HasFault fault)
 
--- what the text makes at that moment behind the last version
-abbrev pub next_build : Basis → Material → Result MapVersion BuildFault
-next_build basis material = built basis.kind material.text (last_order basis.last) material.moment basis.own
+-- the version that a text makes at a moment behind the last one, or the first reason why none is
+abbrev pub built_behind : Reading → List ℕ → Option Bool → Option MapVersion → Material → Result MapVersion Hindrance
+built_behind reading own flag last material =
+    option_map_or (λ master. Err (HasOther master)) (other_master own last)
+    (secured_build flag last (built reading material.text (last_order last) material.moment own))
 
--- the version that is built behind the last one, or the first reason why none is
+-- the same of the text of a kind
 abbrev pub built_after : Basis → Material → Result MapVersion Hindrance
-built_after basis material =
-    option_map_or (λ master. Err (HasOther master)) (other_master basis.own basis.last)
-    (secured_build basis.flag basis.last (next_build basis material))
+built_after basis material = built_behind (Text basis.kind) basis.own basis.flag basis.last material
 
 -- the order of a version is over that of the last one
 abbrev pub HasLaterOrder : Option MapVersion → MapVersion → Type 0

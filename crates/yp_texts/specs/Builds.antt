@@ -1,10 +1,10 @@
 -- A version that is built of a text.
-use Rattle.std.specs.Prelude.{ℕ, ◌+◌, ◌==◌, max, if◌then◌else◌, List, [], Option, Some, None, Result, Ok, Err}
+use Rattle.std.specs.Prelude.{ℕ, ◌+◌, ◌==◌, max, if◌then◌else◌, List, Option, Some, None, Result, Ok, Err}
 use Rattle.std.specs.Option.{option_map_or}
 use Rattle.yp_version.specs.Rows.{listed}
 use Rattle.yp_version.specs.Versions.{MapVersion, unmarked}
 use Rattle.yp_version.specs.Drafts.{Draft, empty_draft, with_rows}
-use Rattle.yp_texts.specs.declared.kind.Kind.{Kind}
+use Rattle.yp_texts.specs.declared.reading.Reading.{Reading}
 use Rattle.yp_texts.specs.declared.fault.BuildFault.{BuildFault}
 use Rattle.yp_texts.specs.declared.fault.BuildFault.TheVariants.{OrderSpent}
 use Rattle.yp_texts.specs.Rows.{LineRow, rows}
@@ -29,7 +29,7 @@ filled draft rows =
     option_map_or (λ fault. Err fault) (first_fault draft rows) (Ok (finished (with_rows draft (plain rows))))
 
 -- the version that a text makes: the first row of each key, that master, and a raised order
-abbrev pub built : Kind → List ℕ → Option ℕ → ℕ → List ℕ → Result MapVersion BuildFault
-built kind text previous now master =
-    option_map_or (λ order. filled (empty_draft order master) (rows kind text)) (order_after previous now)
+abbrev pub built : Reading → List ℕ → Option ℕ → ℕ → List ℕ → Result MapVersion BuildFault
+built reading text previous now master =
+    option_map_or (λ order. filled (empty_draft order master) (rows reading text)) (order_after previous now)
     (Err OrderSpent)

@@ -6,4 +6,5 @@ pub mod Pushes
 pub mod Builds
 pub mod Samples
 pub mod After
+pub mod Dumps
 pub mod inside

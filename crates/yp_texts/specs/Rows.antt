@@ -1,15 +1,18 @@
--- The rows that a text makes (manuals of passwd(5), group(5), hosts(5), services(5), protocols(5) and netgroup(5)).
-use Rattle.std.specs.Prelude.{ℕ, Bool, true, false, not, ◌&&◌, ◌||◌, ◌==◌, if◌then◌else◌, List, map, drop, Option, Some}
-use Rattle.std.specs.Prelude.{None, slice_index, option_map, option_to_list}
-use Rattle.std.specs.List.{slice_get, list_all, flat_map}
+-- The rows that a text makes (manuals of passwd(5), group(5), hosts(5), services(5), protocols(5) and netgroup(5)), and
+-- those that stand in one.
+use Rattle.std.specs.Prelude.{ℕ, Bool, true, false, not, ◌&&◌, ◌||◌, ◌==◌, if◌then◌else◌, List, map, take, drop, Option}
+use Rattle.std.specs.Prelude.{Some, None, slice_index, option_map, option_to_list}
+use Rattle.std.specs.List.{slice_get, list_all, flat_map, position_or_len}
 use Rattle.std.specs.Option.{option_and_then}
 use Rattle.yp_version.specs.Rows.{Row}
 use Rattle.yp_texts.specs.declared.kind.Kind.{Kind}
 use Rattle.yp_texts.specs.declared.kind.Kind.TheVariants.{PasswdByname, PasswdByuid, GroupByname, GroupBygid}
 use Rattle.yp_texts.specs.declared.kind.Kind.TheVariants.{HostsByname, HostsByaddr, ServicesByname, ProtocolsBynumber}
 use Rattle.yp_texts.specs.declared.kind.Kind.TheVariants.{Netgroup, Ypservers}
+use Rattle.yp_texts.specs.declared.reading.Reading.{Reading}
+use Rattle.yp_texts.specs.declared.reading.Reading.TheVariants.{Text, Rows}
 use Rattle.yp_texts.specs.Lines.{Line, whole_lines}
-use Rattle.yp_version.specs.Blanks.{is_blank}
+use Rattle.yp_version.specs.Blanks.{is_blank, without_front_blanks}
 use Rattle.yp_texts.specs.Words.{is_filled, fields, words, after_word, uncommented}
 
 -- ---- passwd and group: the line as it stands, by one of its fields
@@ -49,6 +52,21 @@ server_row line = option_map (λ word. (word, word)) (slice_get (words line) 0)
 abbrev pub name_rows : List ℕ → List Row
 name_rows line = map (λ word. (word, line)) (drop 1 (words line))
 
+-- ---- rows that stand in a text
+
+-- what follows a tab, or else what follows blanks
+abbrev pub behind_blank : List ℕ → List ℕ
+behind_blank rest = if slice_index rest 0 == 9 then drop 1 rest else without_front_blanks rest
+
+-- how many bytes stand before the first blank
+abbrev pub key_len : List ℕ → ℕ
+key_len line = position_or_len is_blank line
+
+-- the key, then a tab or the first run of blanks, then the value as it stands; an empty line has no row
+abbrev pub plain_row : List ℕ → Option Row
+plain_row line =
+    if is_filled line then Some (take (key_len line) line, behind_blank (drop (key_len line) line)) else None
+
 -- ---- by kinds
 
 -- the rows of one line
@@ -77,6 +95,16 @@ joins ProtocolsBynumber = false
 joins Netgroup = true
 joins Ypservers = false
 
+-- ---- by readings
+
+abbrev pub rows_of_line : Reading → List ℕ → List Row
+rows_of_line (Text kind) line = rows_in kind line
+rows_of_line Rows line = option_to_list (plain_row line)
+
+abbrev pub goes_over_lines : Reading → Bool
+goes_over_lines (Text kind) = joins kind
+goes_over_lines Rows = false
+
 -- a row with the number of its line
 abbrev pub LineRow : Type 0
 LineRow = ℕ × Row
@@ -84,12 +112,12 @@ LineRow = ℕ × Row
 abbrev pub at_line : ℕ → List Row → List LineRow
 at_line line rows = map (λ row. (line, row)) rows
 
-abbrev pub line_rows : Kind → Line → List LineRow
-line_rows kind line = at_line line.0 (rows_in kind line.1)
+abbrev pub line_rows : Reading → Line → List LineRow
+line_rows reading line = at_line line.0 (rows_of_line reading line.1)
 
 -- the rows of a text whose first line has this number
-abbrev pub rows_from : Kind → ℕ → List ℕ → List LineRow
-rows_from kind number text = flat_map (line_rows kind) (whole_lines (joins kind) number text)
+abbrev pub rows_from : Reading → ℕ → List ℕ → List LineRow
+rows_from reading number text = flat_map (line_rows reading) (whole_lines (goes_over_lines reading) number text)
 
-abbrev pub rows : Kind → List ℕ → List LineRow
-rows kind text = rows_from kind 1 text
+abbrev pub rows : Reading → List ℕ → List LineRow
+rows reading text = rows_from reading 1 text

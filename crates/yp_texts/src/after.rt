@@ -4,12 +4,12 @@ ghost use Rattle.std.specs.Prelude.{◌≡◌, ◌≤◌, None, Some, length, op
 ghost use Rattle.yp_io.specs.Texts.{text_max};
 ghost use Rattle.yp_version.specs.Limits.{master_max};
 ghost use Rattle.yp_texts.specs.Builds.{order_max};
-ghost use Rattle.yp_texts.specs.After.{basis_of, material_of, other_master, last_order, built_after, was_secure};
+ghost use Rattle.yp_texts.specs.After.{material_of, other_master, last_order, built_behind, was_secure};
 ghost use Rattle.yp_texts.specs.After.{HasLaterOrder};
 ghost use Rattle.yp_texts.specs.inside.After.{IsHindered, TellsMaster, HasShortMaster};
 
 use crate::fault::BuildFault;
-use crate::kind::Kind;
+use crate::reading::Reading;
 use crate::versions::build;
 use std::alloc::Global;
 use std::random::RandomSource;
@@ -66,7 +66,7 @@ fn is_secure(last: Option<&Version>) -> bool
 pub fn build_after(
     alloc: Global,
     rt: &impl RandomSource,
-    kind: Kind,
+    reading: Reading,
     text: Vec<u8>,
     last: Option<&Version>,
     flag: Option<bool>,
@@ -76,7 +76,7 @@ pub fn build_after(
     requires limit { length text.items ≤ text_max }
     requires own { length own.now ≤ master_max }
     ensures version { IfOk result (λ version.
-        built_after (basis_of kind own.now flag (option_map (λ last. last.now) last.entry)) (material_of text.items now)
+        built_behind reading own.now flag (option_map (λ last. last.now) last.entry) (material_of text.items now)
         ≡ Ok version) }
 
     // It follows the last one.
@@ -84,8 +84,8 @@ pub fn build_after(
     ensures over { IfOk result (HasLaterOrder (option_map (λ last. last.now) last.entry)) }
 
     // The first reason that applies.
-    ensures hindered { IfErr result (IsHindered (built_after
-        (basis_of kind own.now flag (option_map (λ last. last.now) last.entry)) (material_of text.items now))) }
+    ensures hindered { IfErr result (IsHindered
+        (built_behind reading own.now flag (option_map (λ last. last.now) last.entry) (material_of text.items now))) }
     ensures spent { result ≡ Err (AfterFault.Build BuildFault.OrderSpent)
         → last_order (option_map (λ last. last.now) last.entry) ≡ Some order_max }
     ensures master { IfErr result (TellsMaster own.now (option_map (λ last. last.now) last.entry)) }
@@ -98,6 +98,6 @@ pub fn build_after(
         };
     }
     let previous = last.map(|version: &Version| version.order());
-    let version = build(alloc, rt, kind, text, previous, now, own)?;
+    let version = build(alloc, rt, reading, text, previous, now, own)?;
     Ok(version.marked(flag.unwrap_or(is_secure(last))))
 }

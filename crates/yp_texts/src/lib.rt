@@ -6,21 +6,25 @@
 #![tactic(auto)]
 
 mod after;
+mod dumps;
 mod fault;
 mod kind;
 pub mod laws;
 mod lines;
 mod order;
 mod push;
+mod reading;
 mod row;
 mod samples;
 mod versions;
 mod words;
 
 pub use after::{AfterFault, build_after, other_master};
+pub use dumps::{DumpFault, dump};
 pub use fault::BuildFault;
 pub use kind::Kind;
 pub use order::{OrderSpent, next_order};
 pub use push::rows_of;
+pub use reading::Reading;
 pub use samples::sample;
 pub use versions::build;

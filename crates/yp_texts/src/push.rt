@@ -4,14 +4,15 @@ ghost use Rattle.std.specs.Prelude.{◌≡◌, ◌≢◌, ◌+◌, ◌<◌, ◌�
 ghost use Rattle.std.specs.Prelude.{IfErr};
 ghost use Rattle.yp_io.specs.Texts.{text_max};
 ghost use Rattle.yp_version.specs.Drafts.{with_rows};
-ghost use Rattle.yp_texts.specs.Rows.{at_line, name_rows, line_rows, joins, rows_from, rows};
+ghost use Rattle.yp_texts.specs.Rows.{at_line, name_rows, line_rows, goes_over_lines, rows_from, rows};
 ghost use Rattle.yp_texts.specs.Pushes.{fault_at, first_fault, plain};
 ghost use Rattle.yp_texts.specs.inside.Pushes.{Pushed, Stopped};
 
 use crate::fault::BuildFault;
 use crate::kind::Kind;
 use crate::lines::{cut_line, is_continued, join};
-use crate::row::one_row;
+use crate::reading::Reading;
+use crate::row::{one_row, plain_row};
 use crate::words::{cut_word, uncommented};
 use std::alloc::Global;
 use yp_version::{VersionBuilder, VersionFault};
@@ -64,35 +65,37 @@ fn push_names(number: u32, line: &[u8], into: &mut VersionBuilder) -> Result<(),
 
 /// Pushes the rows of a line.
 fn push_line(
-    kind: Kind,
+    reading: Reading,
     number: u32,
     line: &[u8],
     into: &mut VersionBuilder,
 ) -> Result<(), BuildFault>
-    ensures fits { OnOk result (first_fault into.old (line_rows kind (number, line.now)) ≡ None) }
-    ensures rows { OnOk result (into.new ≡ with_rows into.old (plain (line_rows kind (number, line.now)))) }
-    ensures stopped { IfErr result (Stopped into.old (line_rows kind (number, line.now)) into.new) }
+    ensures fits { OnOk result (first_fault into.old (line_rows reading (number, line.now)) ≡ None) }
+    ensures rows { OnOk result (into.new ≡ with_rows into.old (plain (line_rows reading (number, line.now)))) }
+    ensures stopped { IfErr result (Stopped into.old (line_rows reading (number, line.now)) into.new) }
 {
-    match kind {
-        Kind::HostsByname => push_names(number, uncommented(line), into),
-        kind => match one_row(kind, line) {
-            Some((key, value)) => push_row(number, key, value, into),
-            None => Ok(()),
-        },
+    let found = match reading {
+        Reading::Text(Kind::HostsByname) => return push_names(number, uncommented(line), into),
+        Reading::Text(kind) => one_row(kind, line),
+        Reading::Rows => plain_row(line),
+    };
+    match found {
+        Some((key, value)) => push_row(number, key, value, into),
+        None => Ok(()),
     }
 }
 
 /// Whether lines go on in the next.
-fn joins(kind: Kind) -> bool
-    ensures { result ≡ joins kind }
+fn goes_over_lines(reading: Reading) -> bool
+    ensures { result ≡ goes_over_lines reading }
 {
-    matches!(kind, Kind::Netgroup)
+    matches!(reading, Reading::Text(Kind::Netgroup))
 }
 
 /// Pushes the rows of the first line of a text, with the lines in which it goes on. Answers what follows them, and its
 /// number. The buffer takes lines that are joined.
 fn push_first<'a>(
-    kind: Kind,
+    reading: Reading,
     number: u32,
     text: &'a [u8],
     buffer: &mut Vec<u8>,
@@ -101,18 +104,18 @@ fn push_first<'a>(
     requires some { 0 < length text.now }
     requires numbers { number + length text.now < 2 ^ 32 }
     ensures pushed { IfOk result (λ next.
-        Pushed into.old (rows_from kind number text.now) (rows_from kind next.1 next.0.now) into.new) }
-    ensures stopped { IfErr result (Stopped into.old (rows_from kind number text.now) into.new) }
+        Pushed into.old (rows_from reading number text.now) (rows_from reading next.1 next.0.now) into.new) }
+    ensures stopped { IfErr result (Stopped into.old (rows_from reading number text.now) into.new) }
     ensures shorter { IfOk result (λ next. length next.0.now < length text.now) }
     ensures numbers { IfOk result (λ next. next.1 + length next.0.now ≤ number + length text.now) }
 {
     let (line, rest) = cut_line(text);
-    if is_continued(joins(kind), line, rest) {
+    if is_continued(goes_over_lines(reading), line, rest) {
         let (rest, next) = join(number, text, buffer)?;
-        push_line(kind, number, buffer.as_slice(), into)?;
+        push_line(reading, number, buffer.as_slice(), into)?;
         return Ok((rest, next));
     }
-    push_line(kind, number, line, into)?;
+    push_line(reading, number, line, into)?;
     Ok((rest, number + 1))
 }
 
@@ -121,27 +124,27 @@ fn push_first<'a>(
 /// The line of a fault is counted from 1. Where lines are joined, it is the first of them.
 pub fn rows_of(
     alloc: Global,
-    kind: Kind,
+    reading: Reading,
     text: &[u8],
     into: &mut VersionBuilder,
 ) -> Result<(), BuildFault>
     requires { length text.now ≤ text_max }
 
     // All rows were taken.
-    ensures fits { OnOk result (first_fault into.old (rows kind text.now) ≡ None) }
-    ensures rows { OnOk result (into.new ≡ with_rows into.old (plain (rows kind text.now))) }
+    ensures fits { OnOk result (first_fault into.old (rows reading text.now) ≡ None) }
+    ensures rows { OnOk result (into.new ≡ with_rows into.old (plain (rows reading text.now))) }
 
     // The fault is that of the first row that is refused, or memory ran out; the rows before it were taken.
     ensures cause { IfErr result (λ fault.
-        (fault ≡ BuildFault.NoMemory) ⊎ (first_fault into.old (rows kind text.now) ≡ Some fault)) }
-    ensures stopped { IfErr result (Stopped into.old (rows kind text.now) into.new) }
+        (fault ≡ BuildFault.NoMemory) ⊎ (first_fault into.old (rows reading text.now) ≡ Some fault)) }
+    ensures stopped { IfErr result (Stopped into.old (rows reading text.now) into.new) }
     ensures unspent { result ≢ Err BuildFault.OrderSpent }
 {
     let mut buffer = Vec::new(alloc);
     let mut rest = text;
     let mut number = 1;
     while !rest.is_empty() {
-        let (more, next) = push_first(kind, number, rest, &mut buffer, into)?;
+        let (more, next) = push_first(reading, number, rest, &mut buffer, into)?;
         rest = more;
         number = next;
     }

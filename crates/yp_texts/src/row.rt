@@ -3,11 +3,11 @@
 ghost use Rattle.std.specs.Prelude.{◌≡◌, ◌≢◌, not, option_map, option_to_list};
 ghost use Rattle.std.specs.List.{list_all};
 ghost use Rattle.yp_version.specs.Blanks.{is_blank};
-ghost use Rattle.yp_texts.specs.Rows.{is_entry, field_row, word_row, group_row, server_row, rows_in};
+ghost use Rattle.yp_texts.specs.Rows.{is_entry, field_row, word_row, group_row, server_row, plain_row, rows_in};
 ghost use Rattle.yp_texts.specs.inside.Rows.{row_view};
 
 use crate::kind::Kind;
-use crate::words::{cut_word, field, uncommented};
+use crate::words::{cut_word, field, place_of_blank, uncommented};
 use yp_version::{is_blank, without_front_blanks};
 
 /// Whether all bytes are blanks.
@@ -70,6 +70,22 @@ fn server_row(line: &[u8]) -> Option<(&[u8], &[u8])>
 {
     let (word, _) = cut_word(line)?;
     Some((word, word))
+}
+
+/// The row that stands in a line: the key, then a tab or the first run of blanks, then the value. An empty line has
+/// none.
+pub(crate) fn plain_row(line: &[u8]) -> Option<(&[u8], &[u8])>
+    ensures { option_map row_view result ≡ plain_row line.now }
+{
+    if line.is_empty() {
+        return None;
+    }
+    let (key, rest) = line.split_at(place_of_blank(line));
+    let value = match rest.first() {
+        Some(b'\t') => &rest[1..],
+        _ => without_front_blanks(rest),
+    };
+    Some((key, value))
 }
 
 /// The row of a line, for the kinds that make at most one.

@@ -6,9 +6,9 @@ ghost use Rattle.yp_version.specs.Limits.{master_max};
 ghost use Rattle.yp_texts.specs.Builds.{order_max, built};
 
 use crate::fault::BuildFault;
-use crate::kind::Kind;
 use crate::order::next_order;
 use crate::push::rows_of;
+use crate::reading::Reading;
 use std::alloc::Global;
 use std::random::RandomSource;
 use yp_version::{Version, VersionBuilder};
@@ -18,7 +18,7 @@ use yp_version::{Version, VersionBuilder};
 pub fn build(
     alloc: Global,
     rt: &impl RandomSource,
-    kind: Kind,
+    reading: Reading,
     text: Vec<u8>,
     previous: Option<u32>,
     now: u32,
@@ -26,16 +26,16 @@ pub fn build(
 ) -> Result<Version, BuildFault>
     requires limit { length text.items ≤ text_max }
     requires master { length master.now ≤ master_max }
-    ensures version { IfOk result (λ version. built kind text.items previous now master.now ≡ Ok version) }
+    ensures version { IfOk result (λ version. built reading text.items previous now master.now ≡ Ok version) }
 
     // Each fault has its cause, but for want of memory. A spent order goes before all others.
     ensures cause { IfErr result (λ fault.
-        (fault ≡ BuildFault.NoMemory) ⊎ (built kind text.items previous now master.now ≡ Err fault)) }
+        (fault ≡ BuildFault.NoMemory) ⊎ (built reading text.items previous now master.now ≡ Err fault)) }
     ensures spent { (result ≡ Err BuildFault.OrderSpent) ↔ (previous ≡ Some order_max) }
 {
     let order = next_order(previous, now)?;
     let mut builder = VersionBuilder::new(alloc, rt, order, master)?;
-    rows_of(alloc, kind, &text, &mut builder)?;
+    rows_of(alloc, reading, &text, &mut builder)?;
     drop(text);
     Ok(builder.finish()?)
 }

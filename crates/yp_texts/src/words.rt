@@ -17,7 +17,7 @@ pub(crate) fn place_of(mark: u8, text: &[u8]) -> usize
 }
 
 /// The place of the first blank, or the length where there is none.
-fn place_of_blank(line: &[u8]) -> usize
+pub(crate) fn place_of_blank(line: &[u8]) -> usize
     ensures place { result ≡ position_or_len is_blank line.now }
     ensures within { result ≤ length line.now }
 {

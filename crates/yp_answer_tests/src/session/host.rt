@@ -16,7 +16,7 @@ use yp_answer::{MakeJob, TransferJob};
 use yp_board::{Catalog, PlainBoard, Show, View};
 use yp_io::{NoMemory, Peer};
 use yp_messages::XfrStat;
-use yp_texts::{AfterFault, BuildFault, Kind, build_after, other_master};
+use yp_texts::{AfterFault, BuildFault, Kind, Reading, build_after, other_master};
 use yp_version::Version;
 
 // The text of each map.
@@ -63,7 +63,16 @@ fn build_next(
     let Ok(text) = Vec::from_slice(alloc, text) else {
         return Err(XfrStat::Rsrc);
     };
-    match build_after(alloc, &rt, job.kind, text, last, None, 100, own) {
+    match build_after(
+        alloc,
+        &rt,
+        Reading::Text(job.kind),
+        text,
+        last,
+        None,
+        100,
+        own,
+    ) {
         Ok(version) => Ok(version),
         Err(AfterFault::Build(BuildFault::OrderSpent)) => Err(XfrStat::Age),
         Err(_) => Err(XfrStat::Rsrc),

@@ -15,8 +15,8 @@ use Rattle.yp_command.specs.declared.command.Command.{Command}
 use Rattle.yp_command.specs.declared.words.ParseFault.{ParseFault}
 use Rattle.yp_command.specs.declared.words.ParseFault.TheVariants.{Usage, NoMemory}
 use Rattle.yp_command.specs.Forms.{Host, kind_of, is_reverse}
-use Rattle.yp_command.specs.Words.{Meaning, word, host_view, meaning, TakesMemory, Once, Session, Serve, Check, Build}
-use Rattle.yp_command.specs.Words.{Xfr, Walk, Revnet, Sample, Push, Bind, Portmap, Getport, Ask}
+use Rattle.yp_command.specs.Words.{Meaning, word, host_view, meaning, TakesMemory, Once, Session, Serve, Check, Dump}
+use Rattle.yp_command.specs.Words.{Build, Load, Xfr, Walk, Revnet, Sample, Push, Bind, Portmap, Getport, Ask}
 
 -- ---- what is read
 
@@ -33,7 +33,9 @@ port_of (Once store rows) = None
 port_of (Session own peer stores hosts) = None
 port_of (Serve own port workers connections turns stores hosts) = Some port
 port_of (Check store) = None
+port_of (Dump store) = None
 port_of (Build name store flag) = None
+port_of (Load name store flag) = None
 port_of (Xfr name force store host flag) = None
 port_of (Walk name force store host port turns flag) = Some port
 port_of (Revnet name store) = None
@@ -64,14 +66,16 @@ abbrev pub AreMaps : List ℕ → List Name → Type 0
 AreMaps own stores =
     (catalog_fault own stores ≡ None) × All IsNamed stores × (length own ≤ name_max) × (length stores ≤ maps_max)
 
--- each name of a command is within its limit, and a map that is built has a kind
+-- each name of a command is within its limit, and a map that is built of a text has a kind
 abbrev pub HasNames : Meaning → Type 0
 HasNames (Once store rows) = IsNamed store
 HasNames (Session own peer stores hosts) = AreMaps own stores
 HasNames (Serve own port workers connections turns stores hosts) =
     (1 ≤ workers) × (workers ≤ workers_max) × AreMaps own stores
 HasNames (Check store) = IsNamed store
+HasNames (Dump store) = IsNamed store
 HasNames (Build name store flag) = IsOneMap name store × IsSome (kind_of store)
+HasNames (Load name store flag) = IsOneMap name store
 HasNames (Xfr name force store host flag) = IsOneMap name store
 HasNames (Walk name force store host port turns flag) = IsOneMap name store
 HasNames (Revnet name store) = (length name ≤ name_max) × IsNamed store × (is_reverse store.1 ≡ true)

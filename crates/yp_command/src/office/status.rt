@@ -55,8 +55,9 @@ pub enum Status {
     /// The map wasn't transferred, for this fault, which isn't want of memory.
     Xfr { fault: XfrFault },
     /// This row is the first past a limit, by this rule: 1 its key is too long, 2 its value is too long, 3 there are
-    /// too many rows, 4 they have too many bytes. The row is the number of its word, counted from 0, of its line, from
-    /// 1, or of a row that a server sent, from 1.
+    /// too many rows, 4 they have too many bytes. Or it is the first stored row that fits no line, 1 by its key or 2 by
+    /// its value. The row is the number of its word, counted from 0, of its line, from 1, or of a row that a server
+    /// sent or a file has, from 1.
     Rows { row: u32, rule: u8 },
     /// The stored version has the greatest order that there is.
     OrderSpent,

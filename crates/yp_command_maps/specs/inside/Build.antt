@@ -41,7 +41,7 @@ use Rattle.yp_command_maps.specs.Build.{IsDamaged, Hinders, IsSpent}
 -- ---- what the code has
 
 abbrev pub job_view : BuildJob → Job
-job_view job = record { name = job.name.items; store = name_view job.store; kind = job.kind; flag = job.flag }
+job_view job = record { name = job.name.items; store = name_view job.store; reading = job.reading; flag = job.flag }
 
 -- the version that stands, if one does
 abbrev pub last_view : Option (Bor MapVersion) → Option MapVersion

@@ -46,7 +46,7 @@ const TOO_LONG_BYTES: &[u8] = b"0123456789abcdef0123456789abcdef0123456789abcdef
 pub type Wrong = (&'static [&'static str], usize);
 
 /// Words that are no sentence.
-static WRONG: [Wrong; 26] = [
+static WRONG: [Wrong; 42] = [
     (&[], 0),
     (&["Check", "lab/hosts.byname"], 0),
     (&["check"], 1),
@@ -54,6 +54,11 @@ static WRONG: [Wrong; 26] = [
     (&["check", "/hosts.byname"], 1),
     (&["check", "lab/"], 1),
     (&["check", "lab/hosts.byname", "x"], 2),
+    (&["dump"], 1),
+    (&["dump", "lab"], 1),
+    (&["dump", "/auto.home"], 1),
+    (&["dump", "lab/"], 1),
+    (&["dump", "lab/auto.home", "x"], 2),
     (&["build"], 1),
     (&["build", TOO_LONG, "lab/hosts.byname"], 1),
     (&["build", "a/b", "lab/hosts.byname"], 1),
@@ -69,6 +74,17 @@ static WRONG: [Wrong; 26] = [
     (&["build", "m1", "lab/hosts.byname", "Secure"], 3),
     (&["build", "m1", "lab/hosts.byname", "secure", "x"], 4),
     (&["build", "m1", "lab/hosts.byname", "plain", "plain"], 4),
+    (&["load"], 1),
+    (&["load", TOO_LONG, "lab/auto.home"], 1),
+    (&["load", "a/b", "lab/auto.home"], 1),
+    (&["load", "m1"], 2),
+    (&["load", "m1", "auto.home"], 2),
+    (&["load", "m1", "lab/.home"], 2),
+    (&["load", "m1", "lab/a/auto.home"], 2),
+    (&["load", "m1", "lab/auto.home", "open"], 3),
+    (&["load", "m1", "lab/auto.home", ""], 3),
+    (&["load", "m1", "lab/auto.home", "secure", "x"], 4),
+    (&["load", "m1", "lab/auto.home", "plain", "plain"], 4),
     (&["revnet"], 1),
     (&["revnet", "m1"], 2),
     (&["revnet", "m1", "lab/netgroup"], 2),
@@ -230,45 +246,68 @@ fn once_parsed(rt: HostRuntime) {
     assert_same(&rt, &two_rows(&command), &Some((named, rows)), "once");
 }
 
-fn checked(command: &Command) -> Option<Names<'_>> {
+fn checked(command: &Command) -> Option<(&'static str, Names<'_>)> {
     match command {
-        Command::Check { store } => Some(names_of(store)),
+        Command::Check { store } => Some(("check", names_of(store))),
+        Command::Dump { store } => Some(("dump", names_of(store))),
         _ => None,
     }
 }
 
-#[test]
-fn check_parsed(rt: HostRuntime) {
-    let command = parsed(&rt, rt.alloc(), &["check", "lab/nokind"]);
+fn check_checked(rt: &impl Abort, alloc: Global, said: &'static str) {
+    let command = parsed(rt, alloc, &[said, "lab/nokind"]);
     let named: Names = (b"lab", b"nokind");
-    assert_same(&rt, &checked(&command), &Some(named), "check");
+    assert_same(rt, &checked(&command), &Some((said, named)), said);
 }
 
-/// The master, the map and the mark of a version to be built.
-type Built<'a> = (&'a [u8], Names<'a>, Option<bool>);
+#[test]
+fn check_and_dump_parsed(rt: HostRuntime) {
+    check_checked(&rt, rt.alloc(), "check");
+    check_checked(&rt, rt.alloc(), "dump");
+}
 
-static BUILT: [(&[&str], Built); 4] = [
+/// The command, and the master, the map and the mark of a version to be built.
+type Built<'a> = (&'static str, &'a [u8], Names<'a>, Option<bool>);
+
+static BUILT: [(&[&str], Built); 8] = [
     (
         &["build", "m1", "lab/hosts.byname"],
-        (b"m1", (b"lab", b"hosts.byname"), None),
+        ("build", b"m1", (b"lab", b"hosts.byname"), None),
     ),
     (
         &["build", LONGEST, "lab/ypservers"],
-        (LONGEST_BYTES, (b"lab", b"ypservers"), None),
+        ("build", LONGEST_BYTES, (b"lab", b"ypservers"), None),
     ),
     (
         &["build", "m1", "lab/passwd.byuid", "secure"],
-        (b"m1", (b"lab", b"passwd.byuid"), Some(true)),
+        ("build", b"m1", (b"lab", b"passwd.byuid"), Some(true)),
     ),
     (
         &["build", "build", "lab/netgroup", "plain"],
-        (b"build", (b"lab", b"netgroup"), Some(false)),
+        ("build", b"build", (b"lab", b"netgroup"), Some(false)),
+    ),
+    (
+        &["load", "m1", "lab/auto.home"],
+        ("load", b"m1", (b"lab", b"auto.home"), None),
+    ),
+    (
+        &["load", LONGEST, "lab/hosts.byname"],
+        ("load", LONGEST_BYTES, (b"lab", b"hosts.byname"), None),
+    ),
+    (
+        &["load", "m1", "lab/nokind", "secure"],
+        ("load", b"m1", (b"lab", b"nokind"), Some(true)),
+    ),
+    (
+        &["load", "load", "lab/netgroup", "plain"],
+        ("load", b"load", (b"lab", b"netgroup"), Some(false)),
     ),
 ];
 
 fn built(command: &Command) -> Option<Built<'_>> {
     match command {
-        Command::Build { name, store, flag } => Some((name, names_of(store), *flag)),
+        Command::Build { name, store, flag } => Some(("build", name, names_of(store), *flag)),
+        Command::Load { name, store, flag } => Some(("load", name, names_of(store), *flag)),
         _ => None,
     }
 }
@@ -276,11 +315,11 @@ fn built(command: &Command) -> Option<Built<'_>> {
 fn check_built(rt: &impl Abort, alloc: Global, words: &[&str], wanted: Built) {
     let command = parsed(rt, alloc, words);
     let came = (words, built(&command));
-    assert_same(rt, &came, &(words, Some(wanted)), "build");
+    assert_same(rt, &came, &(words, Some(wanted)), "build or load");
 }
 
 #[test]
-fn build_parsed(rt: HostRuntime) {
+fn build_and_load_parsed(rt: HostRuntime) {
     for (words, wanted) in &BUILT {
         check_built(&rt, rt.alloc(), *words, *wanted);
     }
@@ -643,12 +682,19 @@ fn two_of(names: &[MapName]) -> Option<(Names<'_>, Names<'_>)> {
 }
 
 /// Words, and the map whose file their command reads or writes.
-static NAMED: [(&[&str], Option<(&[u8], &[u8])>); 12] = [
+static NAMED: [(&[&str], Option<(&[u8], &[u8])>); 16] = [
     (&[], None),
     (&["frob"], None),
     (&["check", "lab"], None),
     (&["check", "lab/nokind"], Some((b"lab", b"nokind"))),
+    (&["dump", "lab/nokind"], Some((b"lab", b"nokind"))),
+    (&["dump", "lab"], None),
     (&["build", "m1", "lab/nokind"], None),
+    (
+        &["load", "m1", "lab/nokind", "plain"],
+        Some((b"lab", b"nokind")),
+    ),
+    (&["load", "m1", "lab/nokind", "open"], None),
     (
         &["build", "m1", "lab/netgroup"],
         Some((b"lab", b"netgroup")),

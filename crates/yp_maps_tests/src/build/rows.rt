@@ -4,13 +4,14 @@ use crate::given::{assert_fits, assert_same, long_text, text_of};
 use std::alloc::Global;
 use std::process::Abort;
 use std::random::RandomSource;
+use yp_texts::Reading::{Rows, Text};
 use yp_texts::*;
 use yp_version::{Version, VersionBuilder};
 
-/// A name, a kind, a text, and the rows that it makes, by rising keys.
+/// A name, how a text is read, the text, and the rows that it makes, by rising keys.
 type Made = (
     &'static str,
-    Kind,
+    Reading,
     &'static [u8],
     &'static [(&'static [u8], &'static [u8])],
 );
@@ -26,10 +27,10 @@ const GROUPS: &[u8] = b"wheel:*:0:root\n#old:*:1:\n staff:*:50:ann,joe\nnone\n";
 const HOSTS: &[u8] =
     b"10.0.0.1 alpha al # first\n\t10.0.0.2\tbeta \n#10.0.0.3 gamma\n10.0.0.4\n \t \n\n10.0.0.5 alpha # again";
 
-static MADE: [Made; 22] = [
+static MADE: [Made; 24] = [
     (
         "users by name",
-        Kind::PasswdByname,
+        Text(Kind::PasswdByname),
         USERS,
         &[
             (b"ann", b"ann:x:10:1:#1 user:/home/ann:/bin/sh"),
@@ -38,7 +39,7 @@ static MADE: [Made; 22] = [
     ),
     (
         "users by number",
-        Kind::PasswdByuid,
+        Text(Kind::PasswdByuid),
         USERS,
         &[
             (b"0", b"root:x:0:0::/root:/bin/sh"),
@@ -47,7 +48,7 @@ static MADE: [Made; 22] = [
     ),
     (
         "short users by name",
-        Kind::PasswdByname,
+        Text(Kind::PasswdByname),
         SHORT_USERS,
         &[
             (b" d", b" d:x:11 "),
@@ -58,7 +59,7 @@ static MADE: [Made; 22] = [
     ),
     (
         "short users by number",
-        Kind::PasswdByuid,
+        Text(Kind::PasswdByuid),
         SHORT_USERS,
         &[
             (b"10", b"a:x:10"),
@@ -69,7 +70,7 @@ static MADE: [Made; 22] = [
     ),
     (
         "groups by name",
-        Kind::GroupByname,
+        Text(Kind::GroupByname),
         GROUPS,
         &[
             (b" staff", b" staff:*:50:ann,joe"),
@@ -79,13 +80,13 @@ static MADE: [Made; 22] = [
     ),
     (
         "groups by number",
-        Kind::GroupBygid,
+        Text(Kind::GroupBygid),
         GROUPS,
         &[(b"0", b"wheel:*:0:root"), (b"50", b" staff:*:50:ann,joe")],
     ),
     (
         "hosts by name",
-        Kind::HostsByname,
+        Text(Kind::HostsByname),
         HOSTS,
         &[
             (b"al", b"10.0.0.1 alpha al"),
@@ -95,7 +96,7 @@ static MADE: [Made; 22] = [
     ),
     (
         "hosts by address",
-        Kind::HostsByaddr,
+        Text(Kind::HostsByaddr),
         HOSTS,
         &[
             (b"10.0.0.1", b"10.0.0.1 alpha al"),
@@ -106,7 +107,7 @@ static MADE: [Made; 22] = [
     ),
     (
         "services",
-        Kind::ServicesByname,
+        Text(Kind::ServicesByname),
         b"smtp 25/tcp mail\nsmtp  25/udp\n\ndomain\n http\t80/tcp#www\nsubmit 25/tcp\n",
         &[
             (b"25/tcp", b"smtp 25/tcp mail"),
@@ -116,76 +117,90 @@ static MADE: [Made; 22] = [
     ),
     (
         "protocols",
-        Kind::ProtocolsBynumber,
+        Text(Kind::ProtocolsBynumber),
         b"tcp 6 TCP # x\nip 0 IP\nicmp # 1\n",
         &[(b"0", b"ip 0 IP"), (b"6", b"tcp 6 TCP")],
     ),
     (
         "servers",
-        Kind::Ypservers,
+        Text(Kind::Ypservers),
         b" m1 main\ns1\n#s2\n m1\n",
         &[(b"m1", b"m1"), (b"s1", b"s1")],
     ),
     // Several lines are one before its comment is cut. A group may have no members.
     (
         "groups of several lines",
-        Kind::Netgroup,
+        Text(Kind::Netgroup),
         b"a b c \\\n  d # e \\\nf\nall\ng\t (h,,) \\",
         &[(b"a", b"b c    d"), (b"all", b""), (b"g", b"(h,,) \\")],
     ),
     // No line follows a line feed at the end of the text.
     (
         "a backslash in the last line",
-        Kind::Netgroup,
+        Text(Kind::Netgroup),
         b"x y\\\n",
         &[(b"x", b"y\\")],
     ),
     // An empty line follows.
     (
         "an empty line follows a backslash",
-        Kind::Netgroup,
+        Text(Kind::Netgroup),
         b"x y\\\n\n\\\nz",
         &[(b"x", b"y"), (b"z", b"")],
     ),
     // A blank stands behind the backslash.
     (
         "a blank behind a backslash",
-        Kind::Netgroup,
+        Text(Kind::Netgroup),
         b"p q\\ \nr s\n",
         &[(b"p", b"q\\"), (b"r", b"s")],
     ),
     (
         "a name in two lines",
-        Kind::Netgroup,
+        Text(Kind::Netgroup),
         b"gr\\\nou p",
         &[(b"gr", b"ou p")],
     ),
     // Other texts have no continuation lines.
     (
         "no continuation in hosts",
-        Kind::HostsByaddr,
+        Text(Kind::HostsByaddr),
         b"1 a\\\n2 b",
         &[(b"1", b"1 a\\"), (b"2", b"2 b")],
     ),
     (
         "bytes of hosts",
-        Kind::HostsByname,
+        Text(Kind::HostsByname),
         b"1 \x00a\xff\x0b\r\n",
         &[(b"\x00a\xff\x0b\r", b"1 \x00a\xff\x0b\r")],
     ),
     (
         "bytes of users",
-        Kind::PasswdByname,
+        Text(Kind::PasswdByname),
         b"\x00:\xff\n",
         &[(b"\x00", b"\x00:\xff")],
     ),
-    ("no users", Kind::PasswdByname, b"", &[]),
-    ("no hosts", Kind::HostsByname, b"\n \n\t", &[]),
-    ("no groups", Kind::Netgroup, b"\\\n\n", &[]),
+    ("no users", Text(Kind::PasswdByname), b"", &[]),
+    ("no hosts", Text(Kind::HostsByname), b"\n \n\t", &[]),
+    ("no groups", Text(Kind::Netgroup), b"\\\n\n", &[]),
+    (
+        "rows that stand in the text",
+        Rows,
+        b"beta  \ttwo words \nalpha\t 1\n\ngamma\nalpha 3\n\tno key\n#d\te\\\nf g",
+        &[
+            (b"", b"no key"),
+            (b"#d", b"e\\"),
+            (b"alpha", b" 1"),
+            (b"beta", b"two words "),
+            (b"f", b"g"),
+            (b"gamma", b""),
+        ],
+    ),
+    ("no rows that stand in the text", Rows, b"\n\n", &[]),
 ];
 
-fn built<R: RandomSource + Abort>(rt: &R, alloc: Global, kind: Kind, text: &[u8]) -> Version {
-    build(alloc, rt, kind, text_of(rt, alloc, text), None, 7, b"m1").expect(rt, "a version")
+fn built<R: RandomSource + Abort>(rt: &R, alloc: Global, reading: Reading, text: &[u8]) -> Version {
+    build(alloc, rt, reading, text_of(rt, alloc, text), None, 7, b"m1").expect(rt, "a version")
 }
 
 fn assert_rows<R: Abort>(rt: &R, version: &Version, rows: &[(&[u8], &[u8])], name: &str) {
@@ -198,8 +213,8 @@ fn assert_rows<R: Abort>(rt: &R, version: &Version, rows: &[(&[u8], &[u8])], nam
 
 #[test]
 fn rows_of_texts(rt: HostRuntime) {
-    for (name, kind, text, rows) in &MADE {
-        let version = built(&rt, rt.alloc(), *kind, *text);
+    for (name, reading, text, rows) in &MADE {
+        let version = built(&rt, rt.alloc(), *reading, *text);
         assert_rows(&rt, &version, *rows, *name);
     }
 }
@@ -231,34 +246,34 @@ fn assert_users<R: Abort>(rt: &R, version: &Version, wanted: (usize, Option<&[u8
 #[test]
 fn passwd_rows(rt: HostRuntime) {
     let text = users(&rt, rt.alloc());
-    let by_name = built(&rt, rt.alloc(), Kind::PasswdByname, &text);
+    let by_name = built(&rt, rt.alloc(), Text(Kind::PasswdByname), &text);
     assert_users(&rt, &by_name, (38, None), "by name");
-    let by_uid = built(&rt, rt.alloc(), Kind::PasswdByuid, &text);
+    let by_uid = built(&rt, rt.alloc(), Text(Kind::PasswdByuid), &text);
     let first = b"u01:x:1001:100::/home/u01:/bin/sh".as_slice();
     assert_users(&rt, &by_uid, (37, Some(first)), "by number");
 }
 
-/// A name, how a text with long lines is made, its fault, and how many rows come before. Each line has this front, and
-/// is filled with `x` to this length.
+/// A name, how a text with long lines is read and made, its fault, and how many rows come before. Each line has this
+/// front, and is filled with `x` to this length.
 type Long = (
     &'static str,
-    Kind,
+    Reading,
     &'static [(&'static [u8], usize)],
     BuildFault,
     usize,
 );
 
-static LONG: [Long; 5] = [
+static LONG: [Long; 7] = [
     (
         "a long value",
-        Kind::PasswdByname,
+        Text(Kind::PasswdByname),
         &[(b"a:", 65536), (b"b:", 65537), (b"c", 65537)],
         BuildFault::ValueLong { line: 2 },
         1,
     ),
     (
         "a long key",
-        Kind::PasswdByname,
+        Text(Kind::PasswdByname),
         &[(b"", 0), (b"#", 70000), (b"c", 65537), (b"d:", 65537)],
         BuildFault::KeyLong { line: 3 },
         0,
@@ -266,7 +281,7 @@ static LONG: [Long; 5] = [
     // The line is over the limit, and so each of its rows.
     (
         "a long line of hosts",
-        Kind::HostsByname,
+        Text(Kind::HostsByname),
         &[(b"1 a ", 65541)],
         BuildFault::ValueLong { line: 1 },
         0,
@@ -274,7 +289,7 @@ static LONG: [Long; 5] = [
     // The number of a line is that of its first part.
     (
         "a long line of three parts",
-        Kind::Netgroup,
+        Text(Kind::Netgroup),
         &[
             (b"a b \\", 5),
             (b"c", 1),
@@ -287,10 +302,24 @@ static LONG: [Long; 5] = [
     ),
     (
         "a long key behind two rows",
-        Kind::Ypservers,
+        Text(Kind::Ypservers),
         &[(b"a", 65536), (b"a", 1), (b"b", 65537)],
         BuildFault::KeyLong { line: 3 },
         2,
+    ),
+    (
+        "a long key that stands in the text",
+        Rows,
+        &[(b"a\t", 65538), (b"", 0), (b"b", 65537)],
+        BuildFault::KeyLong { line: 3 },
+        1,
+    ),
+    (
+        "a long value that stands in the text",
+        Rows,
+        &[(b"a ", 65539)],
+        BuildFault::ValueLong { line: 1 },
+        0,
     ),
 ];
 
@@ -298,20 +327,20 @@ static LONG: [Long; 5] = [
 fn rows_told<R: RandomSource + Abort>(
     rt: &R,
     alloc: Global,
-    kind: Kind,
+    reading: Reading,
     text: &[u8],
 ) -> (Result<(), BuildFault>, usize) {
     assert_fits(rt, text);
     let mut builder = VersionBuilder::new(alloc, rt, 1, b"m1").expect(rt, "a builder");
-    let answer = rows_of(alloc, kind, text, &mut builder);
+    let answer = rows_of(alloc, reading, text, &mut builder);
     (answer, builder.len())
 }
 
 #[test]
 fn lines_of_faults(rt: HostRuntime) {
-    for (name, kind, lines, fault, rows) in &LONG {
+    for (name, reading, lines, fault, rows) in &LONG {
         let text = long_text(&rt, rt.alloc(), *lines);
-        let came = rows_told(&rt, rt.alloc(), *kind, &text);
+        let came = rows_told(&rt, rt.alloc(), *reading, &text);
         assert_same(&rt, &came, &(Err(*fault), *rows), *name);
     }
 }
@@ -331,7 +360,16 @@ fn big_text<R: Abort>(rt: &R, alloc: Global) -> Vec<u8> {
 fn too_big_at_a_line(rt: HostRuntime) {
     let text = big_text(&rt, rt.alloc());
     assert_fits(&rt, &text);
-    let fault = build(rt.alloc(), &rt, Kind::PasswdByname, text, None, 7, b"m1").err();
+    let fault = build(
+        rt.alloc(),
+        &rt,
+        Text(Kind::PasswdByname),
+        text,
+        None,
+        7,
+        b"m1",
+    )
+    .err();
     // 16 bytes, 4 of the master and 255 rows of 8, 4 and 65,536 are 16,714,760; one more row is over 16,777,216.
     let wanted = Some(BuildFault::TooBig { line: 256 });
     assert_same(&rt, &fault, &wanted, "256 long lines");

@@ -33,7 +33,7 @@ fn fault_of<R: RandomSource + Abort>(
     build(
         alloc,
         rt,
-        Kind::Ypservers,
+        Reading::Text(Kind::Ypservers),
         text_of(rt, alloc, text),
         previous,
         7,
@@ -50,10 +50,16 @@ fn orders(rt: HostRuntime) {
         assert_same(&rt, &came, &(*previous, *now, *order), "an order");
     }
     let text = text_of(&rt, alloc, b"m1");
-    let raised = build(alloc, &rt, Kind::Ypservers, text, Some(100), 50, b"m1").expect(
+    let raised = build(
+        alloc,
         &rt,
-        "a version",
-    );
+        Reading::Text(Kind::Ypservers),
+        text,
+        Some(100),
+        50,
+        b"m1",
+    )
+    .expect(&rt, "a version");
     let wanted = (101, b"m1".as_slice(), false);
     assert_same(&rt, &head(&raised), &wanted, "a raised order");
     // A spent order goes before a row that is refused.
@@ -144,7 +150,16 @@ fn outcome_of<R: RandomSource + Abort>(
     flag: Option<bool>,
 ) -> After {
     let text = text_of(rt, alloc, b"m1");
-    match build_after(alloc, rt, Kind::Ypservers, text, last, flag, 50, b"m1") {
+    match build_after(
+        alloc,
+        rt,
+        Reading::Text(Kind::Ypservers),
+        text,
+        last,
+        flag,
+        50,
+        b"m1",
+    ) {
         Ok(version) => After::Built {
             order: version.order(),
             secure: version.secure(),
@@ -167,7 +182,16 @@ fn after_last<R: RandomSource + Abort>(
         return Ok(outcome_of(rt, alloc, None, flag));
     };
     let text = text_of(rt, alloc, b"m1");
-    let version = build(alloc, rt, Kind::Ypservers, text, None, order, master)?.marked(secure);
+    let version = build(
+        alloc,
+        rt,
+        Reading::Text(Kind::Ypservers),
+        text,
+        None,
+        order,
+        master,
+    )?
+    .marked(secure);
     Ok(outcome_of(rt, alloc, Some(&version), flag))
 }
 

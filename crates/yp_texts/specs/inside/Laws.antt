@@ -1,6 +1,11 @@
--- What holds of every version that is built.
-use Rattle.std.specs.Prelude.{◌≡◌, ◌≤◌, None, Ok, Option}
+-- What holds of every version that is built, and of rows that are told.
+use Rattle.std.specs.Prelude.{◌≡◌, ◌≤◌, List, None, Ok, Option}
+use Rattle.yp_version.specs.Rows.{Row}
 use Rattle.yp_version.specs.Versions.{MapVersion}
+use Rattle.yp_texts.specs.declared.reading.Reading.TheVariants.{Rows}
+use Rattle.yp_texts.specs.Rows.{rows as rows_of}
+use Rattle.yp_texts.specs.Pushes.{plain}
+use Rattle.yp_texts.specs.Dumps.{dump_text, first_unfit}
 use Rattle.yp_texts.specs.Builds.{order_max}
 use Rattle.yp_texts.specs.After.{Basis, Material, other_master, secured, built_after, HasLaterOrder}
 
@@ -13,3 +18,7 @@ BuiltIsBuiltBehind = (basis : Basis) (material : Material) (version : MapVersion
     → HasLaterOrder last version
     → built_after (record basis { last = last }) (record material { moment = version.order })
     ≡ Ok (secured basis.flag last version)
+
+-- Rows that all fit a line are read again of their text.
+abbrev pub DumpIsReadAgain : Type 0
+DumpIsReadAgain = (rows : List Row) → first_unfit 1 rows ≡ None → plain (rows_of Rows (dump_text rows)) ≡ rows

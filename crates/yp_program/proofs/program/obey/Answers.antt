@@ -2,13 +2,13 @@ use Rattle.std.proofs.Common.{◌∙◌, List, map, ap, sym, refl}
 use Rattle.yp_board.specs.Catalogues.{name_view}
 use Rattle.yp_client.specs.Questions.{bytes_of}
 use Rattle.yp_command.specs.declared.command.KeyValue.{KeyValue}
-use Rattle.yp_command.specs.Words.{Once, Session, Check, Build, Xfr, Walk, Sample, Push, Bind}
+use Rattle.yp_command.specs.Words.{Once, Session, Check, Dump, Build, Load, Xfr, Walk, Sample, Push, Bind}
 use Rattle.yp_command.specs.Words.{Portmap, Getport, Ask, meaning, row_view, host_view, Revnet}
 use Rattle.yp_command.specs.office.Seeing.{seeing}
 use Rattle.yp_program.specs.Commands.{AloneDoes, may_end}
 use Rattle.yp_program.proofs.Dispatch.{same_does, same_passed, same_end}
 use Rattle.yp_program.proofs.program.obey.Goals.{in-Once, in-Sample, in-Check, in-Build, in-Xfr, in-Ask, in-Bind, in-Portmap, in-Getport}
-use Rattle.yp_program.proofs.program.obey.Goals.{in-Revnet, in-Walk}
+use Rattle.yp_program.proofs.program.obey.Goals.{in-Revnet, in-Walk, in-Dump, in-Load}
 use Rattle.yp_program.proofs.program.obey.Goals as goal
 
 pub returns-in-Session-clause-does : goal.returns-in-Session-clause-does
@@ -60,9 +60,15 @@ returns-clause-does g c =
       | in-Check w ↦
           by (Check (name_view w.in-Check.store)) c.match-command.status w.check_map-status.result c.match-command.office w.check_map-status.new.office (wires c.match-command.witness) (wires c.args.witness.now)
           (ap meaning w.in-Check.is) w.status-is w.office-is (ap wires w.witness-is) (w.check_map-status.ensures.does, refl)
+      | in-Dump w ↦
+          by (Dump (name_view w.in-Dump.store)) c.match-command.status w.dump_map-status.result c.match-command.office w.dump_map-status.new.office (wires c.match-command.witness) (wires c.args.witness.now)
+          (ap meaning w.in-Dump.is) w.status-is w.office-is (ap wires w.witness-is) (w.dump_map-status.ensures.does, refl)
       | in-Build w ↦
           by (Build w.in-Build.name.items (name_view w.in-Build.store) w.in-Build.flag) c.match-command.status w.build_map-status.result c.match-command.office w.build_map-status.new.office (wires c.match-command.witness) (wires c.args.witness.now)
           (ap meaning w.in-Build.is) w.status-is w.office-is (ap wires w.witness-is) (w.build_map-status.ensures.does, refl)
+      | in-Load w ↦
+          by (Load w.in-Load.name.items (name_view w.in-Load.store) w.in-Load.flag) c.match-command.status w.load_map-status.result c.match-command.office w.load_map-status.new.office (wires c.match-command.witness) (wires c.args.witness.now)
+          (ap meaning w.in-Load.is) w.status-is w.office-is (ap wires w.witness-is) (w.load_map-status.ensures.does, refl)
       | in-Xfr w ↦
           by (Xfr w.in-Xfr.job.name.items w.in-Xfr.job.force (name_view w.in-Xfr.job.store) (host_view w.in-Xfr.job.host) w.in-Xfr.job.flag) c.match-command.status w.transfer-status.result c.match-command.office w.transfer-status.new.office (wires c.match-command.witness) (wires c.args.witness.now)
           (ap meaning w.in-Xfr.is) w.status-is w.office-is (ap wires w.witness-is) (w.transfer-status.ensures.does, refl)
@@ -93,7 +99,9 @@ returns-clause-may_end g c =
       | in-Once w ↦ same_end (meaning c.args.command) (Once (name_view w.in-Once.store) (map row_view w.deref.result.now)) c.match-command.status w.serve_once-status.result (ap meaning w.in-Once.is ∙ ap (λ (l : List KeyValue). Once (name_view w.in-Once.store) (map row_view l)) (sym w.deref.ensures.value)) w.status-is w.serve_once-status.ensures.may_end
       | in-Sample w ↦ same_end (meaning c.args.command) (Sample w.in-Sample.start w.in-Sample.count) c.match-command.status w.tell_sample-status.result (ap meaning w.in-Sample.is) w.status-is w.tell_sample-status.ensures.may_end
       | in-Check w ↦ same_end (meaning c.args.command) (Check (name_view w.in-Check.store)) c.match-command.status w.check_map-status.result (ap meaning w.in-Check.is) w.status-is w.check_map-status.ensures.may_end
+      | in-Dump w ↦ same_end (meaning c.args.command) (Dump (name_view w.in-Dump.store)) c.match-command.status w.dump_map-status.result (ap meaning w.in-Dump.is) w.status-is w.dump_map-status.ensures.may_end
       | in-Build w ↦ same_end (meaning c.args.command) (Build w.in-Build.name.items (name_view w.in-Build.store) w.in-Build.flag) c.match-command.status w.build_map-status.result (ap meaning w.in-Build.is) w.status-is w.build_map-status.ensures.may_end
+      | in-Load w ↦ same_end (meaning c.args.command) (Load w.in-Load.name.items (name_view w.in-Load.store) w.in-Load.flag) c.match-command.status w.load_map-status.result (ap meaning w.in-Load.is) w.status-is w.load_map-status.ensures.may_end
       | in-Xfr w ↦ same_end (meaning c.args.command) (Xfr w.in-Xfr.job.name.items w.in-Xfr.job.force (name_view w.in-Xfr.job.store) (host_view w.in-Xfr.job.host) w.in-Xfr.job.flag) c.match-command.status w.transfer-status.result (ap meaning w.in-Xfr.is) w.status-is w.transfer-status.ensures.may_end
       | in-Walk w ↦ same_end (meaning c.args.command) (Walk w.in-Walk.job.xfr.name.items w.in-Walk.job.xfr.force (name_view w.in-Walk.job.xfr.store) (host_view w.in-Walk.job.xfr.host) w.in-Walk.job.port w.in-Walk.job.turns w.in-Walk.job.xfr.flag) c.match-command.status w.walk-status.result (ap meaning w.in-Walk.is) w.status-is w.walk-status.ensures.may_end
       | in-Revnet w ↦ same_end (meaning c.args.command) (Revnet w.in-Revnet.name.items (name_view w.in-Revnet.store)) c.match-command.status w.reverse_map-status.result (ap meaning w.in-Revnet.is) w.status-is w.reverse_map-status.ensures.may_end
@@ -110,7 +118,9 @@ returns-clause-passed_on g c =
       | in-Once w ↦ by c.match-command.status w.serve_once-status.result c.match-command.office w.serve_once-status.new.office w.status-is w.office-is w.serve_once-status.ensures.passed_on
       | in-Sample w ↦ by c.match-command.status w.tell_sample-status.result c.match-command.office w.tell_sample-status.new.office w.status-is w.office-is w.tell_sample-status.ensures.passed_on
       | in-Check w ↦ by c.match-command.status w.check_map-status.result c.match-command.office w.check_map-status.new.office w.status-is w.office-is w.check_map-status.ensures.passed_on
+      | in-Dump w ↦ by c.match-command.status w.dump_map-status.result c.match-command.office w.dump_map-status.new.office w.status-is w.office-is w.dump_map-status.ensures.passed_on
       | in-Build w ↦ by c.match-command.status w.build_map-status.result c.match-command.office w.build_map-status.new.office w.status-is w.office-is w.build_map-status.ensures.passed_on
+      | in-Load w ↦ by c.match-command.status w.load_map-status.result c.match-command.office w.load_map-status.new.office w.status-is w.office-is w.load_map-status.ensures.passed_on
       | in-Xfr w ↦ by c.match-command.status w.transfer-status.result c.match-command.office w.transfer-status.new.office w.status-is w.office-is w.transfer-status.ensures.passed_on
       | in-Walk w ↦ by c.match-command.status w.walk-status.result c.match-command.office w.walk-status.new.office w.status-is w.office-is w.walk-status.ensures.passed_on
       | in-Revnet w ↦ by c.match-command.status w.reverse_map-status.result c.match-command.office w.reverse_map-status.new.office w.status-is w.office-is w.reverse_map-status.ensures.passed_on

@@ -6,7 +6,7 @@ use Rattle.yp_texts.proofs.push.rows_of.Given as goal
 abbrev pub invariant-loop-rest : goal.invariant-loop-rest
 invariant-loop-rest l = record {
   numbers : l.number + length l.rest ≤ 1 + length l.text;
-  pushed : Pushed l.initial.into (rows l.kind l.text) (rows_from l.kind l.number l.rest) l.into;
+  pushed : Pushed l.initial.into (rows l.reading l.text) (rows_from l.reading l.number l.rest) l.into;
 }
 
 abbrev pub decreases-loop-rest : goal.decreases-loop-rest
