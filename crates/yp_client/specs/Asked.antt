@@ -34,3 +34,10 @@ next_call domain map key xid = call_of req_key xid program version next_procedur
 -- of a transfer
 abbrev pub xfr_call : Value req_xfr → ℕ → List ℕ
 xfr_call request xid = call_of req_xfr xid program version xfr_procedure request
+
+-- a transfer of a map from a host, of any order, of which nobody is told: transaction, program and port are 0
+abbrev pub pull_request : List ℕ → List ℕ → List ℕ → Value req_xfr
+pull_request domain map source = (domain, (map, (0, (source, (0, (0, 0))))))
+
+abbrev pub pull_call : List ℕ → List ℕ → List ℕ → ℕ → List ℕ
+pull_call domain map source xid = xfr_call (pull_request domain map source) xid

@@ -8,6 +8,7 @@ mod dialed;
 mod fault;
 mod print;
 mod text;
+mod transfer;
 
 pub use dialed::query;
 pub use fault::QueryFault;

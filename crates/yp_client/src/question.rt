@@ -41,6 +41,12 @@ pub enum Question<T> {
     Maps {
         domain: T,
     },
+    /// XFR: has the server fetch a map from the host that it knows as `source`, and tell nobody what comes of it.
+    Pull {
+        domain: T,
+        map: T,
+        source: T,
+    },
     /// ALL of the map `netgroup`: `yes` or `no`, whether a host, a user and a domain are a member of a group. What
     /// isn't given may be any.
     Innetgr {
@@ -67,6 +73,11 @@ impl Question<Vec<u8>> {
             Question::Which { domain, map } => is_name(domain) && is_name(map),
             Question::Poll { domain, map } => is_name(domain) && is_name(map),
             Question::Maps { domain } => is_name(domain),
+            Question::Pull {
+                domain,
+                map,
+                source,
+            } => is_name(domain) && is_name(map) && is_name(source),
             Question::Innetgr { domain, .. } => is_name(domain),
         }
     }

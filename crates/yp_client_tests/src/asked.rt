@@ -85,6 +85,15 @@ fn owned<R: Abort>(rt: &R, alloc: Global, question: &Fixed) -> Question<Vec<u8>>
         Question::Maps { domain } => Question::Maps {
             domain: text(rt, alloc, domain),
         },
+        Question::Pull {
+            domain,
+            map,
+            source,
+        } => Question::Pull {
+            domain: text(rt, alloc, domain),
+            map: text(rt, alloc, map),
+            source: text(rt, alloc, source),
+        },
         Question::Innetgr {
             domain,
             group,

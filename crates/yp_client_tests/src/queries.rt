@@ -8,7 +8,7 @@ use std::random::RandomSource;
 use yp_client::query::QueryFault;
 use yp_client::{ClientFault, Question};
 use yp_io::Peer;
-use yp_messages::YpStat;
+use yp_messages::{XfrStat, YpStat};
 use yp_rpc::ReplyHead;
 use yp_version::VersionFault;
 
@@ -39,6 +39,12 @@ const POLL: Fixed = Question::Poll {
 };
 
 const MAPS: Fixed = Question::Maps { domain: b"lab" };
+
+const PULL: Fixed = Question::Pull {
+    domain: b"lab",
+    map: b"hosts.byname",
+    source: b"m1",
+};
 
 const ALPHA_CALL: &str =
     "8000004c 00000001 00000000 00000002 000186a4 00000002 00000003 00000000 00000000 \
@@ -74,6 +80,12 @@ const MAPS_CALL: &str =
     "80000030 00000001 00000000 00000002 000186a4 00000002 0000000b 00000000 00000000 \
     00000000 00000000 00000003 6c616200";
 
+/// The call of XFR for `hosts.byname` in `lab` from `m1`: order, transaction, program and port are 0.
+const PULL_CALL: &str =
+    "80000058 00000001 00000000 00000002 000186a4 00000002 00000006 00000000 00000000 \
+    00000000 00000000 00000003 6c616200 0000000c 686f7374 732e6279 6e616d65 00000000 00000002 6d310000 \
+    00000000 00000000 00000000";
+
 const NO_ROWS: &str = "8000001c 00000001 00000001 00000000 00000000 00000000 00000000 00000000";
 
 const MASTER_REPLY: &str =
@@ -102,7 +114,7 @@ struct Answer {
     printed: &'static [u8],
 }
 
-static ANSWERS: [Answer; 9] = [
+static ANSWERS: [Answer; 10] = [
     Answer {
         row: "values",
         question: CAT,
@@ -174,6 +186,14 @@ static ANSWERS: [Answer; 9] = [
         calls: MAPS_CALL,
         result: Ok(()),
         printed: b"",
+    },
+    Answer {
+        row: "a transfer of another transaction",
+        question: PULL,
+        input: "80000020 00000001 00000001 00000000 00000000 00000000 00000000 00000007 00000001",
+        calls: PULL_CALL,
+        result: Ok(()),
+        printed: b"lab/hosts.byname 1 SUCC\n",
     },
 ];
 
@@ -296,18 +316,121 @@ fn members_of_groups(rt: HostRuntime) {
     }
 }
 
+/// The reply to XFR, up to its status, of the transaction 0.
+const TAKEN_REPLY: &str =
+    "80000020 00000001 00000001 00000000 00000000 00000000 00000000 00000000";
+
+/// The status of a reply, the result, and the line.
+type Taken = (&'static str, Result<(), QueryFault>, &'static [u8]);
+
+static STATUSES: [Taken; 16] = [
+    ("00000001", Ok(()), b"lab/hosts.byname 1 SUCC\n"),
+    (
+        "00000002",
+        Err(QueryFault::NotTaken(XfrStat::Age)),
+        b"lab/hosts.byname 2 AGE\n",
+    ),
+    (
+        "ffffffff",
+        Err(QueryFault::NotTaken(XfrStat::Nomap)),
+        b"lab/hosts.byname -1 NOMAP\n",
+    ),
+    (
+        "fffffffe",
+        Err(QueryFault::NotTaken(XfrStat::Nodom)),
+        b"lab/hosts.byname -2 NODOM\n",
+    ),
+    (
+        "fffffffd",
+        Err(QueryFault::NotTaken(XfrStat::Rsrc)),
+        b"lab/hosts.byname -3 RSRC\n",
+    ),
+    (
+        "fffffffc",
+        Err(QueryFault::NotTaken(XfrStat::Rpc)),
+        b"lab/hosts.byname -4 RPC\n",
+    ),
+    (
+        "fffffffb",
+        Err(QueryFault::NotTaken(XfrStat::Maddr)),
+        b"lab/hosts.byname -5 MADDR\n",
+    ),
+    (
+        "fffffffa",
+        Err(QueryFault::NotTaken(XfrStat::Yperr)),
+        b"lab/hosts.byname -6 YPERR\n",
+    ),
+    (
+        "fffffff9",
+        Err(QueryFault::NotTaken(XfrStat::Badargs)),
+        b"lab/hosts.byname -7 BADARGS\n",
+    ),
+    (
+        "fffffff8",
+        Err(QueryFault::NotTaken(XfrStat::Dbm)),
+        b"lab/hosts.byname -8 DBM\n",
+    ),
+    (
+        "fffffff7",
+        Err(QueryFault::NotTaken(XfrStat::File)),
+        b"lab/hosts.byname -9 FILE\n",
+    ),
+    (
+        "fffffff6",
+        Err(QueryFault::NotTaken(XfrStat::Skew)),
+        b"lab/hosts.byname -10 SKEW\n",
+    ),
+    (
+        "fffffff5",
+        Err(QueryFault::NotTaken(XfrStat::Clear)),
+        b"lab/hosts.byname -11 CLEAR\n",
+    ),
+    (
+        "fffffff4",
+        Err(QueryFault::NotTaken(XfrStat::Force)),
+        b"lab/hosts.byname -12 FORCE\n",
+    ),
+    (
+        "fffffff3",
+        Err(QueryFault::NotTaken(XfrStat::Xfrerr)),
+        b"lab/hosts.byname -13 XFRERR\n",
+    ),
+    (
+        "fffffff2",
+        Err(QueryFault::NotTaken(XfrStat::Refused)),
+        b"lab/hosts.byname -14 REFUSED\n",
+    ),
+];
+
+fn try_status<R: RandomSource + Abort>(rt: &R, alloc: Global, taken: &Taken) {
+    let (stat, wanted, line) = taken;
+    let input = bytes(rt, alloc, &[TAKEN_REPLY, *stat]);
+    let calls = bytes(rt, alloc, &[PULL_CALL]);
+    let (result, wires, sent, printed) = ask(rt, alloc, &PULL, input, 4, &FAIR);
+    let came = (result, wires, sent.as_slice(), printed.as_slice());
+    assert_same(rt, &came, &(*wanted, 1, calls.as_slice(), *line), *stat);
+}
+
+#[test]
+fn each_status_of_a_transfer(rt: HostRuntime) {
+    for taken in &STATUSES {
+        try_status(&rt, rt.alloc(), taken);
+    }
+}
+
 const OTHER_SERVER: Peer = Peer {
     addr: [192, 168, 7, 254],
     port: 65_535,
 };
 
-static QUESTIONS: [(&str, Fixed); 6] = [
+static QUESTIONS: [(&str, Fixed); 7] = [
     ("CAT", CAT),
     ("CATK", CATK),
     ("MATCH", ALPHA),
     ("WHICH", WHICH),
     ("POLL", POLL),
     ("MAPS", MAPS),
+    ("PULL", PULL),
 ];
 
 #[test]
@@ -358,10 +481,19 @@ const TORN: QueryFault = QueryFault::Client(ClientFault::Torn { at: 0 });
 
 const TORN_BEHIND_ORDER: QueryFault = QueryFault::Client(ClientFault::Torn { at: 36 });
 
-/// The question, the input, the fault, and how many bytes were sent. A call has 68 bytes, or 80 with the key.
+/// A status that no transfer has, and a reply that ends before its status.
+const NO_STATUS: &str =
+    "80000020 00000001 00000001 00000000 00000000 00000000 00000000 00000000 00000003";
+
+const SHORT_REPLY: &str =
+    "8000001c 00000001 00000001 00000000 00000000 00000000 00000000 00000000";
+
+const BAD_STATUS: QueryFault = QueryFault::Client(ClientFault::BadReply { at: 28 });
+
+/// The question, the input, the fault, and how many bytes were sent. A call has 68 bytes, 80 with the key, 92 of XFR.
 type Refusal = (&'static str, Fixed, &'static str, QueryFault, usize);
 
-static REFUSALS: [Refusal; 11] = [
+static REFUSALS: [Refusal; 16] = [
     ("CAT, no map", CAT, NOMAP_ROWS_REPLY, NO_MAP, 68),
     ("CATK, torn", CATK, TORN_REPLY, TORN, 68),
     ("MATCH, no key", ALPHA, NOKEY_REPLY, QueryFault::NoKey, 80),
@@ -373,6 +505,11 @@ static REFUSALS: [Refusal; 11] = [
     ("MAPS, torn", MAPS, "", TORN, 52),
     ("MAPS, denied", MAPS, DENIED_REPLY, DENIED, 52),
     ("MAPS, no key", MAPS, NOKEY_REPLY, NO_KEY, 52),
+    ("PULL, torn", PULL, "", TORN, 92),
+    ("PULL, denied", PULL, DENIED_REPLY, DENIED, 92),
+    ("PULL, other reply", PULL, OTHER_REPLY, OTHER_XID, 92),
+    ("PULL, no such status", PULL, NO_STATUS, BAD_STATUS, 92),
+    ("PULL, no status", PULL, SHORT_REPLY, BAD_STATUS, 92),
 ];
 
 fn try_refusal<R: RandomSource + Abort>(rt: &R, alloc: Global, refusal: &Refusal) {
@@ -497,10 +634,83 @@ static FAILING: [Failing; 9] = [
     ),
 ];
 
-fn try_failing<R: RandomSource + Abort>(rt: &R, alloc: Global, failing: &Failing) {
+/// A transfer that isn't taken: its line goes out in seven writes of at most four bytes, and a flush.
+const NOT_TAKEN_REPLY: &str =
+    "80000020 00000001 00000001 00000000 00000000 00000000 00000000 00000000 ffffffff";
+
+static PULL_FAILING: [Failing; 6] = [
+    (
+        "the dial of a transfer",
+        Weather {
+            dials: &[0],
+            ..FAIR
+        },
+        QueryFault::Dial,
+        0,
+        b"",
+    ),
+    (
+        "the read of its status",
+        Weather {
+            reads: &[0],
+            ..FAIR
+        },
+        READ_FAULT,
+        1,
+        b"",
+    ),
+    (
+        "the write of its call",
+        Weather {
+            writes: &[0],
+            ..FAIR
+        },
+        WRITE_FAULT,
+        1,
+        b"",
+    ),
+    (
+        "the first print of its line",
+        Weather {
+            prints: &[0],
+            ..FAIR
+        },
+        QueryFault::Output,
+        1,
+        b"",
+    ),
+    (
+        "the seventh print of its line",
+        Weather {
+            prints: &[6],
+            ..FAIR
+        },
+        QueryFault::Output,
+        1,
+        b"lab/hosts.byname -1 NOMA",
+    ),
+    (
+        "the flush of its line",
+        Weather {
+            prints: &[7],
+            ..FAIR
+        },
+        QueryFault::Output,
+        1,
+        b"lab/hosts.byname -1 NOMAP\n",
+    ),
+];
+
+fn try_failing<R: RandomSource + Abort>(
+    rt: &R,
+    alloc: Global,
+    question: &Fixed,
+    reply: &str,
+    failing: &Failing,
+) {
     let (row, weather, fault, wires, printed) = failing;
-    let input = bytes(rt, alloc, &[ALPHA_REPLY]);
-    let asked = ask(rt, alloc, &ALPHA, input, 4, weather);
+    let input = bytes(rt, alloc, &[reply]);
+    let asked = ask(rt, alloc, question, input, 4, weather);
     let came = (asked.0, asked.1, asked.3.as_slice());
     assert_same(rt, &came, &(Err(*fault), *wires, *printed), *row);
 }
@@ -508,7 +718,10 @@ fn try_failing<R: RandomSource + Abort>(rt: &R, alloc: Global, failing: &Failing
 #[test]
 fn one_failing_call(rt: HostRuntime) {
     for failing in &FAILING {
-        try_failing(&rt, rt.alloc(), failing);
+        try_failing(&rt, rt.alloc(), &ALPHA, ALPHA_REPLY, failing);
+    }
+    for failing in &PULL_FAILING {
+        try_failing(&rt, rt.alloc(), &PULL, NOT_TAKEN_REPLY, failing);
     }
 }
 

@@ -21,10 +21,12 @@ use Rattle.yp_command.specs.declared.words.ParseFault.{ParseFault}
 use Rattle.yp_command.specs.Words.{Meaning, meaning, ◌>>=◌, word, served, stores_and_hosts, servers}
 use Rattle.yp_command.specs.Words.{is_new_store, is_new_server, once, session, serve, check, dump, build, load, xfr}
 use Rattle.yp_command.specs.Words.{walk, revnet, sample, push, bind, portmap, getport, asking, match_key, maps, innetgr}
+use Rattle.yp_command.specs.Words.{pull}
 use Rattle.yp_command.specs.Words.{sentence, command_of, each, end, optional, Once, Session, Serve, Check, Dump, Build}
 use Rattle.yp_command.specs.Words.{Load, Xfr, Walk, Revnet, Sample, Push, Bind, Portmap, Getport, Ask}
 use Rattle.yp_command.specs.inside.Words.{IsNamed, IsOneMap, AreMaps as MakeMaps, HasNames, Answers}
 use Rattle.yp_client.specs.declared.question.Question.TheVariants.{Cat, Catk, Match, Which, Poll, Maps, Innetgr}
+use Rattle.yp_client.specs.declared.question.Question.TheVariants.{Pull}
 use Rattle.yp_client.specs.Questions.{ByteQuestion}
 use Rattle.yp_client.specs.inside.Questions.{QuestionIsWithin}
 
@@ -531,6 +533,20 @@ maps_named words =
     read (end 3 words) _ λ end _.
     whole (Ask peer (Maps domain)) (text_read 2 words domain domain_is)
 
+pull_named : (words : List (List ℕ)) → Named (pull words)
+unfolding pull
+pull_named words =
+    read (word 1 form.address words) _ λ peer _.
+    read (word 2 form.text words) _ λ domain domain_is.
+    read (word 3 form.text words) _ λ map map_is.
+    read (word 4 form.text words) _ λ source source_is.
+    read (end 5 words) _ λ end _.
+    whole (Ask peer (Pull domain map source)) (
+      text_read 2 words domain domain_is,
+      text_read 3 words map map_is,
+      text_read 4 words source source_is,
+    )
+
 innetgr_named : (words : List (List ℕ)) → Named (innetgr words)
 unfolding innetgr
 innetgr_named words =
@@ -573,7 +589,8 @@ sentence_named first words =
     named_if (bytes_eq first (codes "poll")) _ _ (asking_named Poll words (λ domain map short. short)) (
     named_if (bytes_eq first (codes "match")) _ _ (match_key_named words) (
     named_if (bytes_eq first (codes "maps")) _ _ (maps_named words) (
-    named_if (bytes_eq first (codes "innetgr")) _ _ (innetgr_named words) (none_named 0))))))))))))))))))))))
+    named_if (bytes_eq first (codes "pull")) _ _ (pull_named words) (
+    named_if (bytes_eq first (codes "innetgr")) _ _ (innetgr_named words) (none_named 0)))))))))))))))))))))))
 
 -- what the words ask for has such names
 asked_named : (words : List (List ℕ)) (meaning : Meaning) → command_of words ≡ Ok meaning → HasNames meaning

@@ -13,6 +13,7 @@ use Rattle.yp_binding.specs.Kept.{servers_max}
 use Rattle.yp_binding.specs.Rounds.{is_same_peer}
 use Rattle.yp_board.specs.Catalogues.{Name, maps_max, name_view, is_same}
 use Rattle.yp_client.specs.declared.question.Question.TheVariants.{Cat, Catk, Match, Which, Poll, Maps, Innetgr}
+use Rattle.yp_client.specs.declared.question.Question.TheVariants.{Pull}
 use Rattle.yp_client.specs.Questions.{ByteQuestion, bytes_of}
 use Rattle.yp_command.specs.declared.command.KeyValue.{KeyValue}
 use Rattle.yp_command.specs.declared.command.HostWord.{HostWord}
@@ -272,6 +273,15 @@ maps words = do
   _ ← end 3 words
   Ok (Ask peer (Maps domain))
 
+unfoldable pub pull : Sentence
+pull words = do
+  peer ← word 1 form.address words
+  domain ← word 2 form.text words
+  map ← word 3 form.text words
+  source ← word 4 form.text words
+  _ ← end 5 words
+  Ok (Ask peer (Pull domain map source))
+
 unfoldable pub innetgr : Sentence
 innetgr words = do
   peer ← word 1 form.address words
@@ -307,6 +317,7 @@ sentence first words =
     else if bytes_eq first (codes "poll") then asking Poll words
     else if bytes_eq first (codes "match") then match_key words
     else if bytes_eq first (codes "maps") then maps words
+    else if bytes_eq first (codes "pull") then pull words
     else if bytes_eq first (codes "innetgr") then innetgr words
     else Err 0
 

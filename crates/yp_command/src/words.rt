@@ -9,6 +9,7 @@ ghost use Rattle.yp_command.specs.Words.{row_view, host_view, meaning, texts};
 ghost use Rattle.yp_command.specs.inside.Words.{Answers};
 ghost use Rattle.yp_command.specs.Words.{once, session, serve, check, dump, build, load, xfr, walk, revnet, sample};
 ghost use Rattle.yp_command.specs.Words.{push, bind, portmap, getport, asking, match_key, maps, innetgr, TakesMemory};
+ghost use Rattle.yp_command.specs.Words.{pull};
 ghost use Rattle.yp_command.specs.Words.{netgroup_of, ypservers_of};
 ghost use Rattle.yp_command.specs.inside.Words.{IsSentenceOfWords, IsUsage, HasNames};
 ghost use Rattle.yp_command.specs.Words.{is_ypservers, with_ypservers};
@@ -419,6 +420,23 @@ fn maps(alloc: Global, words: Words) -> Result<Command, ParseFault>
     Ok(Command::Ask { addr, question })
 }
 
+#[tactic(auto, unfolding(crate::specs::Words::pull))]
+fn pull(alloc: Global, words: Words) -> Result<Command, ParseFault>
+    ensures { Answers (pull (texts words.entry.words.now)) result }
+{
+    let addr = words.address(1)?;
+    let domain = words.text(2)?;
+    let map = words.text(3)?;
+    let source = words.text(4)?;
+    words.end(5)?;
+    let question = Question::Pull {
+        domain: bytes(alloc, domain)?,
+        map: bytes(alloc, map)?,
+        source: bytes(alloc, source)?,
+    };
+    Ok(Command::Ask { addr, question })
+}
+
 #[tactic(auto, unfolding(crate::specs::Words::innetgr))]
 fn innetgr(alloc: Global, words: Words) -> Result<Command, ParseFault>
     ensures { Answers (innetgr (texts words.entry.words.now)) result }
@@ -477,6 +495,7 @@ fn read(alloc: Global, words: Words) -> Result<Command, ParseFault>
         "poll" => poll(alloc, words),
         "match" => match_key(alloc, words),
         "maps" => maps(alloc, words),
+        "pull" => pull(alloc, words),
         "innetgr" => innetgr(alloc, words),
         _ => Err(ParseFault::Usage { word: 0 }),
     }

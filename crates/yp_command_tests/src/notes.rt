@@ -17,7 +17,7 @@ const USAGE: Row = Row {
 };
 
 /// No version, a record that is torn, and wires that don't come. The tables of the other commands have this row, too.
-static ROWS: [Row; 10] = [
+static ROWS: [Row; 11] = [
     USAGE,
     Row {
         name: "once",
@@ -64,6 +64,12 @@ static ROWS: [Row; 10] = [
     Row {
         name: "maps",
         words: &["maps", "10.0.0.1:834", "lab"],
+        code: 15,
+        ..USAGE
+    },
+    Row {
+        name: "pull",
+        words: &["pull", "10.0.0.1:834", "lab", "hosts.byname", "m1"],
         code: 15,
         ..USAGE
     },

@@ -33,6 +33,12 @@ const SECOND_MASTER: &str = "80000040 00000002 00000000 00000002 000186a4 000000
 const MAPLIST: &str = "80000030 00000001 00000000 00000002 000186a4 00000002 0000000b
     00000000 00000000 00000000 00000000 00000003 6c616200";
 
+/// XFR of a map, up to the map, and what is behind it: order 0, the host m1, and transaction, program and port 0.
+const XFR: &str = "00000001 00000000 00000002 000186a4 00000002 00000006
+    00000000 00000000 00000000 00000000 00000003 6c616200";
+
+const FROM_M1: &str = "00000000 00000002 6d310000 00000000 00000000 00000000";
+
 const CAT: Row = Row {
     name: "cat",
     words: &["cat", "10.0.0.1:834", "lab", "hosts.byname"],
@@ -99,8 +105,23 @@ static CLIENTS: [Row; 6] = [
     },
 ];
 
+/// A transfer that the server refuses: `once` is the master of its map.
+static REFUSED: [Row; 1] = [PULL];
+
+const PULL: Row = Row {
+    name: "pull",
+    words: &["pull", "10.0.0.1:834", "lab", "hosts.byname", "m1"],
+    wire: &["80000058", XFR, HOSTS, FROM_M1],
+    code: 1,
+    output: "lab/hosts.byname -14 REFUSED\n",
+    ..CAT
+};
+
+/// A reply of SUCC to the same call.
+const TAKEN: &str = "80000020 00000001 00000001 00000000 00000000 00000000 00000000 00000000 00000001";
+
 /// What isn't there.
-static ABSENT: [Row; 2] = [
+static ABSENT: [Row; 3] = [
     Row {
         name: "cat of no such map",
         words: &["cat", "10.0.0.1:834", "lab", "bare"],
@@ -118,7 +139,25 @@ static ABSENT: [Row; 2] = [
         output: "",
         ..CAT
     },
+    Row {
+        name: "pull of no such map",
+        words: &["pull", "10.0.0.1:834", "lab", "bare", "m1"],
+        wire: &["80000050", XFR, "00000004 62617265", FROM_M1],
+        code: 1,
+        output: "lab/bare -1 NOMAP\n",
+        ..CAT
+    },
 ];
+
+/// A transfer that is taken, of a map that another host is the master of.
+static TAKES: [Row; 1] = [Row {
+    name: "pull that is taken",
+    server: &[],
+    wire: &[TAKEN],
+    code: 0,
+    output: "lab/hosts.byname 1 SUCC\n",
+    ..PULL
+}];
 
 #[test]
 fn answers_of_a_server(rt: HostRuntime) {
@@ -135,6 +174,8 @@ fn answers_of_a_server(rt: HostRuntime) {
     try_rows(&rt, alloc, &CLIENTS);
     try_rows(&rt, alloc, &ABSENT);
     try_rows(&rt, alloc, &POLLS);
+    try_rows(&rt, alloc, &REFUSED);
+    try_rows(&rt, alloc, &TAKES);
 }
 
 /// Each call of the dial and the wire fails in turn: a call takes a write and a flush, its reply a read of the head and
@@ -201,4 +242,6 @@ fn each_call_fails(rt: HostRuntime) {
     }
     try_wire(&rt, rt.alloc(), &POLLS[0], 4);
     try_output(&rt, rt.alloc(), &POLLS[0]);
+    try_wire(&rt, rt.alloc(), &PULL, 2);
+    try_output(&rt, rt.alloc(), &PULL);
 }

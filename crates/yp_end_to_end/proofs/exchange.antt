@@ -5,6 +5,7 @@ pub mod Values
 pub mod Found
 pub mod Lengths
 pub mod Names
+pub mod Transfers
 pub mod LookUps
 pub mod Mailed
 pub mod Pushed

@@ -24,6 +24,7 @@ abbrev pub status_of : Result (Unit {0}) QueryFault → Status
 status_of (Ok done) = Done
 status_of (Err fault.NoKey) = No
 status_of (Err fault.NotMember) = No
+status_of (Err (fault.NotTaken stat)) = No
 status_of (Err fault.Dial) = DialFault
 status_of (Err fault.Output) = WriteFault
 status_of (Err fault.NoMemory) = NoMemory
@@ -51,7 +52,7 @@ pub record AsksAs (peer : Peer) (question : ByteQuestion) (status : Status) (old
   pub asks : Asks peer question result old new
   pub told : status ≡ status_of result
 
--- an answer, that there is no such key or no such member, or want of memory
+-- an answer, that there is no such key or no such member, or that no transfer was taken, or want of memory
 abbrev pub IsClientAnswer : Status → Type 0
 IsClientAnswer status = (status ≡ Done) ⊎ (status ≡ No) ⊎ (status ≡ NoMemory)
 

@@ -42,7 +42,7 @@ fn status_of(fault: QueryFault) -> Status
     ensures { result ≡ status_of (Err fault) }
 {
     match fault {
-        QueryFault::NoKey | QueryFault::NotMember => Status::No,
+        QueryFault::NoKey | QueryFault::NotMember | QueryFault::NotTaken(_) => Status::No,
         QueryFault::Client(fault) => status_of_call(fault),
         QueryFault::Dial => Status::DialFault,
         QueryFault::Output => Status::WriteFault,

@@ -11,22 +11,26 @@ use Rattle.yp_io.specs.Dials.{Wires, Connected, connected, Dialing, WireState, W
 use Rattle.yp_rpc.specs.Records.{IsRest, IsLong}
 use Rattle.yp_rpc.specs.inside.Laws.{FirstIsOne, RestIsNotWhole}
 use Rattle.yp_messages.specs.declared.stat.YpStat.{YpStat}
+use Rattle.yp_messages.specs.declared.transfer.XfrStat.{XfrStat}
+use Rattle.yp_messages.specs.declared.transfer.XfrStat.TheVariants.{Succ}
+use Rattle.yp_messages.specs.Transfers.{xfr_number}
 use Rattle.yp_messages.specs.declared.stat.YpStat.TheVariants as stat
 use Rattle.yp_version.specs.Drafts.{Draft}
 use Rattle.yp_client.specs.declared.fault.ClientFault.{ClientFault}
 use Rattle.yp_client.specs.declared.fault.ClientFault.TheVariants as client
 use Rattle.yp_client.specs.Limits.{reply_max, all_max}
 use Rattle.yp_client.specs.States.{ClientState, IsFirst}
-use Rattle.yp_client.specs.Results.{Says, SaysInMemory, value_of, master_of, order_of, maps_of}
+use Rattle.yp_client.specs.Results.{Says, SaysInMemory, value_of, master_of, order_of, maps_of, taken_of}
 use Rattle.yp_client.specs.All.{AllSaid, all_said, IsSaid}
 use Rattle.yp_client.specs.Calls.{Calls, HearsReply, NoReply}
-use Rattle.yp_client.specs.Said.{SaysNumber, SaysBytes, SaysNames}
-use Rattle.yp_client.specs.Asked.{match_call, master_call, order_call, maplist_call}
+use Rattle.yp_client.specs.Said.{SaysNumber, SaysBytes, SaysNames, SaysStat}
+use Rattle.yp_client.specs.Asked.{match_call, master_call, order_call, maplist_call, pull_call}
 use Rattle.yp_messages.specs.declared.maplist.MapList.{MapList}
 use Rattle.yp_client.specs.query.Lines.{line, lines, standing_text}
 use Rattle.yp_client.specs.declared.query.fault.QueryFault.{QueryFault}
-use Rattle.yp_client.specs.declared.query.fault.QueryFault.TheVariants.{NoKey, NotMember, Client, Dial, Output, NoMemory}
+use Rattle.yp_client.specs.declared.query.fault.QueryFault.TheVariants.{NoKey, NotMember, NotTaken, Client, Dial, Output, NoMemory}
 use Rattle.yp_client.specs.declared.question.Question.TheVariants.{Cat, Catk, Match, Which, Poll, Maps, Innetgr}
+use Rattle.yp_client.specs.declared.question.Question.TheVariants.{Pull}
 use Rattle.yp_client.specs.Questions.{ByteQuestion}
 use Rattle.yp_client.specs.query.Faults.{query_fault, match_fault}
 use Rattle.yp_version.specs.Rows.{Row, listed}
@@ -34,6 +38,7 @@ use Rattle.yp_netgroup.specs.Reach.{SoughtMember}
 use Rattle.yp_netgroup.specs.Decided.{is_member}
 use Rattle.yp_client.specs.query.Asked.{QueryOutcome, told_by, meant_by, IsInMemory, no_rows, TakesRows, MakesMaster}
 use Rattle.yp_client.specs.query.Asked.{MakesCalls, rows_told, membership_outcome, membership_told, netgroup}
+use Rattle.yp_client.specs.query.Asked.{transfer_told}
 use Rattle.yp_client.specs.query.Scenes.{QueryTells, Exchanges, Asks}
 use Rattle.yp_client.specs.inside.query.Scenes.{HasQueryCause}
 use Rattle.yp_client.specs.query.Complete.{BeginsWithReply, IsValueOrNone, HasAnswer, HasCome}
@@ -113,11 +118,13 @@ not_long laws limit stream P good at old new told cause =
     let long : IsLong limit (good.bytes ++ good.rest) = (front, behind.0, cause.2, sym good.whole ∙ behind.2) in
     laws.rest limit good.reply good.bytes good.rest good.fragments (inr (inr long))
 
--- an answer, that there is no such key or no such member, want of memory, or a fault of the wire
+-- an answer, that there is no such key or no such member, that no transfer was taken, want of memory, or a fault of the
+-- wire
 IsGood : QueryOutcome → Type 0
 IsGood (Ok text) = ⊤
 IsGood (Err NoKey) = ⊤
 IsGood (Err NotMember) = ⊤
+IsGood (Err (NotTaken status)) = ⊤
 IsGood (Err NoMemory) = ⊤
 IsGood (Err (Client client.ReadFault)) = ⊤
 IsGood (Err (Client client.WriteFault)) = ⊤
@@ -130,6 +137,7 @@ memory_good meant (Ok text) good is = tt
 memory_good meant (Err NoMemory) good is = tt
 memory_good meant (Err NoKey) good is = tt
 memory_good meant (Err NotMember) good is = tt
+memory_good meant (Err (NotTaken status)) good is = tt
 memory_good meant (Err Dial) good is = subst IsGood (sym is) good
 memory_good meant (Err Output) good is = subst IsGood (sym is) good
 memory_good meant (Err (Client fault)) good is = subst IsGood (sym is) good
@@ -298,6 +306,11 @@ rows_answered laws means means_good domain map stream good outcome old new first
     tt tt (λ _. means_good (listed takes.draft.rows)))
     takes.makes.meant
 
+transfer_good : (domain map : List ℕ) (status : XfrStat) → IsGood (transfer_told domain map status)
+unfolding IsGood
+transfer_good domain map Succ = tt
+transfer_good domain map status = tt
+
 member_good : (member : Bool) → IsGood (membership_outcome member)
 unfolding IsGood
 member_good true = tt
@@ -379,6 +392,12 @@ calls_answered laws (Maps domain) stream outcome old new good first told makes =
     (λ fault says. bytes_good (λ (list : MapList). list.maps) (maps_of 1 good.reply) fault good.good
     (subst (λ (x : ℕ). SaysInMemory (λ (list : MapList). list.maps) (maps_of x good.reply) (Err fault)) first.xid
     says)) tt tt) makes.meant
+calls_answered laws (Pull domain map source) stream outcome old new good first told makes =
+    memory_good _ outcome (told_good laws reply_max stream _ good (pull_call domain map source) (SaysStat taken_of)
+    query_fault (transfer_told domain map) makes.answer old new makes.calls told first.spent
+    (λ fault says. absurd (number_good xfr_number (taken_of 1 good.reply) fault good.good
+    (subst (λ (x : ℕ). Says xfr_number (taken_of x good.reply) (Err fault)) first.xid says))) tt tt
+    (transfer_good domain map)) makes.meant
 
 -- ---- the wire that came
 
@@ -428,6 +447,7 @@ module _ (laws : Laws) (peer : Peer) (question : ByteQuestion) (stream : List �
   query_completes (Ok done) asks cause = tt
   query_completes (Err NoKey) asks cause = tt
   query_completes (Err NotMember) asks cause = tt
+  query_completes (Err (NotTaken status)) asks cause = tt
   query_completes (Err NoMemory) asks cause = tt
   query_completes (Err Dial) asks cause = dial cause
   query_completes (Err Output) asks cause = sink cause

@@ -1,22 +1,26 @@
 -- The faults that may be told of a question.
 use Rattle.std.proofs.Common.{◌≡◌, ℕ, Bool, true, false, List, Option, Result, Ok, Err, refl, sym, ◌∙◌, subst, inl, inr}
-use Rattle.std.specs.Prelude.{IfErr}
+use Rattle.std.specs.Prelude.{IfErr, ⊤}
+use Rattle.yp_io.specs.Counts.{HasRisen}
 use Rattle.yp_io.specs.Dials.{Dialing}
 use Rattle.yp_io.specs.declared.stream.Peer.{Peer}
 use Rattle.yp_messages.specs.declared.stat.YpStat.TheVariants as stats
 use Rattle.yp_version.specs.declared.builder.VersionFault.TheVariants as version_faults
 use Rattle.yp_client.specs.declared.fault.ClientFault.{ClientFault}
 use Rattle.yp_client.specs.declared.fault.ClientFault.TheVariants as client_faults
-use Rattle.yp_client.specs.Results.{value_of, master_of, order_of, maps_of}
-use Rattle.yp_client.specs.Said.{SaysNumber, SaysBytes, SaysNames}
-use Rattle.yp_client.specs.Asked.{all_call, match_call, master_call, order_call, maplist_call}
+use Rattle.yp_messages.specs.declared.transfer.XfrStat.{XfrStat}
+use Rattle.yp_messages.specs.declared.transfer.XfrStat.TheVariants.{Succ}
+use Rattle.yp_client.specs.Results.{value_of, master_of, order_of, maps_of, taken_of}
+use Rattle.yp_client.specs.Said.{SaysNumber, SaysBytes, SaysNames, SaysStat}
+use Rattle.yp_client.specs.Asked.{all_call, match_call, master_call, order_call, maplist_call, pull_call}
 use Rattle.yp_client.specs.Limits.{reply_max, all_max}
 use Rattle.yp_client.specs.All.{SaysAll}
 use Rattle.yp_client.specs.States.{ClientState}
 use Rattle.yp_client.specs.Calls.{Calls}
 use Rattle.yp_client.specs.declared.query.fault.QueryFault.{QueryFault}
-use Rattle.yp_client.specs.declared.query.fault.QueryFault.TheVariants.{NotMember, Dial, Output, NoMemory}
+use Rattle.yp_client.specs.declared.query.fault.QueryFault.TheVariants.{NoKey, NotMember, NotTaken, Client, Dial, Output, NoMemory}
 use Rattle.yp_client.specs.declared.question.Question.TheVariants.{Cat, Catk, Match, Which, Poll, Maps, Innetgr}
+use Rattle.yp_client.specs.declared.question.Question.TheVariants.{Pull}
 use Rattle.yp_client.specs.Questions.{ByteQuestion}
 use Rattle.yp_client.specs.query.Faults.{query_fault, match_fault}
 use Rattle.yp_client.specs.inside.query.Faults.{FaultIsTellable}
@@ -25,11 +29,12 @@ use Rattle.yp_netgroup.specs.Reach.{SoughtMember}
 use Rattle.yp_netgroup.specs.Decided.{is_member}
 use Rattle.yp_client.specs.query.Asked.{QueryOutcome, told_by, meant_by, IsInMemory, CallIsMade, no_rows, TakesRows, MakesMaster}
 use Rattle.yp_client.specs.query.Asked.{MakesCalls, Converses, rows_told, membership_outcome, membership_told, netgroup}
+use Rattle.yp_client.specs.query.Asked.{transfer_told}
 use Rattle.yp_client.specs.declared.query.answer.Answer.{Answer}
 use Rattle.yp_client.specs.declared.query.answer.Answer.TheVariants as answers
 use Rattle.yp_client.specs.inside.query.Answers.{answer_outcome}
 use Rattle.yp_client.specs.query.Scenes.{QueryTells, Exchanges, Prints, Asks}
-use Rattle.yp_client.specs.inside.query.Scenes.{Dials}
+use Rattle.yp_client.specs.inside.query.Scenes.{Dials, HasQueryCause}
 
 -- ---- the fault of a call may be told
 
@@ -118,6 +123,10 @@ master_tells domain map (Err fault) outcome old mid new fresh calls h =
     let spent = unspent reply_max (order_call domain map) (SaysNumber order_of) fault old mid fresh calls in
     subst MayTell (sym h.0) (refused fault spent)
 
+transfer_tells : (domain map : List ℕ) (status : XfrStat) → MayTell (transfer_told domain map status)
+transfer_tells domain map Succ = tt
+transfer_tells domain map status = tt
+
 calls_tell : (question : ByteQuestion) (outcome : QueryOutcome) (old new : ClientState) → old.spent ≡ false
     → MakesCalls question outcome old new → MayTell outcome
 calls_tell (Cat domain map) outcome old new fresh h =
@@ -137,6 +146,9 @@ calls_tell (Poll domain map) outcome old new fresh h =
     master_tells domain map h.order outcome old h.mid new fresh h.calls h.follows
 calls_tell (Maps domain) outcome old new fresh h =
     makes_tells reply_max (maplist_call domain) (SaysNames maps_of) query_fault _ outcome old new fresh refused h
+calls_tell (Pull domain map source) outcome old new fresh h =
+    call_tells reply_max (pull_call domain map source) (SaysStat taken_of) query_fault (transfer_told domain map) outcome
+    old new fresh (transfer_tells domain map) refused h
 
 converses_tell : (question : ByteQuestion) (outcome : QueryOutcome) (old new : ClientState) → old.spent ≡ false
     → Converses question outcome old new → MayTell outcome
@@ -171,7 +183,7 @@ came answer e = cc
 -- A wire came and went back, and what its calls came to was printed.
 pub answer_asks : (peer : Peer) (question : ByteQuestion) (answer : Answer) (result : Result (Unit {0}) QueryFault)
     (old new : QueryTells) → Dials peer question (answer_outcome answer) old.dial new.dial
-    → Prints (answer_outcome answer) result old.output new.output → Asks peer question result old new
+    → Prints question (answer_outcome answer) result old.output new.output → Asks peer question result old new
 answer_asks peer question answer (Err Dial) old new dials prints = absurd (came answer prints.0)
 answer_asks peer question answer (Ok done) old new dials prints =
     (answer_outcome answer, exchanged peer question answer old.dial new.dial dials, prints)
@@ -187,12 +199,42 @@ tells : (outcome : QueryOutcome) → MayTell outcome → IfErr outcome FaultIsTe
 tells (Ok text) h = tt
 tells (Err fault) h = called_tells fault h
 
-pub prints_tells : (answer : Answer) (result : Result (Unit {0}) QueryFault) (before after : Option (List ℕ))
-    → Prints (answer_outcome answer) result before after → IfErr result FaultIsTellable
-prints_tells answer (Ok done) before after h = tt
-prints_tells answer (Err Output) before after h = tt
-prints_tells answer (Err NotMember) before after h = tt
-prints_tells answer (Err NoMemory) before after h = tt
-prints_tells answer (Err fault) before after h =
+pub prints_tells : (question : ByteQuestion) (answer : Answer) (result : Result (Unit {0}) QueryFault)
+    (before after : Option (List ℕ)) → Prints question (answer_outcome answer) result before after
+    → IfErr result FaultIsTellable
+prints_tells question answer (Ok done) before after h = tt
+prints_tells question answer (Err Output) before after h = tt
+prints_tells question answer (Err NotMember) before after h = tt
+prints_tells question answer (Err NoMemory) before after h = tt
+prints_tells question answer (Err fault) before after h =
     let P : QueryOutcome → Type 0 = λ outcome. IfErr outcome FaultIsTellable in
     subst P h.0 (tells (answer_outcome answer) (answer_tells answer))
+
+-- an answer is no fault of the dial or of its wires
+IsPrinted : QueryOutcome → Type 0
+IsPrinted (Ok text) = ⊤
+IsPrinted (Err NotMember) = ⊤
+IsPrinted outcome = ⊥
+
+answer_printed : (answer : Answer) → IsPrinted (answer_outcome answer)
+unfolding IsPrinted
+answer_printed (answers.Membership true) = tt
+answer_printed (answers.Membership false) = tt
+answer_printed answer = tt
+
+-- so what fails where it is printed is the sink
+pub print_cause : (question : ByteQuestion) (answer : Answer) (result : Result (Unit {0}) QueryFault)
+    (old new : QueryTells) → Prints question (answer_outcome answer) result old.output new.output
+    → (result ≡ Err Output → HasRisen old.faults new.faults)
+    → IfErr result (λ fault. HasQueryCause fault old new)
+unfolding IsPrinted
+print_cause question answer (Ok done) old new prints cause = tt
+print_cause question answer (Err Output) old new prints cause = cause refl
+print_cause question answer (Err NotMember) old new prints cause = tt
+print_cause question answer (Err (NotTaken status)) old new prints cause = tt
+print_cause question answer (Err NoKey) old new prints cause = tt
+print_cause question answer (Err NoMemory) old new prints cause = tt
+print_cause question answer (Err Dial) old new prints cause =
+    absurd (subst IsPrinted prints.0 (answer_printed answer))
+print_cause question answer (Err (Client fault)) old new prints cause =
+    absurd (subst IsPrinted prints.0 (answer_printed answer))

@@ -2,6 +2,7 @@
 use Rattle.std.specs.Prelude.{◌≤◌, length}
 use Rattle.yp_messages.specs.Numbers.{name_max, key_max}
 use Rattle.yp_client.specs.declared.question.Question.TheVariants.{Cat, Catk, Match, Which, Poll, Maps, Innetgr}
+use Rattle.yp_client.specs.declared.question.Question.TheVariants.{Pull}
 use Rattle.yp_client.specs.Questions.{ByteQuestion}
 
 -- its names and its key are within their limits
@@ -13,4 +14,6 @@ QuestionIsWithin (Match domain map key) =
 QuestionIsWithin (Which domain map) = (length domain ≤ name_max) × (length map ≤ name_max)
 QuestionIsWithin (Poll domain map) = (length domain ≤ name_max) × (length map ≤ name_max)
 QuestionIsWithin (Maps domain) = length domain ≤ name_max
+QuestionIsWithin (Pull domain map source) =
+    (length domain ≤ name_max) × (length map ≤ name_max) × (length source ≤ name_max)
 QuestionIsWithin (Innetgr domain group host user user_domain) = length domain ≤ name_max

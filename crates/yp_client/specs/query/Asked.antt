@@ -1,22 +1,25 @@
 -- The calls of each question, and what they come to.
 use Rattle.std.specs.Prelude.{◌≡◌, ◌⊎◌, ℕ, Bool, true, false, if◌then◌else◌, List, [], codes, Result, Ok, Err, ⊤}
+use Rattle.yp_messages.specs.declared.transfer.XfrStat.{XfrStat}
+use Rattle.yp_messages.specs.declared.transfer.XfrStat.TheVariants.{Succ}
 use Rattle.yp_version.specs.Rows.{Row, listed}
 use Rattle.yp_version.specs.Drafts.{Draft, empty_draft}
 use Rattle.yp_client.specs.declared.fault.ClientFault.{ClientFault}
-use Rattle.yp_client.specs.Results.{value_of, master_of, order_of, maps_of}
-use Rattle.yp_client.specs.Said.{SaysNumber, SaysBytes, SaysNames}
+use Rattle.yp_client.specs.Results.{value_of, master_of, order_of, maps_of, taken_of}
+use Rattle.yp_client.specs.Said.{SaysNumber, SaysBytes, SaysNames, SaysStat}
 use Rattle.yp_client.specs.Limits.{reply_max, all_max}
 use Rattle.yp_client.specs.All.{SaysAll}
-use Rattle.yp_client.specs.Asked.{all_call, match_call, master_call, order_call, maplist_call}
+use Rattle.yp_client.specs.Asked.{all_call, match_call, master_call, order_call, maplist_call, pull_call}
 use Rattle.yp_client.specs.States.{ClientState}
 use Rattle.yp_client.specs.Calls.{Calls}
 use Rattle.yp_client.specs.declared.query.fault.QueryFault.{QueryFault}
-use Rattle.yp_client.specs.declared.query.fault.QueryFault.TheVariants.{NoMemory, NotMember}
+use Rattle.yp_client.specs.declared.query.fault.QueryFault.TheVariants.{NoMemory, NotMember, NotTaken}
 use Rattle.yp_client.specs.declared.question.Question.TheVariants.{Cat, Catk, Match, Which, Poll, Maps, Innetgr}
+use Rattle.yp_client.specs.declared.question.Question.TheVariants.{Pull}
 use Rattle.yp_client.specs.Questions.{ByteQuestion}
 use Rattle.yp_netgroup.specs.Reach.{SoughtMember}
 use Rattle.yp_netgroup.specs.Decided.{is_member}
-use Rattle.yp_client.specs.query.Lines.{line, lines, rows_text, standing_text, membership_text}
+use Rattle.yp_client.specs.query.Lines.{line, lines, rows_text, standing_text, membership_text, transfer_text}
 use Rattle.yp_client.specs.query.Faults.{query_fault, match_fault}
 
 -- the text of an answer, or why there is none
@@ -67,6 +70,11 @@ membership_outcome is_member = if is_member then Ok (membership_text true) else 
 abbrev pub membership_told : List ℕ → SoughtMember → List Row → QueryOutcome
 membership_told group asked rows = membership_outcome (is_member rows group asked)
 
+-- the status of a transfer, of which SUCC alone is an answer; another is told apart and printed, too
+abbrev pub transfer_told : List ℕ → List ℕ → XfrStat → QueryOutcome
+transfer_told domain map Succ = Ok (line (transfer_text domain map Succ))
+transfer_told domain map status = Err (NotTaken status)
+
 -- ALL was made for the rows of a version, and came to what is meant by them, or to the number of a row that none takes.
 -- The reply fixes the rows.
 pub record TakesRows (means : List Row → QueryOutcome) (domain map : List ℕ) (outcome : QueryOutcome)
@@ -105,6 +113,9 @@ MakesCalls (Poll domain map) outcome old new = Polls domain map outcome old new
 MakesCalls (Maps domain) outcome old new =
     CallIsMade reply_max (maplist_call domain) (SaysNames maps_of)
     (meant_by query_fault (λ list. lines list.maps)) outcome old new
+MakesCalls (Pull domain map source) outcome old new =
+    CallIsMade reply_max (pull_call domain map source) (SaysStat taken_of)
+    (told_by query_fault (transfer_told domain map)) outcome old new
 MakesCalls (Innetgr domain group host user user_domain) outcome old new =
     TakesRows (membership_told group (record { host = host; user = user; domain = user_domain })) domain netgroup
     outcome old new

@@ -1,5 +1,11 @@
 -- The text of each answer.
 use Rattle.std.specs.Prelude.{ℕ, List, [], ◌∷◌, ◌++◌, codes, decimal, flat_map, Bool, if◌then◌else◌}
+use Rattle.std.specs.Fmt.{signed_decimal}
+use Rattle.yp_messages.specs.declared.transfer.XfrStat.{XfrStat}
+use Rattle.yp_messages.specs.declared.transfer.XfrStat.TheVariants.{Succ, Age, Nomap, Nodom, Rsrc, Rpc, Maddr, Yperr}
+use Rattle.yp_messages.specs.declared.transfer.XfrStat.TheVariants.{Badargs, Dbm, File, Skew, Clear, Force, Xfrerr}
+use Rattle.yp_messages.specs.declared.transfer.XfrStat.TheVariants.{Refused}
+use Rattle.yp_messages.specs.Transfers.{xfr_number}
 use Rattle.yp_version.specs.Rows.{Row}
 
 -- a line: bytes as they are, and a line feed
@@ -24,3 +30,27 @@ standing_text order master = line (codes "order " ++ decimal order) ++ line (cod
 -- whether somebody is a member of a group
 abbrev pub membership_text : Bool → List ℕ
 membership_text is_member = if is_member then line (codes "yes") else line (codes "no")
+
+-- the name of a status of a transfer (ypxfrstat)
+abbrev pub stat_name : XfrStat → List ℕ
+stat_name Succ = codes "SUCC"
+stat_name Age = codes "AGE"
+stat_name Nomap = codes "NOMAP"
+stat_name Nodom = codes "NODOM"
+stat_name Rsrc = codes "RSRC"
+stat_name Rpc = codes "RPC"
+stat_name Maddr = codes "MADDR"
+stat_name Yperr = codes "YPERR"
+stat_name Badargs = codes "BADARGS"
+stat_name Dbm = codes "DBM"
+stat_name File = codes "FILE"
+stat_name Skew = codes "SKEW"
+stat_name Clear = codes "CLEAR"
+stat_name Force = codes "FORCE"
+stat_name Xfrerr = codes "XFRERR"
+stat_name Refused = codes "REFUSED"
+
+-- a map, and the number and the name of the status that a server replied with when it was asked to fetch it
+abbrev pub transfer_text : List ℕ → List ℕ → XfrStat → List ℕ
+transfer_text domain map status =
+    domain ++ codes "/" ++ map ++ codes " " ++ signed_decimal (xfr_number status) ++ codes " " ++ stat_name status

@@ -1,15 +1,17 @@
 -- What a question does to a dial, and what it prints.
-use Rattle.std.specs.Prelude.{◌≡◌, ℕ, false, List, Option, Some, None, Result, Ok, Err, IsOkAnd, IsSomeAnd}
+use Rattle.std.specs.Prelude.{◌≡◌, ℕ, false, List, [], Option, Some, None, Result, Ok, Err, IsOkAnd, IsSomeAnd}
 use Rattle.std.specs.Io.KnownBytes.{Keeps, Appends}
 use Rattle.yp_io.specs.declared.stream.Peer.{Peer}
 use Rattle.yp_io.specs.Dials.{Wires, Dialing, dialing_of}
 use Rattle.yp_client.specs.States.{ClientState}
 use Rattle.yp_client.specs.Dialed.{IsDialed, IsNotDialed}
 use Rattle.yp_client.specs.declared.query.fault.QueryFault.{QueryFault}
-use Rattle.yp_client.specs.declared.query.fault.QueryFault.TheVariants.{NotMember, Dial, Output, NoMemory}
+use Rattle.yp_client.specs.declared.query.fault.QueryFault.TheVariants.{NotMember, NotTaken, Dial, Output, NoMemory}
+use Rattle.yp_client.specs.declared.question.Question.TheVariants.{Pull}
 use Rattle.yp_client.specs.Questions.{ByteQuestion}
+use Rattle.yp_messages.specs.declared.transfer.XfrStat.{XfrStat}
 use Rattle.yp_io.specs.Streams.{AppendsFront}
-use Rattle.yp_client.specs.query.Lines.{membership_text}
+use Rattle.yp_client.specs.query.Lines.{line, membership_text, transfer_text}
 use Rattle.yp_client.specs.query.Asked.{QueryOutcome, Converses}
 
 -- what a dial and a sink tell: with that, what the sink has taken, and how often it has failed
@@ -34,20 +36,30 @@ pub record Exchanges (peer : Peer) (question : ByteQuestion) (outcome : QueryOut
 
 -- ---- both
 
+-- the text of a status other than SUCC, which `pull` alone is told
+abbrev pub refusal_text : ByteQuestion → XfrStat → List ℕ
+refusal_text (Pull domain map source) status = line (transfer_text domain map status)
+refusal_text question status = []
+
 -- the text of what the calls came to: that of an answer, and a no
-abbrev pub outcome_text : QueryOutcome → Option (List ℕ)
-outcome_text (Ok text) = Some text
-outcome_text (Err NotMember) = Some (membership_text false)
-outcome_text (Err fault) = None
+abbrev pub outcome_text : ByteQuestion → QueryOutcome → Option (List ℕ)
+outcome_text question (Ok text) = Some text
+outcome_text question (Err NotMember) = Some (membership_text false)
+outcome_text question (Err (NotTaken status)) = Some (refusal_text question status)
+outcome_text question (Err fault) = None
 
 -- What is printed: the text, of which a sink that failed has taken a front, and nothing where there is none.
-abbrev pub Prints : QueryOutcome → Result (Unit {0}) QueryFault → Option (List ℕ) → Option (List ℕ) → Type 0
-Prints outcome (Ok done) before after = IsOkAnd outcome (λ text. Appends before after text)
-Prints outcome (Err NotMember) before after =
+abbrev pub Prints : ByteQuestion → QueryOutcome → Result (Unit {0}) QueryFault → Option (List ℕ) → Option (List ℕ)
+    → Type 0
+Prints question outcome (Ok done) before after = IsOkAnd outcome (λ text. Appends before after text)
+Prints question outcome (Err NotMember) before after =
     (outcome ≡ Err NotMember) × Appends before after (membership_text false)
-Prints outcome (Err Output) before after = IsSomeAnd (outcome_text outcome) (λ text. AppendsFront text before after)
-Prints outcome (Err NoMemory) before after = Keeps before after
-Prints outcome (Err fault) before after = (outcome ≡ Err fault) × Keeps before after
+Prints question outcome (Err (NotTaken status)) before after =
+    (outcome ≡ Err (NotTaken status)) × Appends before after (refusal_text question status)
+Prints question outcome (Err Output) before after =
+    IsSomeAnd (outcome_text question outcome) (λ text. AppendsFront text before after)
+Prints question outcome (Err NoMemory) before after = Keeps before after
+Prints question outcome (Err fault) before after = (outcome ≡ Err fault) × Keeps before after
 
 -- No wire came, and nothing was printed; or one to this peer came and went back, and what its calls came to was
 -- printed.
@@ -55,4 +67,4 @@ abbrev pub Asks : Peer → ByteQuestion → Result (Unit {0}) QueryFault → Que
 Asks peer question (Err Dial) old new = IsNotDialed old.dial new.dial × Keeps old.output new.output
 Asks peer question result old new =
     (outcome : QueryOutcome) × Exchanges peer question outcome old.dial new.dial
-    × Prints outcome result old.output new.output
+    × Prints question outcome result old.output new.output

@@ -4,9 +4,9 @@ ghost use Rattle.std.specs.Prelude.{◌≡◌, ◌≤◌, List, length, option_m
 ghost use Rattle.yp_version.specs.Rows.{Row};
 ghost use Rattle.yp_netgroup.specs.inside.Who.{lent, asked_of};
 ghost use Rattle.yp_messages.specs.Numbers.{name_max, key_max};
-ghost use Rattle.yp_client.specs.Results.{value_of, master_of, maps_of};
-ghost use Rattle.yp_client.specs.Said.{SaysBytes, SaysNames};
-ghost use Rattle.yp_client.specs.Asked.{match_call, master_call, maplist_call};
+ghost use Rattle.yp_client.specs.Results.{value_of, master_of, maps_of, taken_of};
+ghost use Rattle.yp_client.specs.Said.{SaysBytes, SaysNames, SaysStat};
+ghost use Rattle.yp_client.specs.Asked.{match_call, master_call, maplist_call, pull_call};
 ghost use Rattle.yp_client.specs.inside.States.{state_of};
 ghost use Rattle.yp_client.specs.query.Lines.{line, lines};
 ghost use Rattle.yp_client.specs.Questions.{bytes_of};
@@ -14,15 +14,17 @@ ghost use Rattle.yp_client.specs.inside.Questions.{QuestionIsWithin};
 ghost use Rattle.yp_client.specs.query.Faults.{query_fault, match_fault};
 ghost use Rattle.yp_client.specs.query.Asked.{QueryOutcome, meant_by, CallIsMade, TakesRows, Polls, IsUnlessMemory};
 ghost use Rattle.yp_client.specs.query.Asked.{Converses, rows_told, membership_told, netgroup};
+ghost use Rattle.yp_client.specs.query.Asked.{told_by, transfer_told};
 ghost use Rattle.yp_client.specs.Limits.{reply_max};
 ghost use Rattle.yp_client.specs.inside.query.Answers.{outcome_of, version_outcome};
 
 use crate::query::fault::{QueryFault, of_match};
+use crate::query::transfer::transfer_text;
 use crate::{Client, Question};
 use std::alloc::Global;
 use std::random::RandomSource;
 use yp_io::{NoMemory, Sink, Source};
-use yp_messages::Names;
+use yp_messages::{Names, ReqXfr, XfrStat};
 use yp_netgroup::laws::membership_is_decided;
 use yp_netgroup::{Who, innetgr};
 use yp_version::{Version, VersionBuilder};
@@ -32,7 +34,7 @@ use yp_version::{Version, VersionBuilder};
 pub enum Answer {
     /// The rows of a version, with their keys or without.
     Rows { version: Version, keyed: bool },
-    /// A value, or a name.
+    /// A value, a name, or the status of a transfer.
     Line(Vec<u8>),
     /// The order and the master of a map.
     Standing { order: u32, master: Vec<u8> },
@@ -70,6 +72,11 @@ pub fn ask<S: Source, K: Sink>(
         Question::Which { domain, map } => ask_master(alloc, client, domain, map),
         Question::Poll { domain, map } => ask_standing(alloc, client, domain, map),
         Question::Maps { domain } => ask_maps(client, domain),
+        Question::Pull {
+            domain,
+            map,
+            source,
+        } => ask_transfer(alloc, client, domain, map, source),
         Question::Innetgr {
             domain,
             group,
@@ -242,6 +249,42 @@ fn ask_maps<S: Source, K: Sink>(
 {
     match client.maplist(domain) {
         Ok(list) => Ok(Answer::Maps(list.maps)),
+        Err(fault) => Err(fault.into()),
+    }
+}
+
+/// Nobody is called back: transaction, program and port are 0. The server isn't told of an order that is known.
+fn ask_transfer<S: Source, K: Sink>(
+    alloc: Global,
+    client: &mut Client<S, K>,
+    domain: &[u8],
+    map: &[u8],
+    source: &[u8],
+) -> Result<Answer, QueryFault>
+    requires domain { length domain.now ≤ name_max }
+    requires map { length map.now ≤ name_max }
+    requires source { length source.now ≤ name_max }
+    ensures { CallIsMade reply_max (pull_call domain.now map.now source.now) (SaysStat taken_of)
+        (told_by query_fault (transfer_told domain.now map.now)) (outcome_of result)
+        (state_of S.Source K.Sink client.old) (state_of S.Source K.Sink client.new) }
+{
+    let request = ReqXfr {
+        domain,
+        map,
+        ordernum: 0,
+        peer: source,
+        transid: 0,
+        prog: 0,
+        port: 0,
+    };
+    match client.xfr(&request) {
+        Ok(XfrStat::Succ) => Ok(Answer::Line(transfer_text(
+            alloc,
+            domain,
+            map,
+            XfrStat::Succ,
+        )?)),
+        Ok(stat) => Err(QueryFault::NotTaken(stat)),
         Err(fault) => Err(fault.into()),
     }
 }

@@ -14,7 +14,7 @@ ghost use Rattle.yp_client.specs.inside.query.Scenes.{Dials, DialHasCause, HasQu
 
 use crate::query::answer::{Answer, ask};
 use crate::query::fault::QueryFault;
-use crate::query::print::print;
+use crate::query::print::{print, print_refusal};
 use crate::{Question, Unconnected, connect};
 use std::alloc::Global;
 use std::random::RandomSource;
@@ -80,6 +80,7 @@ fn ask_and_print<A: Dial, K: Sink>(
     match ask_dialed(alloc, rt, dial, to, question) {
         Ok(answer) => print(alloc, &answer, sink),
         Err(QueryFault::NotMember) => print(alloc, &Answer::Membership(false), sink),
+        Err(QueryFault::NotTaken(stat)) => print_refusal(alloc, question, stat, sink),
         Err(fault) => Err(fault),
     }
 }

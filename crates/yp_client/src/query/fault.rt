@@ -5,16 +5,19 @@ ghost use Rattle.yp_client.specs.query.Faults.{match_fault};
 
 use crate::ClientFault;
 use yp_io::NoMemory;
-use yp_messages::YpStat;
+use yp_messages::{XfrStat, YpStat};
 use yp_version::VersionFault;
 
-/// Why a question has no answer, or that the answer is no. Nothing was printed, but after `NotMember` and `Output`.
+/// Why a question has no answer, or that the answer is no. Nothing was printed, but after `NotMember`, `NotTaken` and
+/// `Output`.
 #[derive(Clone, Copy, Debug, PartialEq, Eq)]
 pub enum QueryFault {
     /// MATCH: the map has no such key.
     NoKey,
     /// Of a group: who was asked for is no member. That was printed.
     NotMember,
+    /// XFR: the transfer isn't taken, for this status, which is never `Succ`. That was printed.
+    NotTaken(XfrStat),
     /// The first call that was refused was refused so: never `Spent`, `NoMemory`, or `Rows` for want of memory.
     Client(ClientFault),
     /// No wire came.

@@ -5,19 +5,23 @@ ghost use Rattle.yp_io.specs.Counts.{CountsFaults, HasRisen};
 ghost use Rattle.yp_client.specs.query.Lines.{lines, row_line, rows_text, standing_text, membership_text};
 ghost use Rattle.yp_client.specs.inside.query.Printed.{Puts};
 ghost use Rattle.yp_client.specs.inside.query.Answers.{answer_text, answer_outcome, said};
+ghost use Rattle.yp_client.specs.Questions.{ByteQuestion, bytes_of};
 ghost use Rattle.yp_client.specs.query.Scenes.{Prints};
 
+use crate::Question;
 use crate::query::answer::Answer;
 use crate::query::fault::QueryFault;
 use crate::query::text::TextBuffer;
+use crate::query::transfer::transfer_text;
 use std::alloc::Global;
 use yp_io::{Failed, Sink};
-use yp_messages::Names;
+use yp_messages::{Names, XfrStat};
 use yp_version::Version;
 
 /// Prints an answer, and flushes.
 pub fn print<K: Sink>(alloc: Global, answer: &Answer, sink: &mut K) -> Result<(), QueryFault>
-    ensures prints { Prints (answer_outcome answer.now) result (K.output sink.old) (K.output sink.new) }
+    ensures prints { (question : ByteQuestion)
+        → Prints question (answer_outcome answer.now) result (K.output sink.old) (K.output sink.new) }
     ensures flushed { result ≢ Err QueryFault.Output → IsTrue (K.flushed sink.old) → IsTrue (K.flushed sink.new) }
     ensures cause { result ≡ Err QueryFault.Output → HasRisen (K.faults sink.old) (K.faults sink.new) }
     ensures faults { K.faults sink.old ≤ K.faults sink.new }
@@ -30,6 +34,29 @@ pub fn print<K: Sink>(alloc: Global, answer: &Answer, sink: &mut K) -> Result<()
     match text.end(sink) {
         Ok(()) => said(answer),
         Err(Failed) => Err(QueryFault::Output),
+    }
+}
+
+/// Prints the status that refuses a transfer.
+pub fn print_refusal<K: Sink>(
+    alloc: Global,
+    question: &Question<Vec<u8>>,
+    stat: XfrStat,
+    sink: &mut K,
+) -> Result<(), QueryFault>
+    ensures prints { Prints (bytes_of question.now) (Err (QueryFault.NotTaken stat)) result
+        (K.output sink.old) (K.output sink.new) }
+    ensures flushed { result ≢ Err QueryFault.Output → IsTrue (K.flushed sink.old) → IsTrue (K.flushed sink.new) }
+    ensures cause { result ≡ Err QueryFault.Output → HasRisen (K.faults sink.old) (K.faults sink.new) }
+    ensures faults { K.faults sink.old ≤ K.faults sink.new }
+{
+    let Question::Pull { domain, map, .. } = question else {
+        return Err(QueryFault::NotTaken(stat));
+    };
+    let line = Answer::Line(transfer_text(alloc, domain, map, stat)?);
+    match print(alloc, &line, sink) {
+        Ok(()) => Err(QueryFault::NotTaken(stat)),
+        Err(fault) => Err(fault),
     }
 }
 

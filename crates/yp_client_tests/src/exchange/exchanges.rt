@@ -13,7 +13,7 @@ use yp_board::PlainBoard;
 use yp_client::query::QueryFault;
 use yp_client::{ClientFault, Question, Row};
 use yp_io::{MemSink, MemSource, Pair};
-use yp_messages::{MapList, YpStat};
+use yp_messages::{MapList, XfrStat, YpStat};
 use yp_version::VersionBuilder;
 
 const HOSTS: Given<'static> = Given {
@@ -63,6 +63,25 @@ const SECOND_MASTER_CALL: &str =
 const MAPS_CALL: &str = "00000001 00000000 00000002 000186a4 00000002 0000000b 00000000 00000000 \
     00000000 00000000 00000003 6c616200";
 
+const PULL_CALL: &str = "00000001 00000000 00000002 000186a4 00000002 00000006 00000000 00000000 \
+    00000000 00000000 00000003 6c616200 0000000c 686f7374 732e6279 6e616d65 00000000 00000002 6d390000 \
+    00000000 00000000 00000000";
+
+const PULL_BARE_CALL: &str =
+    "00000001 00000000 00000002 000186a4 00000002 00000006 00000000 00000000 \
+    00000000 00000000 00000003 6c616200 00000004 62617265 00000000 00000002 6d390000 \
+    00000000 00000000 00000000";
+
+const PULL_NONE_CALL: &str =
+    "00000001 00000000 00000002 000186a4 00000002 00000006 00000000 00000000 \
+    00000000 00000000 00000003 6c616200 00000004 6e6f6e65 00000000 00000002 6d390000 \
+    00000000 00000000 00000000";
+
+const PULL_NODOM_CALL: &str =
+    "00000001 00000000 00000002 000186a4 00000002 00000006 00000000 00000000 \
+    00000000 00000000 00000002 6e6f0000 00000004 62617265 00000000 00000002 6d390000 \
+    00000000 00000000 00000000";
+
 // ---- questions
 
 const CAT: Fixed = Question::Cat {
@@ -108,6 +127,30 @@ const POLL_BARE: Fixed = Question::Poll {
 };
 
 const MAPS: Fixed = Question::Maps { domain: b"lab" };
+
+const PULL: Fixed = Question::Pull {
+    domain: b"lab",
+    map: b"hosts.byname",
+    source: b"m9",
+};
+
+const PULL_BARE: Fixed = Question::Pull {
+    domain: b"lab",
+    map: b"bare",
+    source: b"m9",
+};
+
+const PULL_NONE: Fixed = Question::Pull {
+    domain: b"lab",
+    map: b"none",
+    source: b"m9",
+};
+
+const PULL_NODOM: Fixed = Question::Pull {
+    domain: b"no",
+    map: b"bare",
+    source: b"m9",
+};
 
 const ANYBODY: Fixed = Question::Innetgr {
     domain: b"lab",
@@ -172,7 +215,7 @@ fn records<R: Abort>(rt: &R, alloc: Global, case: &Case) -> Vec<u8> {
     stream
 }
 
-static CASES: [Case; 12] = [
+static CASES: [Case; 17] = [
     Case {
         row: "values",
         question: CAT,
@@ -291,6 +334,51 @@ static CASES: [Case; 12] = [
             00000001 00000001 0000000c 686f7374 732e6279 6e616d65 00000000",
         result: Ok(()),
         printed: b"hosts.byname\n",
+    },
+    Case {
+        row: "a transfer that the master refuses",
+        question: PULL,
+        calls: &[&[PULL_CALL]],
+        newer: &[],
+        replies: "80000020 00000001 00000001 00000000 00000000 00000000 00000000 00000000 fffffff2",
+        result: Err(QueryFault::NotTaken(XfrStat::Refused)),
+        printed: b"lab/hosts.byname -14 REFUSED\n",
+    },
+    Case {
+        row: "a transfer once another host is the master",
+        question: PULL,
+        calls: &[],
+        newer: &[&[PULL_CALL]],
+        replies: "80000020 00000001 00000001 00000000 00000000 00000000 00000000 00000000 00000001",
+        result: Ok(()),
+        printed: b"lab/hosts.byname 1 SUCC\n",
+    },
+    Case {
+        row: "a transfer of a map without a version",
+        question: PULL_BARE,
+        calls: &[&[PULL_BARE_CALL]],
+        newer: &[],
+        replies: "80000020 00000001 00000001 00000000 00000000 00000000 00000000 00000000 00000001",
+        result: Ok(()),
+        printed: b"lab/bare 1 SUCC\n",
+    },
+    Case {
+        row: "a transfer of no map",
+        question: PULL_NONE,
+        calls: &[&[PULL_NONE_CALL]],
+        newer: &[],
+        replies: "80000020 00000001 00000001 00000000 00000000 00000000 00000000 00000000 ffffffff",
+        result: Err(QueryFault::NotTaken(XfrStat::Nomap)),
+        printed: b"lab/none -1 NOMAP\n",
+    },
+    Case {
+        row: "a transfer of no domain",
+        question: PULL_NODOM,
+        calls: &[&[PULL_NODOM_CALL]],
+        newer: &[],
+        replies: "80000020 00000001 00000001 00000000 00000000 00000000 00000000 00000000 fffffffe",
+        result: Err(QueryFault::NotTaken(XfrStat::Nodom)),
+        printed: b"no/bare -2 NODOM\n",
     },
 ];
 

@@ -225,7 +225,7 @@ pub fn query_told<A: Dial, K: Sink>(
     ensures told { (first second : Maps) (caller : Caller) (stream : List ℕ) → AreServed first → AreServed second
         → GivesReplies first second caller (bytes_of question.now) stream
         → HasCome to stream (A.past dial.old) (A.past dial.new)
-        → PrintsTold (text_told first second caller (bytes_of question.now)) result
+        → PrintsTold (bytes_of question.now) (text_told first second caller (bytes_of question.now)) result
         (K.output sink.old) (K.output sink.new) }
     ensures run { (catalogue : Catalogue) (caller : Caller) (replies : List (List ℕ)) (rest : List ℕ)
         (before after : Log)

@@ -92,7 +92,7 @@ static WRONG: [Wrong; 42] = [
 ];
 
 /// The same of sentences with addresses and hosts.
-static WRONG_ADDRESSES: [Wrong; 27] = [
+static WRONG_ADDRESSES: [Wrong; 35] = [
     (&["match", "127.0.0.1:700"], 2),
     (&["match", "127.0.0.1:700", "lab", "hosts.byname"], 4),
     (&["match", "127.0.0.1:0", "lab", "hosts.byname", "a"], 1),
@@ -109,6 +109,14 @@ static WRONG_ADDRESSES: [Wrong; 27] = [
     (&["which", "127.0.0.1:7", "lab", TOO_LONG], 3),
     (&["poll", "127.0.0.1:7", "lab", "hosts.byname", "x"], 4),
     (&["maps", "127.0.0.1:7", "lab", "hosts.byname"], 3),
+    (&["pull"], 1),
+    (&["pull", "m1", "lab", "hosts.byname", "m1"], 1),
+    (&["pull", "127.0.0.1:7", "", "hosts.byname", "m1"], 2),
+    (&["pull", "127.0.0.1:7", "lab", TOO_LONG, "m1"], 3),
+    (&["pull", "127.0.0.1:7", "lab", "hosts.byname"], 4),
+    (&["pull", "127.0.0.1:7", "lab", "hosts.byname", ""], 4),
+    (&["pull", "127.0.0.1:7", "lab", "hosts.byname", TOO_LONG], 4),
+    (&["pull", "127.0.0.1:7", "lab", "hosts.byname", "m1", "x"], 5),
     (&["innetgr", "127.0.0.1:7", TOO_LONG, "a", "*", "*", "*"], 2),
     (&["innetgr", "127.0.0.1:7", "lab", "a", "*", "*"], 6),
     (
@@ -499,7 +507,7 @@ fn at_most_64_maps(rt: HostRuntime) {
     );
 }
 
-//// What a question is, whom it asks, and the domain, the map and the key.
+/// What a question is, whom it asks, and the domain, the map, and the key or the host.
 type Asked<'a> = (&'static str, Peer, [&'a [u8]; 3]);
 
 /// The question to this server. What it doesn't name is empty.
@@ -511,6 +519,11 @@ fn asked(addr: Peer, question: &Question<Vec<u8>>) -> Asked<'_> {
         Question::Poll { domain, map } => ("poll", addr, [domain, map, b""]),
         Question::Match { domain, map, key } => ("match", addr, [domain, map, key]),
         Question::Maps { domain } => ("maps", addr, [domain, b"", b""]),
+        Question::Pull {
+            domain,
+            map,
+            source,
+        } => ("pull", addr, [domain, map, source]),
         Question::Innetgr { domain, group, .. } => ("innetgr", addr, [domain, group, b""]),
     }
 }
@@ -525,7 +538,7 @@ fn question_of(command: &Command) -> Option<Asked<'_>> {
 
 const HOSTS: [&[u8]; 3] = [b"lab", b"hosts.byname", b""];
 
-static QUESTIONS: [(&[&str], Asked); 6] = [
+static QUESTIONS: [(&[&str], Asked); 8] = [
     (
         &["cat", "127.0.0.1:700", "lab", "hosts.byname"],
         ("cat", PEER, HOSTS),
@@ -549,6 +562,14 @@ static QUESTIONS: [(&[&str], Asked); 6] = [
     (
         &["maps", "127.0.0.1:700", "lab"],
         ("maps", PEER, [b"lab", b"", b""]),
+    ),
+    (
+        &["pull", "127.0.0.1:700", "lab", "hosts.byname", "m1"],
+        ("pull", PEER, [b"lab", b"hosts.byname", b"m1"]),
+    ),
+    (
+        &["pull", "127.0.0.1:700", "lab", "a/b", LONGEST],
+        ("pull", PEER, [b"lab", b"a/b", LONGEST_BYTES]),
     ),
 ];
 

@@ -15,35 +15,39 @@ use Rattle.yp_client.specs.declared.fault.ClientFault.{ClientFault}
 use Rattle.yp_client.specs.declared.fault.ClientFault.TheVariants.{Yp, NoMemory as ClientNoMemory}
 use Rattle.yp_client.specs.Limits.{reply_max, all_max}
 use Rattle.yp_client.specs.States.{ClientState, IsFirst}
-use Rattle.yp_client.specs.Results.{Says, SaysInMemory, value_of, master_of, order_of, maps_of}
-use Rattle.yp_client.specs.Said.{SaysNumber, SaysBytes, SaysNames}
+use Rattle.yp_messages.specs.declared.transfer.XfrStat.{XfrStat}
+use Rattle.yp_messages.specs.Transfers.{xfr_number}
+use Rattle.yp_client.specs.Results.{Says, SaysInMemory, value_of, master_of, order_of, maps_of, taken_of}
+use Rattle.yp_client.specs.Said.{SaysNumber, SaysBytes, SaysNames, SaysStat}
 use Rattle.yp_client.specs.All.{AllSaid, all_said, IsSaid, SaysAll}
-use Rattle.yp_client.specs.Asked.{all_call, match_call, master_call, order_call, maplist_call}
+use Rattle.yp_client.specs.Asked.{all_call, match_call, master_call, order_call, maplist_call, pull_request, pull_call}
 use Rattle.yp_client.specs.Calls.{Calls}
 use Rattle.yp_client.specs.declared.query.fault.QueryFault.TheVariants.{Dial}
 use Rattle.yp_client.specs.declared.question.Question.TheVariants.{Cat, Catk, Match, Which, Poll, Maps as MapsOf}
-use Rattle.yp_client.specs.declared.question.Question.TheVariants.{Innetgr}
+use Rattle.yp_client.specs.declared.question.Question.TheVariants.{Innetgr, Pull}
 use Rattle.yp_client.specs.query.Lines.{line, lines, standing_text}
 use Rattle.yp_client.specs.query.Faults.{query_fault, match_fault}
 use Rattle.yp_client.specs.query.Asked.{QueryOutcome, told_by, no_rows, TakesRows, MakesMaster, MakesCalls}
-use Rattle.yp_client.specs.query.Asked.{rows_told, membership_told, netgroup}
+use Rattle.yp_client.specs.query.Asked.{rows_told, membership_told, netgroup, transfer_told}
 use Rattle.yp_client.specs.Questions.{ByteQuestion}
 use Rattle.yp_client.specs.inside.Questions.{QuestionIsWithin}
 use Rattle.yp_client.specs.query.Complete.{HasCome}
 use Rattle.yp_client.specs.query.Scenes.{Exchanges}
 use Rattle.yp_answer.specs.Maps.{Maps, map_check, row_check}
+use Rattle.yp_answer.specs.Transfer.{xfr_check}
 use Rattle.yp_answer.specs.Served.{AreServed}
-use Rattle.yp_end_to_end.specs.exchange.Told.{told, of_version, value_in, all_in, master_in, order_in, names_in}
+use Rattle.yp_end_to_end.specs.exchange.Told.{told, of_version, value_in, all_in, master_in, order_in, names_in, stat_told}
 use Rattle.yp_end_to_end.specs.inside.exchange.Told.{all_told}
 use Rattle.yp_end_to_end.specs.inside.exchange.Served.{DraftHasRoom}
 use Rattle.yp_end_to_end.specs.exchange.Answered.{standing_told, text_told, IsOutcomeOf}
 use Rattle.yp_end_to_end.specs.inside.exchange.Answered.{GivesReply, GivesStanding, GivesReplies}
 use Rattle.yp_end_to_end.specs.inside.exchange.Laws.{MatchTells, AllTells, RoomForVersion, MasterTells, OrderTells}
-use Rattle.yp_end_to_end.specs.inside.exchange.Laws.{MaplistTells}
+use Rattle.yp_end_to_end.specs.inside.exchange.Laws.{MaplistTells, PullTells}
 use Rattle.yp_end_to_end.specs.inside.exchange.QueryLaws.{CallsAreTold, QueryPrintsTold}
 use Rattle.yp_end_to_end.proofs.exchange.Sound.{IsSound, row_sound}
 use Rattle.yp_end_to_end.proofs.exchange.Hearing.{Records, Heard, IsWireFault, call_heard}
-use Rattle.yp_end_to_end.proofs.exchange.Queries.{comes_same, comes_in_memory, tells_of, says_in_memory, Passes, wire_comes, memory_comes, call_comes}
+use Rattle.yp_end_to_end.proofs.exchange.Queries.{comes_same, comes_in_memory, tells_at_once, tells_of, says_in_memory, viewed, Passes, wire_comes, memory_comes, call_means, call_comes}
+use Rattle.yp_end_to_end.proofs.exchange.Transfers.{one_stat}
 
 -- what the replies to the calls of a question say
 pub record Replies : Type 0 where
@@ -53,6 +57,7 @@ pub record Replies : Type 0 where
   pub master : MasterTells
   pub order : OrderTells
   pub names : MaplistTells
+  pub pull : PullTells
 
 -- and the laws of rows and records
 pub record Laws : Type 0 where
@@ -70,6 +75,16 @@ match_passes = record { memory = refl; reading = refl; writing = refl }
 bytes_said : (said : ℕ → List ℕ → Result (List ℕ) ClientFault) (xid : ℕ) (message : List ℕ) (answer : Result (Bor (List ℕ)) ClientFault) → SaysBytes said xid message answer
     → SaysInMemory (λ (bytes : Bor (List ℕ)). bytes.now) (said xid message) answer
 bytes_said said xid message answer says = says_in_memory (λ (bytes : Bor (List ℕ)). bytes.now) (said xid message) answer says
+
+-- nor does a status
+stat_said : (xid : ℕ) (message : List ℕ) (answer : Result XfrStat ClientFault) → SaysStat taken_of xid message answer → SaysInMemory xfr_number (taken_of xid message) answer
+stat_said xid message answer says = says_in_memory xfr_number (taken_of xid message) answer says
+
+-- the status with a number is what is told
+stat_meant : (domain map : List ℕ) (stat : XfrStat) (answer : Result XfrStat ClientFault) → viewed xfr_number answer ≡ Ok (xfr_number stat)
+    → told_by query_fault (transfer_told domain map) answer ≡ transfer_told domain map stat
+stat_meant domain map stat (Ok other) is = let same : xfr_number other ≡ xfr_number stat = cc in ap (transfer_told domain map) (one_stat other stat same)
+stat_meant domain map stat (Err fault) is = absurd cc
 
 -- ---- rows
 
@@ -219,6 +234,12 @@ module _ (laws : Laws) (first second : Maps) (peer : Peer) (stream : List ℕ) (
       (λ xid message answer says. says) fault_passes makes told_input begins.spent begins.xid
       (tells_of first peer reply_max (maplist_call domain 1) (maps_of 1) expected good.reply
       (laws.replies.names first peer 1 domain one (omega arith) within) good.good.0)
+  calls_come (Pull domain map source) within good makes =
+      let stat = stat_told (xfr_check first (pull_request domain map source)) in
+      call_means laws.records reply_max 1 stream _ good (pull_call domain map source) xfr_number taken_of (SaysStat taken_of) query_fault (transfer_told domain map) (Ok (xfr_number stat)) (transfer_told domain map stat) outcome old new
+      stat_said fault_passes (stat_meant domain map stat) makes told_input begins.spent begins.xid
+      (tells_at_once first peer reply_max (pull_call domain map source 1) (taken_of 1) (Ok (xfr_number stat)) good.reply
+      (laws.replies.pull first peer 1 domain one (omega arith) within.0 map within.1 source within.2) good.good.0)
 
 pub calls_are_told : Laws → CallsAreTold
 calls_are_told laws first second peer question stream outcome old new one other within good begins told_input (inl makes) =

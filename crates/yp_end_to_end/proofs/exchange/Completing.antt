@@ -10,11 +10,13 @@ use Rattle.yp_version.specs.Versions.{MapVersion}
 use Rattle.yp_client.specs.declared.fault.ClientFault.{ClientFault}
 use Rattle.yp_client.specs.declared.fault.ClientFault.TheVariants.{Yp, Rows, NoMemory}
 use Rattle.yp_client.specs.Limits.{reply_max, all_max}
-use Rattle.yp_client.specs.Results.{value_of, master_of, order_of, maps_of}
+use Rattle.std.proofs.Common.{ℤ}
+use Rattle.yp_messages.specs.Transfers.{xfr_number}
+use Rattle.yp_client.specs.Results.{value_of, master_of, order_of, maps_of, taken_of}
 use Rattle.yp_client.specs.All.{AllSaid, all_said}
-use Rattle.yp_client.specs.Asked.{all_call, match_call, master_call, order_call, maplist_call}
+use Rattle.yp_client.specs.Asked.{all_call, match_call, master_call, order_call, maplist_call, pull_request, pull_call}
 use Rattle.yp_client.specs.declared.question.Question.TheVariants.{Cat, Catk, Match, Which, Poll, Maps as MapsOf}
-use Rattle.yp_client.specs.declared.question.Question.TheVariants.{Innetgr}
+use Rattle.yp_client.specs.declared.question.Question.TheVariants.{Innetgr, Pull}
 use Rattle.yp_client.specs.query.Lines.{line, lines, standing_text}
 use Rattle.yp_client.specs.query.Faults.{query_fault, match_fault}
 use Rattle.yp_version.specs.Rows.{Row}
@@ -23,13 +25,14 @@ use Rattle.yp_client.specs.Questions.{ByteQuestion}
 use Rattle.yp_client.specs.inside.Questions.{QuestionIsWithin}
 use Rattle.yp_client.specs.query.Complete.{BeginsWithReply, IsValueOrNone, HasAnswer}
 use Rattle.yp_answer.specs.Maps.{Maps, map_check, row_check}
+use Rattle.yp_answer.specs.Transfer.{xfr_check}
 use Rattle.yp_answer.specs.Served.{AreServed}
-use Rattle.yp_end_to_end.specs.exchange.Told.{told, of_version, value_in, all_in, master_in, order_in, names_in}
+use Rattle.yp_end_to_end.specs.exchange.Told.{told, of_version, value_in, all_in, master_in, order_in, names_in, stat_told}
 use Rattle.yp_end_to_end.specs.inside.exchange.Told.{all_told}
 use Rattle.yp_end_to_end.specs.exchange.Answered.{standing_told, text_told}
 use Rattle.yp_end_to_end.specs.inside.exchange.Answered.{GivesReply, GivesStanding, GivesReplies, HasText}
 use Rattle.yp_end_to_end.specs.inside.exchange.QueryLaws.{ToldIsAnswered}
-use Rattle.yp_end_to_end.proofs.exchange.Queries.{tells_of}
+use Rattle.yp_end_to_end.proofs.exchange.Queries.{tells_at_once, tells_of}
 use Rattle.yp_end_to_end.proofs.exchange.Asking.{Replies, no_rows_room}
 
 -- ---- what has a text
@@ -122,6 +125,11 @@ module _ (laws : Replies) (first second : Maps) (peer : Peer) (stream : List ℕ
       let says = tells_of first peer reply_max (maplist_call domain 1) (maps_of 1) expected good.reply
       (laws.names first peer 1 domain one (omega arith) within) good.good.0 in
       given reply_max stream _ (λ reply rest. IsOk (maps_of 1 reply)) good (subst (λ (said : Result (List (List ℕ)) ClientFault). IsOk said) (sym says) (said_ok lines expected has))
+  answered (Pull domain map source) within good has =
+      let expected = Ok (xfr_number (stat_told (xfr_check first (pull_request domain map source)))) in
+      let says = tells_at_once first peer reply_max (pull_call domain map source 1) (taken_of 1) expected good.reply
+      (laws.pull first peer 1 domain one (omega arith) within.0 map within.1 source within.2) good.good.0 in
+      given reply_max stream _ (λ reply rest. IsOk (taken_of 1 reply)) good (subst (λ (said : Result ℤ ClientFault). IsOk said) (sym says) refl)
 
 pub told_is_answered : Replies → ToldIsAnswered
 told_is_answered laws first second peer question stream one other within good has = answered laws first second peer stream one other question within good has

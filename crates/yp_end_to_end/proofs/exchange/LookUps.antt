@@ -1,5 +1,5 @@
 -- The laws of the calls that look one thing up.
-use Rattle.std.proofs.Common.{◌≡◌, ℕ, ◌+◌, ◌≤◌, List, ◌++◌, length, Result, Ok, refl, sym, ap, ◌∙◌, subst, arith}
+use Rattle.std.proofs.Common.{◌≡◌, ℕ, ◌+◌, ◌≤◌, List, ◌++◌, length, Some, Result, Ok, Err, refl, sym, ap, ◌∙◌, subst, arith}
 use Rattle.std.proofs.lemmas.List.{length-append}
 use Rattle.yp_io.specs.declared.stream.Peer.{Peer}
 use Rattle.yp_xdr.specs.declared.fault.XdrFault.{XdrFault}
@@ -14,22 +14,30 @@ use Rattle.yp_messages.specs.declared.stat.YpStat.TheVariants.{Yperr}
 use Rattle.yp_messages.specs.Numbers.{program, version, domain_procedure, match_procedure, first_procedure, next_procedure, master_procedure, order_procedure, maplist_procedure, name_max, key_max}
 use Rattle.yp_messages.specs.Messages.{req_domain, req_nokey, req_key, resp_val, key_val, resp_master, resp_order}
 use Rattle.yp_messages.specs.MapLists.{map_list}
+use Rattle.yp_messages.specs.declared.transfer.XfrStat.{XfrStat}
+use Rattle.yp_messages.specs.Transfers.{xfr_number, req_xfr}
+use Rattle.yp_messages.specs.Numbers.{xfr_procedure}
 use Rattle.yp_board.specs.Catalogues.{serves}
 use Rattle.yp_client.specs.Limits.{reply_max}
+use Rattle.yp_client.specs.Asked.{pull_request}
 use Rattle.yp_answer.specs.declared.procedure.Path.{Path}
 use Rattle.yp_answer.specs.declared.procedure.Path.TheVariants.{Stream}
 use Rattle.yp_answer.specs.declared.procedure.Procedure.{Procedure}
-use Rattle.yp_answer.specs.declared.procedure.Procedure.TheVariants.{Domain, Match, First, Next, Master, Order, Maplist}
+use Rattle.yp_answer.specs.declared.procedure.Procedure.TheVariants.{Domain, Match, First, Next, Master, Order, Maplist, Xfr}
 use Rattle.yp_answer.specs.Maps.{Maps, map_check, row_check}
 use Rattle.yp_answer.specs.Procedures.{programs_on}
 use Rattle.yp_answer.specs.Results.{no_value, no_row, matched, first_row, next_row, mastered, ordered, maps_listed}
 use Rattle.yp_answer.specs.Reply.{Response, Bytes, success, look_up, with_arguments, procedure_reply, arguments_of, reply}
+use Rattle.yp_answer.specs.Reply.{reply_at_once, xfr_reply, xfr_response}
+use Rattle.yp_answer.specs.Transfer.{XfrRequest, asked_transid, xfr_check}
+use Rattle.yp_end_to_end.specs.exchange.Told.{stat_told}
 use Rattle.yp_end_to_end.specs.inside.exchange.Laws.{DomainTells, MatchTells, FirstTells, NextTells, MasterTells}
-use Rattle.yp_end_to_end.specs.inside.exchange.Laws.{OrderTells, MaplistTells}
+use Rattle.yp_end_to_end.specs.inside.exchange.Laws.{OrderTells, MaplistTells, PullTells}
 use Rattle.yp_end_to_end.proofs.exchange.Sound.{map_sound, row_sound}
 use Rattle.yp_end_to_end.proofs.exchange.Calls.{call_head, caller_of, reply_to_call, arguments_again}
 use Rattle.yp_end_to_end.proofs.exchange.Found.{matched_said, matched_short, FitsRow, first_said, first_fits, next_said, next_fits, master_said, mastered_short, order_said}
 use Rattle.yp_end_to_end.proofs.exchange.Names.{names_within, names_said, served_said}
+use Rattle.yp_end_to_end.proofs.exchange.Transfers.{taken_said}
 use Rattle.yp_end_to_end.proofs.exchange.Lengths.{opaque_short, length-success}
 
 -- arguments within their limits
@@ -132,3 +140,27 @@ maplist_tells law calls maps peer xid domain served x d = record {
   within = subst (λ n. n ≤ reply_max) (sym (length-success xid map_list (maps_listed maps domain))) (names_within maps domain served);
   says = names_said law maps xid domain served x;
 }
+
+-- a request of `pull`
+pull_fits : (domain map source : List ℕ) → length domain ≤ name_max → length map ≤ name_max → length source ≤ name_max → Fits req_xfr (pull_request domain map source)
+pull_fits domain map source d m s =
+    (domain_fits domain d, (domain_fits map m, (omega arith, (domain_fits source s, (omega arith, (omega arith, omega arith))))))
+
+-- the reply to XFR goes out at once, whether or not a transfer is taken
+replied_at_once : (xid : ℕ) (asked : XfrRequest) (checked : Result ℕ XfrStat)
+    → reply_at_once (xfr_response xid asked checked) ≡ Some (xfr_reply xid (asked_transid asked) (stat_told checked))
+replied_at_once xid asked (Ok map) = refl
+replied_at_once xid asked (Err stat) = refl
+
+pub pull_tells : WrittenIsReadAgain → CallIsHeardAgain → PullTells
+pull_tells law calls maps peer xid domain served x d map m source s =
+    let asked = pull_request domain map source in
+    let stat = stat_told (xfr_check maps asked) in
+    record {
+      bytes = xfr_reply xid 0 stat;
+      replied = ap reply_at_once (replied_to law calls Stream maps peer req_xfr xid xfr_procedure asked Xfr
+          (λ request. xfr_response xid request (xfr_check maps request)) x (omega arith) refl (pull_fits domain map source d m s) refl)
+          ∙ replied_at_once xid asked (xfr_check maps asked);
+      within = omega arith;
+      says = taken_said law xid stat x;
+    }

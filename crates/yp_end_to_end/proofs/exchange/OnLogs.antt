@@ -1,5 +1,5 @@
 -- The laws of a server's run on logs.
-use Rattle.std.proofs.Common.{◌≡◌, ℕ, ◌≤◌, List, [], ◌∷◌, length, Option, Some, Result, Ok, Err, sym, ◌∙◌, subst, arith, All}
+use Rattle.std.proofs.Common.{◌≡◌, ℕ, ◌≤◌, List, [], ◌∷◌, length, Option, Some, Result, Ok, Err, sym, ap, ◌∙◌, subst, arith, All}
 use Rattle.std.specs.List.{cons_option}
 use Rattle.std.proofs.lemmas.List.{append-nil}
 use Rattle.std.proofs.lemmas.List.Elements.{All-nil, All-cons, All-head, All-tail}
@@ -9,13 +9,14 @@ use Rattle.yp_board.specs.Logs.{Log}
 use Rattle.yp_board.specs.Views.{IsFront}
 use Rattle.yp_client.specs.declared.fault.ClientFault.{ClientFault}
 use Rattle.yp_client.specs.Results.{order_of}
-use Rattle.yp_client.specs.Asked.{all_call, match_call, master_call, order_call, maplist_call}
+use Rattle.yp_client.specs.Asked.{all_call, match_call, master_call, order_call, maplist_call, pull_call}
 use Rattle.yp_client.specs.declared.question.Question.TheVariants.{Cat, Catk, Match, Which, Poll, Maps as MapsOf}
-use Rattle.yp_client.specs.declared.question.Question.TheVariants.{Innetgr}
+use Rattle.yp_client.specs.declared.question.Question.TheVariants.{Innetgr, Pull}
 use Rattle.yp_client.specs.Questions.{ByteQuestion}
 use Rattle.yp_client.specs.inside.Questions.{QuestionIsWithin}
 use Rattle.yp_answer.specs.declared.procedure.Path.TheVariants.{Stream}
-use Rattle.yp_answer.specs.Reply.{Response, Bytes, reply}
+use Rattle.yp_answer.specs.Maps.{Maps}
+use Rattle.yp_answer.specs.Reply.{Response, Silence, Bytes, Takes, Open, reply, reply_at_once}
 use Rattle.yp_answer.specs.Served.{maps_on}
 use Rattle.yp_client.specs.query.Asked.{netgroup}
 use Rattle.yp_answer.specs.session.Hosts.{Turn}
@@ -24,9 +25,9 @@ use Rattle.yp_end_to_end.specs.exchange.Runs.{behind_order, poll_calls, calls_ma
 use Rattle.yp_end_to_end.specs.inside.exchange.Runs.{RepliesInTurn, RepliesOn}
 use Rattle.yp_end_to_end.specs.inside.exchange.QueryLaws.{RunIsPrinted}
 use Rattle.yp_end_to_end.specs.exchange.LogRuns.{records_of, replies_of, AnsweredOn}
-use Rattle.yp_end_to_end.specs.inside.exchange.LogRuns.{IsRepliedTo}
+use Rattle.yp_end_to_end.specs.inside.exchange.LogRuns.{RepliesAtOnce, GetsReply, IsRepliedTo}
 use Rattle.yp_end_to_end.specs.inside.exchange.RunLaws.{MatchHasReply, AllHasReply, MasterHasReply, OrderHasReply}
-use Rattle.yp_end_to_end.specs.inside.exchange.RunLaws.{MaplistHasReply, RunIsInTurn, RunIsOnLogs}
+use Rattle.yp_end_to_end.specs.inside.exchange.RunLaws.{MaplistHasReply, PullHasReply, RunIsInTurn, RunIsOnLogs}
 use Rattle.yp_end_to_end.specs.inside.exchange.RunLaws.{LogRunIsPrinted}
 use Rattle.yp_end_to_end.proofs.exchange.Running.{front_then, served_before}
 
@@ -47,8 +48,11 @@ log_front catalogue peer (turn ∷ turns) before after run =
     front_then before run.0 after (front_then before run.1.log run.0 run.1.begins run.1.goes_on) (log_front catalogue peer turns run.0 after run.2)
 
 -- a reply at once is what a record got
-gets_bytes : (own : List ℕ) (response : Response) (bytes : List ℕ) (answer : Option (List ℕ)) (log next : Log) → response ≡ Bytes bytes → Gets own response answer log next → answer ≡ Some bytes
-gets_bytes own response bytes answer log next is gets = subst (λ (r : Response). Gets own r answer log next) is gets
+gets_bytes : (own : List ℕ) (response : Response) (bytes : List ℕ) (answer : Option (List ℕ)) (log next : Log) → reply_at_once response ≡ Some bytes → Gets own response answer log next → answer ≡ Some bytes
+gets_bytes own Silence bytes answer log next is gets = absurd cc
+gets_bytes own (Bytes reply) bytes answer log next is gets = gets ∙ is
+gets_bytes own (Takes reply taken) bytes answer log next is gets = gets ∙ is
+gets_bytes own (Open xid job) bytes answer log next is gets = absurd cc
 
 pub run_is_in_turn : RunIsInTurn
 run_is_in_turn catalogue peer [] before after served run all = log_front catalogue peer [] before after run
@@ -112,17 +116,22 @@ pub record Replied : Type 0 where
   pub master : MasterHasReply
   pub order : OrderHasReply
   pub names : MaplistHasReply
+  pub pull : PullHasReply
+
+-- a reply behind which no transfer is taken is one
+pub gets_reply : (maps : Maps) (peer : Peer) (message : List ℕ) → RepliesAtOnce maps peer message → GetsReply maps peer message
+gets_reply maps peer message one = (one.0, ap reply_at_once one.1)
 
 module _ (laws : Replied) (peer : Peer) where
   one_call : (call : List ℕ) → IsRepliedTo peer call → All (IsRepliedTo peer) (call ∷ [])
   one_call call is = All-cons (IsRepliedTo peer) call [] is (All-nil (IsRepliedTo peer))
 
   behind_replied : (domain map : List ℕ) (said : Result ℕ ClientFault) → length domain ≤ 64 → length map ≤ 64 → All (IsRepliedTo peer) (behind_order (master_call domain map 2) said)
-  behind_replied domain map (Ok order) d m = one_call (master_call domain map 2) (λ maps served. laws.master maps peer 2 domain served (omega arith) d map m)
+  behind_replied domain map (Ok order) d m = one_call (master_call domain map 2) (λ maps served. gets_reply maps peer (master_call domain map 2) (laws.master maps peer 2 domain served (omega arith) d map m))
   behind_replied domain map (Err fault) d m = All-nil (IsRepliedTo peer)
 
   order_replied : (domain map : List ℕ) → length domain ≤ 64 → length map ≤ 64 → IsRepliedTo peer (order_call domain map 1)
-  order_replied domain map d m maps served = laws.order maps peer 1 domain served (omega arith) d map m
+  order_replied domain map d m maps served = gets_reply maps peer (order_call domain map 1) (laws.order maps peer 1 domain served (omega arith) d map m)
 
   poll_replied : (domain map : List ℕ) (replies : List (List ℕ)) → length domain ≤ 64 → length map ≤ 64 → All (IsRepliedTo peer) (poll_calls domain map replies)
   poll_replied domain map [] d m = one_call (order_call domain map 1) (order_replied domain map d m)
@@ -130,13 +139,14 @@ module _ (laws : Replied) (peer : Peer) where
       All-cons (IsRepliedTo peer) (order_call domain map 1) (behind_order (master_call domain map 2) (order_of 1 bytes)) (order_replied domain map d m) (behind_replied domain map (order_of 1 bytes) d m)
 
   calls_replied : (question : ByteQuestion) (replies : List (List ℕ)) → QuestionIsWithin question → All (IsRepliedTo peer) (calls_made question replies)
-  calls_replied (Cat domain map) replies within = one_call (all_call domain map 1) (λ maps served. laws.all maps peer 1 domain served (omega arith) within.0 map within.1)
-  calls_replied (Catk domain map) replies within = one_call (all_call domain map 1) (λ maps served. laws.all maps peer 1 domain served (omega arith) within.0 map within.1)
-  calls_replied (Innetgr domain group host user user_domain) replies within = one_call (all_call domain netgroup 1) (λ maps served. laws.all maps peer 1 domain served (omega arith) within netgroup (omega arith))
-  calls_replied (Match domain map key) replies within = one_call (match_call domain map key 1) (λ maps served. laws.value maps peer 1 domain served (omega arith) within.0 map within.1 key within.2)
-  calls_replied (Which domain map) replies within = one_call (master_call domain map 1) (λ maps served. laws.master maps peer 1 domain served (omega arith) within.0 map within.1)
+  calls_replied (Cat domain map) replies within = one_call (all_call domain map 1) (λ maps served. gets_reply maps peer (all_call domain map 1) (laws.all maps peer 1 domain served (omega arith) within.0 map within.1))
+  calls_replied (Catk domain map) replies within = one_call (all_call domain map 1) (λ maps served. gets_reply maps peer (all_call domain map 1) (laws.all maps peer 1 domain served (omega arith) within.0 map within.1))
+  calls_replied (Innetgr domain group host user user_domain) replies within = one_call (all_call domain netgroup 1) (λ maps served. gets_reply maps peer (all_call domain netgroup 1) (laws.all maps peer 1 domain served (omega arith) within netgroup (omega arith)))
+  calls_replied (Match domain map key) replies within = one_call (match_call domain map key 1) (λ maps served. gets_reply maps peer (match_call domain map key 1) (laws.value maps peer 1 domain served (omega arith) within.0 map within.1 key within.2))
+  calls_replied (Which domain map) replies within = one_call (master_call domain map 1) (λ maps served. gets_reply maps peer (master_call domain map 1) (laws.master maps peer 1 domain served (omega arith) within.0 map within.1))
   calls_replied (Poll domain map) replies within = poll_replied domain map replies within.0 within.1
-  calls_replied (MapsOf domain) replies within = one_call (maplist_call domain 1) (λ maps served. laws.names maps peer 1 domain served (omega arith) within)
+  calls_replied (MapsOf domain) replies within = one_call (maplist_call domain 1) (λ maps served. gets_reply maps peer (maplist_call domain 1) (laws.names maps peer 1 domain served (omega arith) within))
+  calls_replied (Pull domain map source) replies within = one_call (pull_call domain map source 1) (λ maps served. laws.pull maps peer 1 domain served (omega arith) within.0 map within.1 source within.2)
 
 pub log_run_is_printed : Replied → RunIsInTurn → RunIsPrinted → LogRunIsPrinted
 log_run_is_printed replied in_turn printed catalogue server caller question turns rest before after result old new within answers came asks =

@@ -9,10 +9,9 @@ use Rattle.yp_client.specs.declared.query.fault.QueryFault.{QueryFault}
 use Rattle.yp_client.specs.declared.query.fault.QueryFault.TheVariants.{Client, NoMemory}
 use Rattle.yp_client.specs.query.Asked.{QueryOutcome, told_by, meant_by, IsInMemory, CallIsMade}
 use Rattle.yp_client.specs.query.Complete.{BeginsWithReply}
-use Rattle.yp_answer.specs.declared.procedure.Path.TheVariants.{Stream}
 use Rattle.yp_answer.specs.Maps.{Maps}
-use Rattle.yp_answer.specs.Reply.{Bytes, reply}
-use Rattle.yp_end_to_end.specs.inside.exchange.Served.{ReplyTells}
+use Rattle.yp_answer.specs.Reply.{reply_at_once}
+use Rattle.yp_end_to_end.specs.inside.exchange.Served.{ReplyTells, RepliesWith, RepliesTelling}
 use Rattle.yp_end_to_end.specs.exchange.Answered.{IsOutcomeOf}
 use Rattle.yp_end_to_end.proofs.exchange.Hearing.{Records, IsWireFault, call_heard}
 
@@ -34,11 +33,22 @@ comes_in_memory expected meant (Err fault) comes is = subst (IsOutcomeOf expecte
 -- ---- what is said
 
 -- the reply of a server says what is told
-pub tells_of : {V : Type 0} (maps : Maps) (peer : Peer) (limit : ℕ) (call : List ℕ) (said : List ℕ → V) (expected : V) (bytes : List ℕ) → ReplyTells maps peer limit call said expected
-    → reply Stream maps peer call ≡ Bytes bytes → said bytes ≡ expected
-tells_of maps peer limit call said expected bytes tells replied =
-    let same : bytes ≡ tells.bytes = let e : Bytes bytes ≡ Bytes tells.bytes = sym replied ∙ tells.replied in cc in
+pub tells_at_once : {V : Type 0} (maps : Maps) (peer : Peer) (limit : ℕ) (call : List ℕ) (said : List ℕ → V) (expected : V) (bytes : List ℕ) → RepliesTelling maps peer limit call said expected
+    → RepliesWith maps peer call bytes → said bytes ≡ expected
+tells_at_once maps peer limit call said expected bytes tells replied =
+    let same : bytes ≡ tells.bytes = let e : Some bytes ≡ Some tells.bytes = sym replied ∙ tells.replied in cc in
     ap said same ∙ tells.says
+
+-- a reply behind which no transfer is taken is one
+pub at_once : {V : Type 0} (maps : Maps) (peer : Peer) (limit : ℕ) (call : List ℕ) (said : List ℕ → V) (expected : V) → ReplyTells maps peer limit call said expected
+    → RepliesTelling maps peer limit call said expected
+at_once maps peer limit call said expected tells =
+    record { bytes = tells.bytes; replied = ap reply_at_once tells.replied; within = tells.within; says = tells.says }
+
+pub tells_of : {V : Type 0} (maps : Maps) (peer : Peer) (limit : ℕ) (call : List ℕ) (said : List ℕ → V) (expected : V) (bytes : List ℕ) → ReplyTells maps peer limit call said expected
+    → RepliesWith maps peer call bytes → said bytes ≡ expected
+tells_of maps peer limit call said expected bytes tells replied =
+    tells_at_once maps peer limit call said expected bytes (at_once maps peer limit call said expected tells) replied
 
 -- an answer, seen by view
 abbrev pub viewed : {X V : Type 0} → (X → V) → Result X ClientFault → Result V ClientFault
@@ -84,18 +94,26 @@ memory_comes expected refused means answer passes is =
 abbrev pub IsSaidInMemory : {X V : Type 0} → (X → V) → (ℕ → List ℕ → Result V ClientFault) → (ℕ → List ℕ → Result X ClientFault → Type 0) → Type 0
 IsSaidInMemory {X} view said answers = (xid : ℕ) (message : List ℕ) (answer : Result X ClientFault) → answers xid message answer → SaysInMemory view (said xid message) answer
 
+pub call_means : Records → {X V : Type 0} (limit n : ℕ) (stream : List ℕ) (P : List ℕ → List ℕ → Type 0) (good : BeginsWithReply limit stream P) (call : ℕ → List ℕ) (view : X → V) (said : ℕ → List ℕ → Result V ClientFault)
+    (answers : ℕ → List ℕ → Result X ClientFault → Type 0) (refused : ClientFault → QueryFault) (means : X → QueryOutcome) (expected : Result V ClientFault) (to outcome : QueryOutcome) (old new : ClientState)
+    → IsSaidInMemory view said answers → Passes refused → ((answer : Result X ClientFault) → viewed view answer ≡ expected → told_by refused means answer ≡ to) → CallIsMade limit call answers (told_by refused means) outcome old new
+    → old.wire.input ≡ Some stream → old.spent ≡ false → old.xid ≡ n → said n good.reply ≡ expected → IsOutcomeOf to outcome
+call_means laws {X} {V} limit n stream P good call view said answers refused means expected to outcome old new in_words passes meant makes told fresh number says =
+    comes_in_memory to (told_by refused means makes.answer) outcome
+    (elim (call_heard laws limit stream P good call answers old new told makes.answer makes.calls fresh) [
+      | inr failed ↦ wire_comes to refused means makes.answer passes failed
+      | inl heard ↦ elim (in_memory view (said old.xid good.reply) makes.answer (in_words old.xid good.reply makes.answer heard.by_reply)) [
+        | inr none ↦ memory_comes to refused means makes.answer passes none
+        | inl is ↦ comes_same to (told_by refused means makes.answer)
+            (meant makes.answer (sym is ∙ ap (λ (xid : ℕ). said xid good.reply) number ∙ says))
+      ]
+    ]) makes.meant
+
+-- the same, where each value has a text
 pub call_comes : Records → {X V : Type 0} (limit n : ℕ) (stream : List ℕ) (P : List ℕ → List ℕ → Type 0) (good : BeginsWithReply limit stream P) (call : ℕ → List ℕ) (view : X → V) (said : ℕ → List ℕ → Result V ClientFault)
     (answers : ℕ → List ℕ → Result X ClientFault → Type 0) (refused : ClientFault → QueryFault) (text : V → List ℕ) (expected : Result V ClientFault) (outcome : QueryOutcome) (old new : ClientState)
     → IsSaidInMemory view said answers → Passes refused → CallIsMade limit call answers (meant_by refused (λ x. text (view x))) outcome old new
     → old.wire.input ≡ Some stream → old.spent ≡ false → old.xid ≡ n → said n good.reply ≡ expected → IsOutcomeOf (meant_by refused text expected) outcome
 call_comes laws {X} {V} limit n stream P good call view said answers refused text expected outcome old new means passes makes told fresh number says =
-    let to = meant_by refused text expected in
-    comes_in_memory to (meant_by refused (λ x. text (view x)) makes.answer) outcome
-    (elim (call_heard laws limit stream P good call answers old new told makes.answer makes.calls fresh) [
-      | inr failed ↦ wire_comes to refused (λ x. Ok (text (view x))) makes.answer passes failed
-      | inl heard ↦ elim (in_memory view (said old.xid good.reply) makes.answer (means old.xid good.reply makes.answer heard.by_reply)) [
-        | inr none ↦ memory_comes to refused (λ x. Ok (text (view x))) makes.answer passes none
-        | inl is ↦ comes_same to (meant_by refused (λ x. text (view x)) makes.answer)
-            (meant_viewed view refused text makes.answer ∙ ap (meant_by refused text) (sym is ∙ ap (λ (xid : ℕ). said xid good.reply) number ∙ says))
-      ]
-    ]) makes.meant
+    call_means laws limit n stream P good call view said answers refused (λ x. Ok (text (view x))) expected (meant_by refused text expected) outcome old new means passes
+    (λ answer is. meant_viewed view refused text answer ∙ ap (meant_by refused text) is) makes told fresh number says

@@ -1,5 +1,5 @@
 -- The law of a server that answers the calls of a question in turn.
-use Rattle.std.proofs.Common.{◌≡◌, ℕ, ◌≤◌, List, [], ◌∷◌, ◌++◌, length, Result, Ok, Err, refl, sym, ap, ◌∙◌, subst, arith, append_assoc, All}
+use Rattle.std.proofs.Common.{◌≡◌, ℕ, ◌≤◌, List, [], ◌∷◌, ◌++◌, length, Some, Result, Ok, Err, refl, sym, ap, ◌∙◌, subst, arith, append_assoc, All}
 use Rattle.std.specs.Prelude.{⊤, IsOk}
 use Rattle.std.proofs.lemmas.List.{append-nil}
 use Rattle.std.proofs.lemmas.List.Elements.{All-nil, All-cons, All-head, All-tail}
@@ -12,27 +12,27 @@ use Rattle.yp_board.specs.Logs.{Log}
 use Rattle.yp_board.specs.Views.{IsFront}
 use Rattle.yp_client.specs.declared.fault.ClientFault.{ClientFault}
 use Rattle.yp_client.specs.Limits.{reply_max, all_max}
-use Rattle.yp_client.specs.Results.{value_of, master_of, order_of, maps_of}
+use Rattle.yp_client.specs.Results.{value_of, master_of, order_of, maps_of, taken_of}
 use Rattle.yp_client.specs.All.{all_said}
-use Rattle.yp_client.specs.Asked.{all_call, match_call, master_call, order_call, maplist_call}
+use Rattle.yp_client.specs.Asked.{all_call, match_call, master_call, order_call, maplist_call, pull_request, pull_call}
+use Rattle.yp_messages.specs.Transfers.{xfr_number}
 use Rattle.yp_client.specs.declared.question.Question.TheVariants.{Cat, Catk, Match, Which, Poll, Maps as MapsOf}
-use Rattle.yp_client.specs.declared.question.Question.TheVariants.{Innetgr}
+use Rattle.yp_client.specs.declared.question.Question.TheVariants.{Innetgr, Pull}
 use Rattle.yp_client.specs.query.Asked.{no_rows, netgroup}
 use Rattle.yp_client.specs.Questions.{ByteQuestion}
 use Rattle.yp_client.specs.inside.Questions.{QuestionIsWithin}
-use Rattle.yp_answer.specs.declared.procedure.Path.TheVariants.{Stream}
 use Rattle.yp_answer.specs.Maps.{Maps, map_check, row_check}
-use Rattle.yp_answer.specs.Reply.{Bytes, reply}
+use Rattle.yp_answer.specs.Transfer.{xfr_check}
 use Rattle.yp_answer.specs.Served.{AreServed, maps_on}
-use Rattle.yp_end_to_end.specs.exchange.Told.{told, of_version, value_in, order_in, master_in, names_in}
+use Rattle.yp_end_to_end.specs.exchange.Told.{told, of_version, value_in, order_in, master_in, names_in, stat_told}
 use Rattle.yp_end_to_end.specs.inside.exchange.Told.{all_told}
-use Rattle.yp_end_to_end.specs.inside.exchange.Served.{ReplyTells}
+use Rattle.yp_end_to_end.specs.inside.exchange.Served.{ReplyTells, RepliesWith, RepliesTelling}
 use Rattle.yp_end_to_end.specs.inside.exchange.Answered.{GivesReply, GivesReplies}
 use Rattle.yp_end_to_end.specs.exchange.Runs.{sent_all, behind_order, calls_made}
 use Rattle.yp_end_to_end.specs.inside.exchange.Runs.{RepliesInTurn}
 use Rattle.yp_end_to_end.specs.inside.exchange.QueryLaws.{QueryPrintsTold, RunIsPrinted}
 use Rattle.yp_end_to_end.proofs.exchange.Sent.{sent_is_whole}
-use Rattle.yp_end_to_end.proofs.exchange.Queries.{tells_of}
+use Rattle.yp_end_to_end.proofs.exchange.Queries.{at_once, tells_of}
 use Rattle.yp_end_to_end.proofs.exchange.Asking.{Replies, no_rows_room}
 
 -- what the replies to the calls say, and what a question prints
@@ -70,9 +70,9 @@ run_front catalogue peer (call ∷ calls) (bytes ∷ replies) old new run = fron
 
 -- a reply that was sent is given, whole
 sent_gives : {V : Type 0} (maps : Maps) (peer : Peer) (limit : ℕ) (call : List ℕ) (said : List ℕ → V) (expected : V) (bytes : List ℕ) (replies : List (List ℕ)) (rest : List ℕ) (P : List ℕ → Type 0)
-    → ReplyTells maps peer limit call said expected → reply Stream maps peer call ≡ Bytes bytes → P (sent_all replies ++ rest) → GivesReply maps peer limit call (sent_all (bytes ∷ replies) ++ rest) P
+    → RepliesTelling maps peer limit call said expected → RepliesWith maps peer call bytes → P (sent_all replies ++ rest) → GivesReply maps peer limit call (sent_all (bytes ∷ replies) ++ rest) P
 sent_gives maps peer limit call said expected bytes replies rest P tells replied then =
-    let same : tells.bytes ≡ bytes = let e : Bytes tells.bytes ≡ Bytes bytes = sym tells.replied ∙ replied in cc in
+    let same : tells.bytes ≡ bytes = let e : Some tells.bytes ≡ Some bytes = sym tells.replied ∙ replied in cc in
     record {
       reply = bytes;
       bytes = sent bytes;
@@ -90,7 +90,7 @@ record AnsweredOnce (catalogue : Catalogue) (peer : Peer) (call : List ℕ) (rep
   log : Log
   begins : IsFront old log
   ends : IsFront log new
-  replied : reply Stream (maps_on catalogue log) peer call ≡ Bytes bytes
+  replied : RepliesWith (maps_on catalogue log) peer call bytes
   one : replies ≡ bytes ∷ []
 
 answered_once : (catalogue : Catalogue) (peer : Peer) (call : List ℕ) (replies : List (List ℕ)) (old new : Log) → RepliesInTurn catalogue peer (call ∷ []) replies old new
@@ -99,12 +99,18 @@ answered_once catalogue peer call [] old new run = absurd run
 answered_once catalogue peer call (bytes ∷ []) old new run = record { bytes = bytes; log = run.0; begins = run.1; ends = run.3; replied = run.2; one = refl }
 answered_once catalogue peer call (bytes ∷ other ∷ replies) old new run = absurd run.3
 
+gives_telling : {V : Type 0} (catalogue : Catalogue) (peer : Peer) (limit : ℕ) (call : List ℕ) (said : List ℕ → V) (expected : V) (replies : List (List ℕ)) (rest : List ℕ) (old new : Log)
+    (once : AnsweredOnce catalogue peer call replies old new) → RepliesTelling (maps_on catalogue once.log) peer limit call said expected
+    → GivesReply (maps_on catalogue once.log) peer limit call (sent_all replies ++ rest) (λ behind. ⊤)
+gives_telling catalogue peer limit call said expected replies rest old new once tells =
+    subst (λ (all : List (List ℕ)). GivesReply (maps_on catalogue once.log) peer limit call (sent_all all ++ rest) (λ behind. ⊤)) (sym once.one)
+    (sent_gives (maps_on catalogue once.log) peer limit call said expected once.bytes [] rest (λ behind. ⊤) tells once.replied tt)
+
 gives_once : {V : Type 0} (catalogue : Catalogue) (peer : Peer) (limit : ℕ) (call : List ℕ) (said : List ℕ → V) (expected : V) (replies : List (List ℕ)) (rest : List ℕ) (old new : Log)
     (once : AnsweredOnce catalogue peer call replies old new) → ReplyTells (maps_on catalogue once.log) peer limit call said expected
     → GivesReply (maps_on catalogue once.log) peer limit call (sent_all replies ++ rest) (λ behind. ⊤)
 gives_once catalogue peer limit call said expected replies rest old new once tells =
-    subst (λ (all : List (List ℕ)). GivesReply (maps_on catalogue once.log) peer limit call (sent_all all ++ rest) (λ behind. ⊤)) (sym once.one)
-    (sent_gives (maps_on catalogue once.log) peer limit call said expected once.bytes [] rest (λ behind. ⊤) tells once.replied tt)
+    gives_telling catalogue peer limit call said expected replies rest old new once (at_once (maps_on catalogue once.log) peer limit call said expected tells)
 
 -- ---- poll
 
@@ -197,6 +203,13 @@ module _ (laws : Laws) (catalogue : Catalogue) (peer : Peer) (rest : List ℕ) (
       once_between catalogue peer (MapsOf domain) call _ replies old new once
       (gives_once catalogue peer reply_max call (maps_of 1) (told (names_in maps domain)) replies rest old new once
       (laws.replies.names maps peer 1 domain (served_before catalogue once.log new once.ends served) (omega arith) within))
+  run_answers (Pull domain map source) replies within run =
+      let call = pull_call domain map source 1 in
+      let once = answered_once catalogue peer call replies old new run in
+      let maps = maps_on catalogue once.log in
+      once_between catalogue peer (Pull domain map source) call _ replies old new once
+      (gives_telling catalogue peer reply_max call (taken_of 1) (Ok (xfr_number (stat_told (xfr_check maps (pull_request domain map source))))) replies rest old new once
+      (laws.replies.pull maps peer 1 domain (served_before catalogue once.log new once.ends served) (omega arith) within.0 map within.1 source within.2))
   run_answers (Poll domain map) [] within run = absurd run
   run_answers (Poll domain map) (bytes ∷ replies) within run =
       let call = order_call domain map 1 in
@@ -215,7 +228,8 @@ module _ (laws : Laws) (catalogue : Catalogue) (peer : Peer) (rest : List ℕ) (
         grows = second.begins;
         ends = second.ends;
         answers = sent_gives maps peer reply_max call (order_of 1) told_order bytes replies rest
-            (λ behind. IsOk held → GivesReply (maps_on catalogue second.log) peer reply_max (master_call domain map 2) behind (λ end. ⊤)) tells run.2 second.gives;
+            (λ behind. IsOk held → GivesReply (maps_on catalogue second.log) peer reply_max (master_call domain map 2) behind (λ end. ⊤))
+            (at_once maps peer reply_max call (order_of 1) told_order tells) run.2 second.gives;
       }
 
 pub run_is_printed : Laws → RunIsPrinted

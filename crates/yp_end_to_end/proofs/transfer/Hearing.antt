@@ -1,11 +1,11 @@
 -- What the replies of a server say where a fetch reads them.
-use Rattle.std.proofs.Common.{◌≡◌, ℕ, List, Result, sym, ap, ◌∙◌, subst, inl, inr}
+use Rattle.std.proofs.Common.{◌≡◌, ℕ, List, Some, Result, sym, ap, ◌∙◌, subst, inl, inr}
 use Rattle.yp_io.specs.declared.stream.Peer.{Peer}
 use Rattle.yp_rpc.specs.Records.{IsUnfinished, IsRest}
 use Rattle.yp_rpc.specs.inside.Laws.{FirstIsOne, RestIsNotWhole}
 use Rattle.yp_answer.specs.declared.procedure.Path.TheVariants.{Stream}
 use Rattle.yp_answer.specs.Maps.{Maps}
-use Rattle.yp_answer.specs.Reply.{Bytes, reply}
+use Rattle.yp_answer.specs.Reply.{Bytes, reply, reply_at_once}
 use Rattle.yp_client.specs.declared.fault.ClientFault.{ClientFault}
 use Rattle.yp_end_to_end.specs.inside.exchange.Served.{ReplyTells}
 use Rattle.yp_end_to_end.specs.inside.exchange.Answered.{GivesReply}
@@ -50,7 +50,7 @@ module _ (laws : Records) {V : Type 0} (maps : Maps) (peer : Peer) (limit : ℕ)
       (subst (IsRest limit) gives.whole (unreplied_is_rest limit answer old none.0)))
 
   same_reply : (bytes : List ℕ) → reply Stream maps peer call ≡ Bytes bytes → bytes ≡ gives.reply
-  same_reply bytes is = let both : Bytes bytes ≡ Bytes gives.reply = sym is ∙ gives.good.0 in cc
+  same_reply bytes is = let both : Some bytes ≡ Some gives.reply = sym (ap reply_at_once is) ∙ gives.good.0 in cc
 
   -- the answer is what is told
   pub told_answer : (expected : Result V ClientFault) → ReplyTells maps peer limit call (said old.xid) expected

@@ -8,11 +8,13 @@ use Rattle.yp_version.specs.Versions.{MapVersion}
 use Rattle.yp_client.specs.Asked.{order_call, master_call, all_call}
 use Rattle.yp_client.specs.query.Complete.{HasCome}
 use Rattle.yp_board.specs.Logs.{Log}
+use Rattle.yp_answer.specs.Maps.{Maps}
+use Rattle.yp_answer.specs.Reply.{reply_at_once}
 use Rattle.yp_answer.specs.Served.{AreServed, maps_on}
 use Rattle.yp_end_to_end.specs.exchange.Runs.{sent_all}
 use Rattle.yp_end_to_end.specs.inside.exchange.Runs.{RepliesOn}
 use Rattle.yp_end_to_end.specs.exchange.LogRuns.{replies_of}
-use Rattle.yp_end_to_end.specs.inside.exchange.LogRuns.{IsRepliedTo}
+use Rattle.yp_end_to_end.specs.inside.exchange.LogRuns.{RepliesAtOnce, GetsReply, IsRepliedTo}
 use Rattle.yp_end_to_end.specs.inside.exchange.RunLaws.{AllHasReply, MasterHasReply, OrderHasReply, RunIsOnLogs}
 use Rattle.yp_io.specs.Counts.{HasRisen}
 use Rattle.yp_transfer.specs.declared.fault.XfrFault.{XfrFault}
@@ -103,16 +105,23 @@ pub record Replied : Type 0 where
   pub master : MasterHasReply
   pub all : AllHasReply
 
+gets_reply : (maps : Maps) (peer : Peer) (message : List ℕ) → RepliesAtOnce maps peer message
+    → GetsReply maps peer message
+gets_reply maps peer message one = (one.0, ap reply_at_once one.1)
+
 module _ (laws : Replied) (peer : Peer) where
   pub fetch_replied : (domain map : List ℕ) → length domain ≤ 64 → length map ≤ 64
       → All (IsRepliedTo peer) (fetch_calls domain map 1)
   fetch_replied domain map d m =
       let order : (xid : ℕ) → xid ≤ 4 → IsRepliedTo peer (order_call domain map xid) =
-      λ xid few maps served. laws.order maps peer xid domain served (omega (arith, few)) d map m in
+      λ xid few maps served. gets_reply maps peer (order_call domain map xid)
+      (laws.order maps peer xid domain served (omega (arith, few)) d map m) in
       let master : IsRepliedTo peer (master_call domain map 2) =
-      λ maps served. laws.master maps peer 2 domain served (omega arith) d map m in
+      λ maps served. gets_reply maps peer (master_call domain map 2)
+      (laws.master maps peer 2 domain served (omega arith) d map m) in
       let all : IsRepliedTo peer (all_call domain map 3) =
-      λ maps served. laws.all maps peer 3 domain served (omega arith) d map m in
+      λ maps served. gets_reply maps peer (all_call domain map 3)
+      (laws.all maps peer 3 domain served (omega arith) d map m) in
       let fourth = order_call domain map 4 ∷ [] in
       let third = all_call domain map 3 ∷ fourth in
       let second = master_call domain map 2 ∷ third in

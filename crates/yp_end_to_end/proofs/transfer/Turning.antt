@@ -1,5 +1,5 @@
 -- A server that answers the calls of a fetch in turn.
-use Rattle.std.proofs.Common.{◌≡◌, ℕ, ◌≤◌, List, [], ◌∷◌, ◌++◌, length, Result, Ok, Err, refl, sym, ◌∙◌, subst, arith}
+use Rattle.std.proofs.Common.{◌≡◌, ℕ, ◌≤◌, List, [], ◌∷◌, ◌++◌, length, Some, Result, Ok, Err, refl, sym, ap, ◌∙◌, subst, arith}
 use Rattle.std.proofs.Common.{append_assoc}
 use Rattle.std.specs.Prelude.{IfOk, ⊤}
 use Rattle.yp_io.specs.declared.stream.Peer.{Peer}
@@ -7,13 +7,12 @@ use Rattle.yp_rpc.specs.Records.{sent}
 use Rattle.yp_messages.specs.declared.stat.YpStat.{YpStat}
 use Rattle.yp_version.specs.Versions.{MapVersion}
 use Rattle.yp_board.specs.Views.{IsFront}
-use Rattle.yp_answer.specs.declared.procedure.Path.TheVariants.{Stream}
 use Rattle.yp_answer.specs.Maps.{Maps, row_check}
-use Rattle.yp_answer.specs.Reply.{Bytes, reply}
+use Rattle.yp_answer.specs.Reply.{reply_at_once}
 use Rattle.yp_answer.specs.Served.{maps_on}
 use Rattle.yp_client.specs.Limits.{reply_max, all_max}
 use Rattle.yp_client.specs.Asked.{order_call, master_call, all_call}
-use Rattle.yp_end_to_end.specs.inside.exchange.Served.{ReplyTells}
+use Rattle.yp_end_to_end.specs.inside.exchange.Served.{ReplyTells, RepliesWith}
 use Rattle.yp_end_to_end.specs.inside.exchange.Laws.{OrderTells, MasterTells, AllTells, RoomForVersion}
 use Rattle.yp_end_to_end.specs.inside.exchange.SentLaws.{SentIsWhole}
 use Rattle.yp_end_to_end.specs.inside.exchange.Answered.{GivesReply}
@@ -42,10 +41,10 @@ module _ (laws : Sent) where
   -- a reply that was sent is given, whole
   sent_gives : {V : Type 0} (maps : Maps) (peer : Peer) (limit : ℕ) (call : List ℕ) (said : List ℕ → V) (expected : V)
       (bytes : List ℕ) (replies : List (List ℕ)) (rest : List ℕ) (P : List ℕ → Type 0)
-      → ReplyTells maps peer limit call said expected → reply Stream maps peer call ≡ Bytes bytes
+      → ReplyTells maps peer limit call said expected → RepliesWith maps peer call bytes
       → P (sent_all replies ++ rest) → GivesReply maps peer limit call (sent_all (bytes ∷ replies) ++ rest) P
   sent_gives maps peer limit call said expected bytes replies rest P tells replied then =
-      let same : tells.bytes ≡ bytes = (let e : Bytes tells.bytes ≡ Bytes bytes = sym tells.replied ∙ replied in cc) in
+      let same : tells.bytes ≡ bytes = (let e : Some tells.bytes ≡ Some bytes = sym (ap reply_at_once tells.replied) ∙ replied in cc) in
       record {
         reply = bytes;
         bytes = sent bytes;

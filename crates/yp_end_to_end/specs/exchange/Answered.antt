@@ -2,18 +2,21 @@
 use Rattle.std.specs.Prelude.{◌≡◌, ℕ, true, false, List, Option, Result, Ok, Err, ⊤}
 use Rattle.yp_io.specs.declared.stream.Peer.{Peer}
 use Rattle.yp_answer.specs.Maps.{Maps}
+use Rattle.yp_answer.specs.Transfer.{xfr_check}
+use Rattle.yp_client.specs.Asked.{pull_request}
 use Rattle.yp_client.specs.declared.fault.ClientFault.{ClientFault}
 use Rattle.yp_client.specs.declared.fault.ClientFault.TheVariants.{ReadFault, WriteFault}
 use Rattle.yp_client.specs.declared.query.fault.QueryFault.{QueryFault}
 use Rattle.yp_client.specs.declared.query.fault.QueryFault.TheVariants.{Client, NoMemory}
 use Rattle.yp_client.specs.declared.question.Question.TheVariants.{Cat, Catk, Match, Which, Poll, Maps as MapsOf}
-use Rattle.yp_client.specs.declared.question.Question.TheVariants.{Innetgr}
+use Rattle.yp_client.specs.declared.question.Question.TheVariants.{Innetgr, Pull}
 use Rattle.yp_client.specs.Questions.{ByteQuestion}
 use Rattle.yp_client.specs.query.Lines.{line, lines, rows_text, standing_text}
 use Rattle.yp_client.specs.query.Faults.{query_fault, match_fault}
-use Rattle.yp_client.specs.query.Asked.{QueryOutcome, told_by, meant_by, netgroup, membership_told}
+use Rattle.yp_client.specs.query.Asked.{QueryOutcome, told_by, meant_by, netgroup, membership_told, transfer_told}
 use Rattle.yp_client.specs.query.Scenes.{Prints}
 use Rattle.yp_end_to_end.specs.exchange.Told.{told, rows_tell, map_tells, value_in, all_in, master_in, order_in, names_in}
+use Rattle.yp_end_to_end.specs.exchange.Told.{stat_told}
 
 -- ---- what it comes to
 
@@ -34,6 +37,8 @@ text_told first second peer (Which domain map) = meant_by query_fault line (map_
 text_told first second peer (Poll domain map) =
     standing_told (map_tells order_in first domain map) (map_tells master_in second domain map)
 text_told first second peer (MapsOf domain) = meant_by query_fault lines (told (names_in first domain))
+text_told first second peer (Pull domain map source) =
+    transfer_told domain map (stat_told (xfr_check first (pull_request domain map source)))
 text_told first second peer (Innetgr domain group host user user_domain) =
     told_by query_fault (membership_told group (record { host = host; user = user; domain = user_domain }))
     (rows_tell all_in first peer domain netgroup)
@@ -47,8 +52,8 @@ IsOutcomeOf expected outcome = outcome ≡ expected
 
 -- The outcome of a question was printed: the expected one, unless memory ran out or the wire failed. Unless memory ran
 -- out, the result and the expected outcome fix it.
-pub record PrintsTold (expected : QueryOutcome) (result : Result (Unit {0}) QueryFault) (before after : Option (List ℕ))
-    : Type 0 where
+pub record PrintsTold (question : ByteQuestion) (expected : QueryOutcome) (result : Result (Unit {0}) QueryFault)
+    (before after : Option (List ℕ)) : Type 0 where
   pub outcome : QueryOutcome
   pub comes_to : IsOutcomeOf expected outcome
-  pub prints : Prints outcome result before after
+  pub prints : Prints question outcome result before after

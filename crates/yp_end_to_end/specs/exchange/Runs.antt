@@ -8,10 +8,10 @@ use Rattle.yp_board.specs.Views.{IsFront}
 use Rattle.yp_answer.specs.Served.{maps_on}
 use Rattle.yp_client.specs.declared.fault.ClientFault.{ClientFault}
 use Rattle.yp_client.specs.Results.{order_of}
-use Rattle.yp_client.specs.Asked.{all_call, match_call, master_call, order_call, maplist_call}
+use Rattle.yp_client.specs.Asked.{all_call, match_call, master_call, order_call, maplist_call, pull_call}
 use Rattle.yp_client.specs.declared.query.fault.QueryFault.{QueryFault}
 use Rattle.yp_client.specs.declared.question.Question.TheVariants.{Cat, Catk, Match, Which, Poll, Maps as MapsOf}
-use Rattle.yp_client.specs.declared.question.Question.TheVariants.{Innetgr}
+use Rattle.yp_client.specs.declared.question.Question.TheVariants.{Innetgr, Pull}
 use Rattle.yp_client.specs.Questions.{ByteQuestion}
 use Rattle.yp_client.specs.query.Asked.{netgroup}
 use Rattle.yp_end_to_end.specs.exchange.Answered.{text_told, PrintsTold}
@@ -38,6 +38,7 @@ calls_made (Match domain map key) replies = match_call domain map key 1 ∷ []
 calls_made (Which domain map) replies = master_call domain map 1 ∷ []
 calls_made (Poll domain map) replies = poll_calls domain map replies
 calls_made (MapsOf domain) replies = maplist_call domain 1 ∷ []
+calls_made (Pull domain map source) replies = pull_call domain map source 1 ∷ []
 calls_made (Innetgr domain group host user user_domain) replies = all_call domain netgroup 1 ∷ []
 
 -- What these maps tell was printed, on two logs between an old and a new one, of which the second begins with the
@@ -50,5 +51,5 @@ pub record PrintsOnLogs (catalogue : Catalogue) (peer : Peer) (question : ByteQu
   pub begins : IsFront old first
   pub grows : IsFront first second
   pub ends : IsFront second new
-  pub printed : PrintsTold (text_told (maps_on catalogue first) (maps_on catalogue second) peer question) result
-      before after
+  pub printed : PrintsTold question (text_told (maps_on catalogue first) (maps_on catalogue second) peer question)
+      result before after

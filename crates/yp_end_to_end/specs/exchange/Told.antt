@@ -4,6 +4,8 @@ use Rattle.std.specs.Option.{ok_or}
 use Rattle.yp_io.specs.declared.stream.Peer.{Peer}
 use Rattle.yp_messages.specs.declared.stat.YpStat.{YpStat}
 use Rattle.yp_messages.specs.declared.stat.YpStat.TheVariants.{Nokey, Badargs, Nodom}
+use Rattle.yp_messages.specs.declared.transfer.XfrStat.{XfrStat}
+use Rattle.yp_messages.specs.declared.transfer.XfrStat.TheVariants.{Succ}
 use Rattle.yp_version.specs.Rows.{Row, value_of}
 use Rattle.yp_version.specs.Versions.{MapVersion}
 use Rattle.yp_board.specs.Catalogues.{serves}
@@ -55,3 +57,8 @@ names_in maps domain =
     if length domain == 0 then Err Badargs
     else (if not (serves domain maps.catalogue) then Err Nodom
     else Ok (maps_in maps domain))
+
+-- the status that XFR has by what is made of it: the one that refuses it, or SUCC, and then the transfer is taken
+abbrev pub stat_told : Result ℕ XfrStat → XfrStat
+stat_told (Ok map) = Succ
+stat_told (Err stat) = stat

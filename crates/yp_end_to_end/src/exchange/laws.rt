@@ -3,6 +3,7 @@
 
 ghost use Rattle.yp_end_to_end.specs.inside.exchange.Laws.{DomainTells, MatchTells, FirstTells, NextTells, AllTells};
 ghost use Rattle.yp_end_to_end.specs.inside.exchange.Laws.{RoomForVersion, MasterTells, OrderTells, MaplistTells};
+ghost use Rattle.yp_end_to_end.specs.inside.exchange.Laws.{PullTells};
 ghost use Rattle.yp_end_to_end.specs.inside.exchange.Mail.{OrderMailTells, MasterMailTells, FirstMailTells};
 ghost use Rattle.yp_end_to_end.specs.inside.exchange.Mail.{NextMailTells};
 ghost use Rattle.yp_end_to_end.specs.inside.exchange.CallLaws.{NumberIsTold, TruthIsTold, BytesAreTold, RowIsTold};
@@ -12,7 +13,7 @@ ghost use Rattle.yp_end_to_end.specs.inside.exchange.QueryLaws.{ToldIsAnswered};
 ghost use Rattle.yp_end_to_end.specs.inside.exchange.RunLaws.{DomainHasReply, MatchHasReply, FirstHasReply};
 ghost use Rattle.yp_end_to_end.specs.inside.exchange.RunLaws.{NextHasReply};
 ghost use Rattle.yp_end_to_end.specs.inside.exchange.RunLaws.{AllHasReply, MasterHasReply, OrderHasReply};
-ghost use Rattle.yp_end_to_end.specs.inside.exchange.RunLaws.{MaplistHasReply};
+ghost use Rattle.yp_end_to_end.specs.inside.exchange.RunLaws.{MaplistHasReply, PullHasReply};
 ghost use Rattle.yp_end_to_end.specs.inside.exchange.RunLaws.{RunIsInTurn, RunIsOnLogs, LogRunIsPrinted};
 ghost use Rattle.yp_end_to_end.specs.inside.exchange.SentLaws.{SentIsWhole};
 ghost use Rattle.yp_end_to_end.specs.inside.exchange.MemberLaws.{MembershipIsTold};
@@ -78,6 +79,14 @@ pub fn maplist_tells()
     call_is_heard_again();
 }
 
+/// The reply to XFR says the status that refuses it, or SUCC, and then the transfer is taken.
+pub fn pull_tells()
+    ensures { PullTells }
+{
+    written_is_read_again();
+    call_is_heard_again();
+}
+
 /// The reply to ALL says all its rows, onto a builder that has room for them.
 pub fn all_tells()
     ensures { AllTells }
@@ -128,6 +137,7 @@ pub fn calls_are_told()
     master_tells();
     order_tells();
     maplist_tells();
+    pull_tells();
     rising_stays();
     first_is_one();
     rest_is_not_whole();
@@ -151,10 +161,11 @@ pub fn run_is_printed()
     master_tells();
     order_tells();
     maplist_tells();
+    pull_tells();
 }
 
 /// Each call of a client that asks for what the maps have gets one reply of a server, at once: it isn't met by silence,
-/// and makes no map first.
+/// and makes no map first. XFR alone may have a transfer taken behind the reply.
 pub fn calls_have_replies()
     ensures domain { DomainHasReply }
     ensures value { MatchHasReply }
@@ -164,6 +175,7 @@ pub fn calls_have_replies()
     ensures master { MasterHasReply }
     ensures order { OrderHasReply }
     ensures names { MaplistHasReply }
+    ensures pull { PullHasReply }
 {
     domain_tells();
     match_tells();
@@ -174,6 +186,7 @@ pub fn calls_have_replies()
     master_tells();
     order_tells();
     maplist_tells();
+    pull_tells();
 }
 
 /// A run on logs over records that get replies at once answered them in turn, on the states of fronts of one log, each
@@ -197,7 +210,8 @@ pub fn log_run_is_printed()
     run_is_printed();
 }
 
-/// Where the maps tell a text, or that there is no such key, a server's replies answer the calls of a question.
+/// Where the maps tell a text, or that there is no such key, or refuse a transfer, a server's replies answer the calls of
+/// a question.
 pub fn told_is_answered()
     ensures { ToldIsAnswered }
 {
@@ -207,6 +221,7 @@ pub fn told_is_answered()
     master_tells();
     order_tells();
     maplist_tells();
+    pull_tells();
 }
 
 /// Of a member of a group a question is told yes, and of others no, by one version of the groups.

@@ -1,14 +1,13 @@
 -- Replies to the calls of a question, one by one and in turn.
-use Rattle.std.specs.Prelude.{◌≡◌, ℕ, List, Ok, Err, IsOk, ⊤}
+use Rattle.std.specs.Prelude.{ℕ, List, Ok, Err, IsOk, ⊤}
 use Rattle.yp_io.specs.declared.stream.Peer.{Peer}
-use Rattle.yp_answer.specs.declared.procedure.Path.TheVariants.{Stream}
 use Rattle.yp_answer.specs.Maps.{Maps, map_check}
-use Rattle.yp_answer.specs.Reply.{Bytes, reply}
+use Rattle.yp_end_to_end.specs.inside.exchange.Served.{RepliesWith}
 use Rattle.yp_client.specs.Limits.{reply_max, all_max}
-use Rattle.yp_client.specs.Asked.{all_call, match_call, master_call, order_call, maplist_call}
-use Rattle.yp_client.specs.declared.query.fault.QueryFault.TheVariants.{NoKey, NotMember}
+use Rattle.yp_client.specs.Asked.{all_call, match_call, master_call, order_call, maplist_call, pull_call}
+use Rattle.yp_client.specs.declared.query.fault.QueryFault.TheVariants.{NoKey, NotMember, NotTaken}
 use Rattle.yp_client.specs.declared.question.Question.TheVariants.{Cat, Catk, Match, Which, Poll, Maps as MapsOf}
-use Rattle.yp_client.specs.declared.question.Question.TheVariants.{Innetgr}
+use Rattle.yp_client.specs.declared.question.Question.TheVariants.{Innetgr, Pull}
 use Rattle.yp_client.specs.Questions.{ByteQuestion}
 use Rattle.yp_client.specs.query.Asked.{QueryOutcome, netgroup}
 use Rattle.yp_client.specs.query.Complete.{BeginsWithReply}
@@ -18,7 +17,7 @@ use Rattle.yp_client.specs.query.Complete.{BeginsWithReply}
 -- Bytes begin with the reply to a call on these maps, and P holds of what is behind it.
 abbrev pub GivesReply : Maps → Peer → ℕ → List ℕ → List ℕ → (List ℕ → Type 0) → Type 0
 GivesReply maps peer limit call stream P =
-    BeginsWithReply limit stream (λ bytes rest. (reply Stream maps peer call ≡ Bytes bytes) × P rest)
+    BeginsWithReply limit stream (λ bytes rest. RepliesWith maps peer call bytes × P rest)
 
 -- Bytes begin with the reply to ORDER, and then with that to MASTER, where the map of the first has a version.
 abbrev pub GivesStanding : Maps → Maps → Peer → List ℕ → List ℕ → List ℕ → Type 0
@@ -40,14 +39,17 @@ GivesReplies first second peer (Which domain map) stream =
 GivesReplies first second peer (Poll domain map) stream = GivesStanding first second peer domain map stream
 GivesReplies first second peer (MapsOf domain) stream =
     GivesReply first peer reply_max (maplist_call domain 1) stream (λ rest. ⊤)
+GivesReplies first second peer (Pull domain map source) stream =
+    GivesReply first peer reply_max (pull_call domain map source 1) stream (λ rest. ⊤)
 GivesReplies first second peer (Innetgr domain group host user user_domain) stream =
     GivesReply first peer all_max (all_call domain netgroup 1) stream (λ rest. ⊤)
 
 -- ---- what it comes to
 
--- there is a text, or no such key, or no such member
+-- there is a text, or no such key, or no such member, or a transfer that isn't taken
 abbrev pub HasText : QueryOutcome → Type 0
 HasText (Ok text) = ⊤
 HasText (Err NoKey) = ⊤
 HasText (Err NotMember) = ⊤
+HasText (Err (NotTaken stat)) = ⊤
 HasText outcome = ⊥

@@ -8,17 +8,19 @@ use Rattle.yp_board.specs.Catalogues.{serves}
 use Rattle.yp_answer.specs.Maps.{Maps, row_check}
 use Rattle.yp_answer.specs.Served.{AreServed}
 use Rattle.yp_client.specs.Limits.{reply_max, all_max}
-use Rattle.yp_client.specs.Results.{value_of, row_of, master_of, order_of, maps_of}
+use Rattle.yp_client.specs.Results.{value_of, row_of, master_of, order_of, maps_of, taken_of}
 use Rattle.yp_client.specs.inside.Results.{served_of}
 use Rattle.yp_client.specs.All.{all_said}
 use Rattle.yp_client.specs.Asked.{match_call, first_call, next_call, all_call, master_call, order_call}
 use Rattle.yp_client.specs.inside.Asked.{domain_call}
-use Rattle.yp_client.specs.Asked.{maplist_call}
+use Rattle.yp_client.specs.Asked.{maplist_call, pull_request, pull_call}
 use Rattle.yp_end_to_end.specs.exchange.Told.{told, rows_tell, map_tells, value_in}
 use Rattle.yp_end_to_end.specs.inside.exchange.Told.{first_in, next_in}
-use Rattle.yp_end_to_end.specs.exchange.Told.{master_in, order_in, names_in}
+use Rattle.yp_end_to_end.specs.exchange.Told.{master_in, order_in, names_in, stat_told}
 use Rattle.yp_end_to_end.specs.inside.exchange.Told.{all_told}
-use Rattle.yp_end_to_end.specs.inside.exchange.Served.{ReplyTells, DraftHasRoom}
+use Rattle.yp_end_to_end.specs.inside.exchange.Served.{ReplyTells, RepliesTelling, DraftHasRoom}
+use Rattle.yp_messages.specs.Transfers.{xfr_number}
+use Rattle.yp_answer.specs.Transfer.{xfr_check}
 
 -- a call about a domain, about a map, and about a key, whose parts are within their limits
 abbrev pub ForDomain : (Maps → Peer → ℕ → List ℕ → Type 0) → Type 0
@@ -77,6 +79,12 @@ OrderTells = ForMap (λ maps peer xid domain map.
 abbrev pub MaplistTells : Type 0
 MaplistTells = ForDomain (λ maps peer xid domain.
     ReplyTells maps peer reply_max (maplist_call domain xid) (maps_of xid) (told (names_in maps domain)))
+
+-- XFR: the number of the status that refuses it, or of SUCC
+abbrev pub PullTells : Type 0
+PullTells = ForMap (λ maps peer xid domain map. (source : List ℕ) → length source ≤ name_max →
+    RepliesTelling maps peer reply_max (pull_call domain map source xid) (taken_of xid)
+    (Ok (xfr_number (stat_told (xfr_check maps (pull_request domain map source))))))
 
 -- ALL finds room: a builder without rows, whose master isn't longer than that of the version, has room for its rows
 abbrev pub RoomForVersion : Type 0

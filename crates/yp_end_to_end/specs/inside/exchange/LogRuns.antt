@@ -5,11 +5,16 @@ use Rattle.yp_answer.specs.declared.procedure.Path.TheVariants.{Stream}
 use Rattle.yp_answer.specs.Maps.{Maps}
 use Rattle.yp_answer.specs.Reply.{Bytes, reply}
 use Rattle.yp_answer.specs.Served.{AreServed}
+use Rattle.yp_end_to_end.specs.inside.exchange.Served.{RepliesWith}
 
--- A server that knows these maps replies to a record at once: it isn't silent, and makes no map first.
+-- A server that knows these maps replies to a record at once: it isn't silent, makes no map first, and takes no transfer.
 abbrev pub RepliesAtOnce : Maps → Peer → List ℕ → Type 0
 RepliesAtOnce maps peer message = (bytes : List ℕ) × (reply Stream maps peer message ≡ Bytes bytes)
 
+-- The same, but that it may take one.
+abbrev pub GetsReply : Maps → Peer → List ℕ → Type 0
+GetsReply maps peer message = (bytes : List ℕ) × RepliesWith maps peer message bytes
+
 -- Every server replies to a record at once, whatever its maps are.
 abbrev pub IsRepliedTo : Peer → List ℕ → Type 0
-IsRepliedTo peer message = (maps : Maps) → AreServed maps → RepliesAtOnce maps peer message
+IsRepliedTo peer message = (maps : Maps) → AreServed maps → GetsReply maps peer message

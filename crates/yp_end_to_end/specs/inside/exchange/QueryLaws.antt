@@ -43,7 +43,7 @@ QueryPrintsTold =
     → GivesReplies first second caller question stream
     → HasCome server stream old.dial.past new.dial.past
     → Asks server question result old new
-    → PrintsTold (text_told first second caller question) result old.output new.output
+    → PrintsTold question (text_told first second caller question) result old.output new.output
 
 -- A question prints what the maps of a server tell, where the wire gives the replies of that server to the calls of the
 -- question in turn, while its log grows: the two states of the maps are those of two logs between the first and the
@@ -59,7 +59,8 @@ RunIsPrinted =
     → Asks server question result old new
     → PrintsOnLogs catalogue caller question before after result old.output new.output
 
--- Where the maps tell a text, or that there is no such key, such a wire answers the calls of the question.
+-- Where the maps tell a text, or that there is no such key, or refuse a transfer, such a wire answers the calls of the
+-- question.
 abbrev pub ToldIsAnswered : Type 0
 ToldIsAnswered =
     (first second : Maps) (caller : Peer) (question : ByteQuestion) (stream : List ℕ)

@@ -1,5 +1,5 @@
 -- What a server does in a run on logs, for the calls of a client.
-use Rattle.std.specs.Prelude.{ℕ, All, List, ◌++◌, Result}
+use Rattle.std.specs.Prelude.{ℕ, ◌≤◌, All, List, ◌++◌, length, Result}
 use Rattle.yp_io.specs.declared.stream.Peer.{Peer}
 use Rattle.yp_board.specs.Catalogues.{Catalogue}
 use Rattle.yp_board.specs.Logs.{Log}
@@ -9,7 +9,8 @@ use Rattle.yp_answer.specs.session.Hosts.{Turn}
 use Rattle.yp_answer.specs.session.LogRuns.{LogRun}
 use Rattle.yp_client.specs.Asked.{match_call, first_call, next_call, all_call, master_call, order_call}
 use Rattle.yp_client.specs.inside.Asked.{domain_call}
-use Rattle.yp_client.specs.Asked.{maplist_call}
+use Rattle.yp_client.specs.Asked.{maplist_call, pull_call}
+use Rattle.yp_messages.specs.Numbers.{name_max}
 use Rattle.yp_client.specs.declared.query.fault.QueryFault.{QueryFault}
 use Rattle.yp_client.specs.Questions.{ByteQuestion}
 use Rattle.yp_client.specs.inside.Questions.{QuestionIsWithin}
@@ -19,7 +20,7 @@ use Rattle.yp_end_to_end.specs.inside.exchange.Laws.{ForDomain, ForMap, ForKey}
 use Rattle.yp_end_to_end.specs.exchange.Runs.{sent_all, PrintsOnLogs}
 use Rattle.yp_end_to_end.specs.inside.exchange.Runs.{RepliesInTurn, RepliesOn}
 use Rattle.yp_end_to_end.specs.exchange.LogRuns.{records_of, replies_of, AnsweredOn}
-use Rattle.yp_end_to_end.specs.inside.exchange.LogRuns.{RepliesAtOnce, IsRepliedTo}
+use Rattle.yp_end_to_end.specs.inside.exchange.LogRuns.{RepliesAtOnce, GetsReply, IsRepliedTo}
 use Rattle.yp_end_to_end.specs.exchange.LogRuns.{AnswersCalls}
 
 -- each call of a client that asks for what the maps have gets one reply, at once
@@ -46,6 +47,11 @@ OrderHasReply = ForMap (λ maps peer xid domain map. RepliesAtOnce maps peer (or
 
 abbrev pub MaplistHasReply : Type 0
 MaplistHasReply = ForDomain (λ maps peer xid domain. RepliesAtOnce maps peer (maplist_call domain xid))
+
+-- and so does XFR, of which a transfer may be taken
+abbrev pub PullHasReply : Type 0
+PullHasReply = ForMap (λ maps peer xid domain map. (source : List ℕ) → length source ≤ name_max
+    → GetsReply maps peer (pull_call domain map source xid))
 
 -- Where each record of a run is one that gets a reply at once, the run answered them one after the other, each on the
 -- state of a log that begins with the one before.

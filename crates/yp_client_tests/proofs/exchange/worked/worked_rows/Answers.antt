@@ -14,5 +14,6 @@ returns c = record {
   all = c.all_tells.ensures hosts_maps caller 1 lab hosts_are_served (omega arith) (omega arith) hosts (omega arith) no_rows (record { empty = refl; room = omega arith });
   master = c.master_tells.ensures hosts_maps caller 1 lab hosts_are_served (omega arith) (omega arith) hosts (omega arith);
   order = c.order_tells.ensures hosts_maps caller 1 lab hosts_are_served (omega arith) (omega arith) hosts (omega arith);
+  pull = c.pull_tells.ensures hosts_maps caller 1 lab hosts_are_served (omega arith) (omega arith) hosts (omega arith) (codes "m9") (omega arith);
   names = c.maplist_tells.ensures hosts_maps caller 1 lab hosts_are_served (omega arith) (omega arith);
 }

@@ -10,6 +10,7 @@ returns c = calls_are_told (record {
     master = c.master_tells.ensures;
     order = c.order_tells.ensures;
     names = c.maplist_tells.ensures;
+    pull = c.pull_tells.ensures;
   };
   stays = c.rising_stays.ensures;
   records = record { first = c.first_is_one.ensures; rest = c.rest_is_not_whole.ensures };

@@ -13,4 +13,5 @@ returns c = record {
   master = λ maps peer xid domain served x d map m. let tells = c.master_tells.ensures maps peer xid domain served x d map m in (tells.bytes, tells.replied);
   order = λ maps peer xid domain served x d map m. let tells = c.order_tells.ensures maps peer xid domain served x d map m in (tells.bytes, tells.replied);
   names = λ maps peer xid domain served x d. let tells = c.maplist_tells.ensures maps peer xid domain served x d in (tells.bytes, tells.replied);
+  pull = λ maps peer xid domain served x d map m source s. let tells = c.pull_tells.ensures maps peer xid domain served x d map m source s in (tells.bytes, tells.replied);
 }

@@ -10,6 +10,7 @@ returns c = run_is_printed (record {
     master = c.master_tells.ensures;
     order = c.order_tells.ensures;
     names = c.maplist_tells.ensures;
+    pull = c.pull_tells.ensures;
   };
   prints = c.query_prints_told.ensures;
 })

@@ -9,4 +9,5 @@ returns c = told_is_answered (record {
   master = c.master_tells.ensures;
   order = c.order_tells.ensures;
   names = c.maplist_tells.ensures;
+  pull = c.pull_tells.ensures;
 })

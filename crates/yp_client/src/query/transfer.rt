@@ -1,0 +1,76 @@
+//! The line of a transfer that a server was asked for.
+
+ghost use Rattle.std.specs.Prelude.{◌≡◌, ◌++◌, codes, IfOk, OnOk};
+ghost use Rattle.std.specs.Fmt.{signed_decimal};
+ghost use Rattle.yp_messages.specs.Transfers.{xfr_number};
+ghost use Rattle.yp_client.specs.query.Lines.{stat_name, transfer_text};
+
+use std::alloc::{AllocError, Global};
+use yp_io::NoMemory;
+use yp_messages::XfrStat;
+
+/// The name of a status.
+fn stat_name(stat: XfrStat) -> &'static [u8]
+    ensures { result.now ≡ stat_name stat }
+{
+    match stat {
+        XfrStat::Succ => b"SUCC",
+        XfrStat::Age => b"AGE",
+        XfrStat::Nomap => b"NOMAP",
+        XfrStat::Nodom => b"NODOM",
+        XfrStat::Rsrc => b"RSRC",
+        XfrStat::Rpc => b"RPC",
+        XfrStat::Maddr => b"MADDR",
+        XfrStat::Yperr => b"YPERR",
+        XfrStat::Badargs => b"BADARGS",
+        XfrStat::Dbm => b"DBM",
+        XfrStat::File => b"FILE",
+        XfrStat::Skew => b"SKEW",
+        XfrStat::Clear => b"CLEAR",
+        XfrStat::Force => b"FORCE",
+        XfrStat::Xfrerr => b"XFRERR",
+        XfrStat::Refused => b"REFUSED",
+    }
+}
+
+/// Adds the number and the name of a status.
+fn add_stat(text: &mut Vec<u8>, stat: XfrStat) -> Result<(), AllocError>
+    ensures { OnOk result (text.new.items ≡ text.old.items ++ signed_decimal (xfr_number stat) ++ codes " "
+        ++ stat_name stat) }
+{
+    text.extend_from_slice(itoa::Buffer::new().format(stat.number()).as_bytes())?;
+    text.extend_from_slice(b" ")?;
+    text.extend_from_slice(stat_name(stat))
+}
+
+/// Adds the name of a map, and the status of its transfer.
+fn add_transfer(
+    text: &mut Vec<u8>,
+    domain: &[u8],
+    map: &[u8],
+    stat: XfrStat,
+) -> Result<(), AllocError>
+    ensures { OnOk result (text.new.items ≡ text.old.items ++ transfer_text domain.now map.now stat) }
+{
+    text.extend_from_slice(domain)?;
+    text.extend_from_slice(b"/")?;
+    text.extend_from_slice(map)?;
+    text.extend_from_slice(b" ")?;
+    add_stat(text, stat)
+}
+
+/// The line of a transfer, without its line feed.
+pub fn transfer_text(
+    alloc: Global,
+    domain: &[u8],
+    map: &[u8],
+    stat: XfrStat,
+) -> Result<Vec<u8>, NoMemory>
+    ensures { IfOk result (λ text. text.items ≡ transfer_text domain.now map.now stat) }
+{
+    let mut text = Vec::new(alloc);
+    match add_transfer(&mut text, domain, map, stat) {
+        Ok(()) => Ok(text),
+        Err(_) => Err(NoMemory),
+    }
+}
