@@ -94,6 +94,7 @@ WORDS |= {"FLAG": "Flag", "MODE": "Mode", "POLICY": "Policy", "HOST": "Host", "D
 WORDS |= dict.fromkeys(["CONNECTIONS", "TURNS", "START", "N", "PROG", "VERS", "PROT"], "Number")
 WORDS |= dict.fromkeys(["KEY", "GROUP", "USER", "NISDOMAIN"], "Key")
 BEHIND = {("build", "STORE"): "KindStore", ("revnet", "STORE"): "ReverseStore", ("innetgr", "HOST"): "Key"}
+BEHIND |= {("pull", "NAME"): "Text"}
 FURTHER = {"[KEY=VALUE]*": "Each(Pair)", "[HOST]*": "Each(Host)", "[STORE or HOST]*": "StoresAndHosts"}
 
 # The form that a function of the code reads a word by, and the further words.
