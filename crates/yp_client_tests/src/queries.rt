@@ -317,8 +317,7 @@ fn members_of_groups(rt: HostRuntime) {
 }
 
 /// The reply to XFR, up to its status, of the transaction 0.
-const TAKEN_REPLY: &str =
-    "80000020 00000001 00000001 00000000 00000000 00000000 00000000 00000000";
+const TAKEN_REPLY: &str = "80000020 00000001 00000001 00000000 00000000 00000000 00000000 00000000";
 
 /// The status of a reply, the result, and the line.
 type Taken = (&'static str, Result<(), QueryFault>, &'static [u8]);
@@ -485,8 +484,7 @@ const TORN_BEHIND_ORDER: QueryFault = QueryFault::Client(ClientFault::Torn { at:
 const NO_STATUS: &str =
     "80000020 00000001 00000001 00000000 00000000 00000000 00000000 00000000 00000003";
 
-const SHORT_REPLY: &str =
-    "8000001c 00000001 00000001 00000000 00000000 00000000 00000000 00000000";
+const SHORT_REPLY: &str = "8000001c 00000001 00000001 00000000 00000000 00000000 00000000 00000000";
 
 const BAD_STATUS: QueryFault = QueryFault::Client(ClientFault::BadReply { at: 28 });
 

@@ -278,12 +278,7 @@ fn ask_transfer<S: Source, K: Sink>(
         port: 0,
     };
     match client.xfr(&request) {
-        Ok(XfrStat::Succ) => Ok(Answer::Line(transfer_text(
-            alloc,
-            domain,
-            map,
-            XfrStat::Succ,
-        )?)),
+        Ok(XfrStat::Succ) => Ok(Answer::Line(transfer_text(alloc, domain, map, XfrStat::Succ)?)),
         Ok(stat) => Err(QueryFault::NotTaken(stat)),
         Err(fault) => Err(fault.into()),
     }

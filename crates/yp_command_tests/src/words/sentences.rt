@@ -116,7 +116,10 @@ static WRONG_ADDRESSES: [Wrong; 35] = [
     (&["pull", "127.0.0.1:7", "lab", "hosts.byname"], 4),
     (&["pull", "127.0.0.1:7", "lab", "hosts.byname", ""], 4),
     (&["pull", "127.0.0.1:7", "lab", "hosts.byname", TOO_LONG], 4),
-    (&["pull", "127.0.0.1:7", "lab", "hosts.byname", "m1", "x"], 5),
+    (
+        &["pull", "127.0.0.1:7", "lab", "hosts.byname", "m1", "x"],
+        5,
+    ),
     (&["innetgr", "127.0.0.1:7", TOO_LONG, "a", "*", "*", "*"], 2),
     (&["innetgr", "127.0.0.1:7", "lab", "a", "*", "*"], 6),
     (
