@@ -15,7 +15,7 @@ use Rattle.yp_messages.specs.Numbers.{program, version, domain_procedure, match_
 use Rattle.yp_messages.specs.Messages.{req_domain, req_nokey, req_key, resp_val, key_val, resp_master, resp_order}
 use Rattle.yp_messages.specs.MapLists.{map_list}
 use Rattle.yp_messages.specs.declared.transfer.XfrStat.{XfrStat}
-use Rattle.yp_messages.specs.Transfers.{xfr_number, req_xfr}
+use Rattle.yp_messages.specs.Transfers.{req_xfr}
 use Rattle.yp_messages.specs.Numbers.{xfr_procedure}
 use Rattle.yp_board.specs.Catalogues.{serves}
 use Rattle.yp_client.specs.Limits.{reply_max}
