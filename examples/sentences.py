@@ -95,6 +95,7 @@ WORDS |= dict.fromkeys(["CONNECTIONS", "TURNS", "START", "N", "PROG", "VERS", "P
 WORDS |= dict.fromkeys(["KEY", "GROUP", "USER", "NISDOMAIN"], "Key")
 BEHIND = {("build", "STORE"): "KindStore", ("revnet", "STORE"): "ReverseStore", ("innetgr", "HOST"): "Key"}
 BEHIND |= {("pull", "NAME"): "Text"}
+COMPARED = "[ADDR]*"
 FURTHER = {"[KEY=VALUE]*": "Each(Pair)", "[HOST]*": "Each(Host)", "[STORE or HOST]*": "StoresAndHosts"}
 
 # The form that a function of the code reads a word by, and the further words.
@@ -102,7 +103,7 @@ READ = {"name": "Name", "store": "Store", "kind_store": "KindStore", "reverse_st
 READ |= {"port": "Port", "window": "Window", "workers": "Workers", "policy": "Policy", "address": "Address"}
 READ |= {"host": "Host", "text": "Text", "key": "Key", "member": "Key", "mode": "Mode"}
 READ_FURTHER = {"each_pair": "Each(Pair)", "each_host": "Each(Host)", "stores_and_hosts": "StoresAndHosts"}
-READ_FURTHER |= {"servers": "Servers"}
+READ_FURTHER |= {"servers": "Servers", "peers_and_domain": "Compared"}
 
 differences = []
 
@@ -128,6 +129,7 @@ def page_sentences(path):
     """The sentences of a page's SYNOPSIS, as README.md writes them."""
     for line in re.findall(r"^\.Nm yp Cm (.*)$", between(read(path), ".Sh SYNOPSIS", ".Sh "), re.MULTILINE):
         line = re.sub(r" Op Ar (.*?)( \.\.\.)?$", lambda m: f" [{m[1]}]" + "*" * bool(m[2]), line)
+        line = re.sub(r" Oo Ar (.*?) \.\.\. Oc", r" [\1]*", line)
         yield line.replace(" | ", " or ").replace(" Ar ", " ")
 
 
@@ -171,6 +173,12 @@ def by_forms(sentence):
     if further == "Each(Host)" and words[-1:] == ["HOST"]:
         words.pop()
         further = "Servers"
+    if COMPARED in words:
+        # One server, or more of them, before the last word.
+        words.remove(COMPARED)
+        yield command, tuple(WORDS[word] for word in words), "NoMore"
+        words.insert(1, words[0])
+        further = "Compared"
     last = [words.pop().strip("[]")] if words and words[-1].startswith("[") else []
     for each in [words, words + last] if last else [words]:
         yield command, tuple(BEHIND.get((command, word)) or WORDS.get(word, word) for word in each), further
@@ -186,10 +194,13 @@ def of_code():
         forms = [READ[form] for form, _ in read_by if form not in ("end", "flag_if_any")]
         if [int(at) for _, at in read_by] != list(range(1, len(read_by) + 1)):
             tell(f"the code reads the words of {command} by other numbers than their own")
-        further = re.search("= (each_pair|each_host|stores_and_hosts|servers)\\(", body)
+        further = re.search("= (each_pair|each_host|stores_and_hosts|servers|peers_and_domain)\\(", body)
         ends = READ_FURTHER[further[1]] if further else "NoMore"
         if ends == "Servers":
             forms.pop()
+        if ends == "Compared":
+            yield command, tuple(forms), "NoMore"
+            forms.insert(1, forms[0])
         yield command, tuple(forms), ends
         if any(form == "flag_if_any" for form, _ in read_by):
             yield command, (*forms, "Flag"), ends
@@ -208,8 +219,10 @@ def same_table(sentences):
 # What the documents' sentences say of words.
 
 
-def joins(further, earlier, word):
-    """Whether a word may stand as a further one behind others."""
+def joins(further, earlier, before, word):
+    """Whether a word may stand as a further one behind others, the last of which is that before it."""
+    if further == "Compared":
+        return is_address(before) and FORMS["Text"][0](word)
     if further in ("Each(Pair)", "Each(Host)"):
         return FORMS[further[5:-1]][0](word)
     addresses = [host.partition("@")[2] for host in earlier]
@@ -229,7 +242,7 @@ def fitting(sentence, words):
         if at == len(words) or not check(words[at]):
             return at
     at = len(checks)
-    while at < len(words) and joins(further, words[len(checks):at], words[at]):
+    while at < len(words) and joins(further, words[len(checks):at], words[at - 1], words[at]):
         at += 1
     return at
 
@@ -244,7 +257,7 @@ def is_whole(sentence, words):
 def further_words(sentence):
     """Words that may stand behind those of the sentence."""
     hosts = ["h@127.0.0.1:1", "g@127.0.0.1:2"]
-    return {"NoMore": [], "Each(Pair)": ["k=v", "k=w"], "Each(Host)": hosts, "Servers": hosts}.get(
+    return {"NoMore": [], "Compared": [], "Each(Pair)": ["k=v", "k=w"], "Each(Host)": hosts, "Servers": hosts}.get(
         sentence[2], ["lab/m", "h@127.0.0.1:1", "lab/n"])
 
 

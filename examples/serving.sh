@@ -8,6 +8,7 @@
 #     ended NAME PORT   takes the turns that are left by datagrams, waits for the end of `server`, and prints its status
 #                       and what it wrote
 #     post PORT [AGAIN] sends calls in datagrams, each a line of words, again after AGAIN seconds, and prints replies
+#     may_reserve       whether a program here may have a port under 1,024, as root may
 #     match XID KEY     prints the message of MATCH of a key in lab/hosts.byname, and `make XID` that of MAKE of it
 TURNS=500
 NULL='00000001 00000000 00000002 000186a4 00000002 00000000 00000000 00000000 00000000 00000000'
@@ -34,6 +35,10 @@ ended() {
     wait "$server"
     echo "$1 ends with status $?"
     cat "$1.tally"
+}
+
+may_reserve() {
+    python3 -c 'import socket; socket.socket(socket.AF_INET, socket.SOCK_DGRAM).bind(("", 599))' 2>/dev/null
 }
 
 # opaque TEXT: the text as XDR has it.

@@ -10,10 +10,10 @@
     live.py orders [STORE ..]   prints the order of each map at this server, at the hosts behind the maps of YP_SERVE
                                 and at the slaves of YP_PUSH; where one isn't as at this server, that didn't go well
 
-A secure map is neither pulled nor pushed: a server gives its rows to ports under 1,024 alone. STORE is DOMAIN/MAP. It
-runs in the folder of the server, and takes YP_SERVE and YP_PUSH from the environment, where it has YP_SERVE, and else
-from yp.env. What was done is written to standard output, a line each, and what failed to standard error. It ends with
-status 0 where all went well, and else with 1. It needs the standard library alone.
+The rows of a secure map are given to a slave whose server may have a port under 1,024. STORE is DOMAIN/MAP. It runs in
+the folder of the server, and takes YP_SERVE and YP_PUSH from the environment, where it has YP_SERVE, and else from
+yp.env. What was done is written to standard output, a line each, and what failed to standard error. It ends with status
+0 where all went well, and else with 1. It needs the standard library alone.
 """
 
 import os
@@ -177,7 +177,7 @@ def pull(site, stores):
         if number(results) == SUCC:
             print(f"{store} fetched", flush=True)
         elif number(results) == YPERR:
-            print(f"{store} isn't given by {peer}, as a secure map isn't", flush=True)
+            fail(f"{store} isn't given by {peer}, as a secure map isn't to a port over 1,023")
         elif number(results) != AGE:
             fail(f"{store} isn't fetched: {status_of(results)}")
 
@@ -191,19 +191,10 @@ def run(*words):
     return ended.returncode, ended.stdout, ended.stderr.strip()
 
 
-def is_secure(store):
-    """Whether the version of a map that is stored is secure."""
-    _, lines, _ = run("check", store)
-    return lines.endswith(" secure\n")
-
-
 def push(site, stores):
     if not site.slaves:
         return
     for store in stores or site.stores:
-        if is_secure(store):
-            print(f"{store} isn't pushed, since it is secure", flush=True)
-            continue
         status, lines, note = run("push", site.name, *site.push_port, str(WINDOW), str(TURNS), store, *site.slaves)
         for line in lines.splitlines():
             print(f"{store} {line}", flush=True)

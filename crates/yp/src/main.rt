@@ -17,8 +17,8 @@ use yp_program::{
     run_command, stores_of, tell,
 };
 use yp_system::{
-    BlockReader, DirectWriter, FileDisk, Locking, Patient, StandardStream, SystemClock, TcpDial,
-    TcpHall, TextFolder, UdpInbox, read_words,
+    BlockReader, DirectWriter, FileDisk, LocalPorts, Locking, Patient, StandardStream, SystemClock,
+    TcpDial, TcpHall, TextFolder, UdpInbox, read_words,
 };
 
 /// When a command keeps a map for itself. A server does so for life, so that each map has one writer. A session answers
@@ -33,6 +33,15 @@ fn locking_of(command: &Command, name: &MapName) -> Locking {
         Command::Revnet { store, .. } if store.map == name.map => Locking::FromReading,
         Command::Session { .. } => Locking::FromWriting,
         _ => Locking::Never,
+    }
+}
+
+/// The ports from which a command opens wires. A server gives the rows of a secure map to those under 1,024 alone, and
+/// what fetches maps fetches these, too.
+fn local_ports_of(command: &Command) -> LocalPorts {
+    match command {
+        Command::Xfr(_) | Command::Serve(_) | Command::Session { .. } => LocalPorts::Reserved,
+        _ => LocalPorts::Any,
     }
 }
 
@@ -111,9 +120,9 @@ fn main(rt: HostRuntime) -> ExitCode {
         disks,
         clock: SystemClock::new(&rt),
         listen,
-        dial: TcpDial::new(alloc, rt),
+        dial: TcpDial::new(alloc, rt, local_ports_of(&command)),
         inbox,
-        texts: TextFolder::new(rt),
+        texts: TextFolder::new(alloc, rt),
     };
     let (status, _outside) = run_command(alloc, &rt, command, outside, &mut Trail::new());
     ExitCode::from(status.code())

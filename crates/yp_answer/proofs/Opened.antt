@@ -1,5 +1,5 @@
 -- A MAKE that is left open.
-use Rattle.std.proofs.Common.{◌≡◌, ℕ, not, cond, List, drop, Result, Ok, Err, subst, refl, inl, inr}
+use Rattle.std.proofs.Common.{◌≡◌, ℕ, not, cond, List, drop, Option, Some, Result, Ok, Err, subst, refl, inl, inr}
 use Rattle.std.specs.Prelude.{bytes_eq}
 use Rattle.std.proofs.lemmas.Bool.{cases_Bool}
 use Rattle.std.proofs.lemmas.Slice.Eq.{bytes_eq-Decides}
@@ -7,6 +7,7 @@ use Rattle.yp_io.specs.declared.stream.Peer.{Peer}
 use Rattle.yp_rpc.specs.declared.judging.Judged.{Judged}
 use Rattle.yp_rpc.specs.declared.judging.Judged.TheVariants.{Ignored, Admitted}
 use Rattle.yp_rpc.specs.declared.judging.Judged.TheVariants as judged
+use Rattle.yp_xdr.specs.Kind.{Value}
 use Rattle.yp_messages.specs.declared.transfer.XfrStat.{XfrStat}
 use Rattle.yp_messages.specs.declared.transfer.XfrStat.TheVariants.{Refused}
 use Rattle.yp_messages.specs.Messages.{req_domain, req_key, req_nokey}
@@ -15,11 +16,11 @@ use Rattle.yp_board.specs.Catalogues.{serves}
 use Rattle.yp_answer.specs.declared.caller.Caller.{Caller}
 use Rattle.yp_answer.specs.declared.procedure.Path.{Path}
 use Rattle.yp_answer.specs.declared.procedure.Procedure.{Procedure}
-use Rattle.yp_answer.specs.declared.procedure.Procedure.TheVariants.{Null, Domain, DomainNonack, Match, First, Next, Xfr, Clear, All, Master, Order, Maplist, Make}
+use Rattle.yp_answer.specs.declared.procedure.Procedure.TheVariants.{Null, Domain, DomainNonack, Match, First, Next, Xfr, Clear, All, Master, Order, Maplist, Make, MakeNamed}
 use Rattle.yp_answer.specs.Maps.{Maps}
 use Rattle.yp_answer.specs.declared.make.MakeJob.{MakeJob}
 use Rattle.yp_io.specs.Peers.{own_host}
-use Rattle.yp_answer.specs.Make.{MakeRequest, make_check}
+use Rattle.yp_answer.specs.Make.{map_numbered, make_check}
 use Rattle.yp_answer.specs.Transfer.{XfrRequest, Taken, taken_for, xfr_check}
 use Rattle.yp_answer.specs.Reply.{Response, Takes, Open, arguments_of, xfr_response, make_response, procedure_reply, judged_reply}
 use Rattle.yp_answer.proofs.Targets.{IsSpecial, not_of_bytes, of_arguments, not_of_either}
@@ -28,7 +29,7 @@ use Rattle.yp_answer.proofs.Targets.{IsSpecial, not_of_bytes, of_arguments, not_
 
 -- a map is made for what was asked for, or a transfer is taken
 abbrev pub IsAsked : Maps → Peer → Response → Type 0
-IsAsked maps peer (Open xid job) = (asked : MakeRequest) × (make_check maps.catalogue peer asked ≡ Ok job)
+IsAsked maps peer (Open xid job) = (domain : List ℕ) × (map : Option (List ℕ)) × (make_check maps.catalogue peer domain map ≡ Ok job)
 IsAsked maps peer (Takes bytes taken) = (asked : XfrRequest) × (map : ℕ) × (xfr_check maps asked ≡ Ok map) × (taken ≡ taken_for asked map)
 IsAsked maps peer _ = ⊥
 
@@ -38,10 +39,11 @@ open_is_special xid job = record { no_bytes = λ bytes e. absurd cc; no_silence 
 takes_is_special : (bytes : List ℕ) (taken : Taken) → IsSpecial (Takes bytes taken)
 takes_is_special bytes taken = record { no_bytes = λ some e. absurd cc; no_silence = λ e. absurd cc }
 
-of_make : (maps : Maps) (peer : Peer) (target : Response) (number : ℕ) (asked : MakeRequest) (check : Result MakeJob XfrStat) → make_check maps.catalogue peer asked ≡ check → IsSpecial target
+of_make : (maps : Maps) (peer : Peer) (target : Response) (number : ℕ) (domain : List ℕ) (map : Option (List ℕ)) (check : Result MakeJob XfrStat)
+    → make_check maps.catalogue peer domain map ≡ check → IsSpecial target
     → make_response number check ≡ target → IsAsked maps peer target
-of_make maps peer target number asked (Err stat) is special e = absurd (special.no_bytes _ e)
-of_make maps peer target number asked (Ok job) is special e = subst (IsAsked maps peer) e (asked, is)
+of_make maps peer target number domain map (Err stat) is special e = absurd (special.no_bytes _ e)
+of_make maps peer target number domain map (Ok job) is special e = subst (IsAsked maps peer) e (domain, map, is)
 
 of_xfr : (maps : Maps) (peer : Peer) (target : Response) (number : ℕ) (asked : XfrRequest) (check : Result ℕ XfrStat) → xfr_check maps asked ≡ check → IsSpecial target
     → xfr_response number asked check ≡ target → IsAsked maps peer target
@@ -65,8 +67,11 @@ of_procedure maps caller Master bytes target special e = absurd (not_of_bytes ta
 of_procedure maps caller Order bytes target special e = absurd (not_of_bytes target caller.xid (arguments_of req_nokey bytes) _ special e)
 of_procedure maps caller Maplist bytes target special e = absurd (not_of_bytes target caller.xid (arguments_of req_domain bytes) _ special e)
 of_procedure maps caller Make bytes target special e =
-    of_arguments target caller.xid (arguments_of req_make bytes) _ _ special e (λ (v : MakeRequest) h.
-    of_make maps caller.peer target caller.xid v (make_check maps.catalogue caller.peer v) refl special h)
+    of_arguments target caller.xid (arguments_of req_make bytes) _ _ special e (λ (v : Value req_make) h.
+    of_make maps caller.peer target caller.xid v.0 (map_numbered v.1) (make_check maps.catalogue caller.peer v.0 (map_numbered v.1)) refl special h)
+of_procedure maps caller MakeNamed bytes target special e =
+    of_arguments target caller.xid (arguments_of req_nokey bytes) _ _ special e (λ (v : Value req_nokey) h.
+    of_make maps caller.peer target caller.xid v.0 (Some v.1) (make_check maps.catalogue caller.peer v.0 (Some v.1)) refl special h)
 
 of_judged : (path : Path) (maps : Maps) (peer : Peer) (message : List ℕ) (was : Judged Procedure) (target : Response) → IsSpecial target → judged_reply path maps peer message was ≡ target
     → IsAsked maps peer target
@@ -94,4 +99,4 @@ from_own_host addr job later e =
     ]
 
 pub asked_is_local : (maps : Maps) (peer : Peer) (xid : ℕ) (job : MakeJob) → IsAsked maps peer (Open xid job) → peer.addr ≡ own_host
-asked_is_local maps peer xid job asked = from_own_host peer.addr job _ asked.1
+asked_is_local maps peer xid job asked = from_own_host peer.addr job _ asked.2

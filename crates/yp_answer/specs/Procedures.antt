@@ -8,6 +8,7 @@ use Rattle.yp_answer.specs.declared.procedure.Path.TheVariants.{Stream, Datagram
 use Rattle.yp_answer.specs.declared.procedure.Procedure.{Procedure}
 use Rattle.yp_answer.specs.declared.procedure.Procedure.TheVariants.{Null, Domain, DomainNonack, Match, First, Next}
 use Rattle.yp_answer.specs.declared.procedure.Procedure.TheVariants.{Xfr, Clear, All, Master, Order, Maplist, Make}
+use Rattle.yp_answer.specs.declared.procedure.Procedure.TheVariants.{MakeNamed}
 
 -- a whole map is sent over a stream alone
 abbrev pub all_on : Path → Option Procedure
@@ -36,7 +37,8 @@ abbrev pub make_procedure_of : ℕ → Option Procedure
 make_procedure_of number =
     if number == numbers.make_null_procedure then Some Null
     else (if number == numbers.make_procedure then Some Make
-    else None)
+    else (if number == numbers.make_named_procedure then Some MakeNamed
+    else None))
 
 -- the programs that are answered on a path
 abbrev pub programs_on : Path → ProgramTable Procedure

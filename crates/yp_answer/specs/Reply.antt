@@ -25,13 +25,14 @@ use Rattle.yp_answer.specs.declared.procedure.Procedure.{Procedure}
 use Rattle.yp_answer.specs.declared.caller.Caller.{Caller}
 use Rattle.yp_answer.specs.declared.procedure.Procedure.TheVariants.{Null, Domain, DomainNonack, Match, First, Next}
 use Rattle.yp_answer.specs.declared.procedure.Procedure.TheVariants.{Xfr, Clear, All, Master, Order, Maplist, Make}
+use Rattle.yp_answer.specs.declared.procedure.Procedure.TheVariants.{MakeNamed}
 use Rattle.yp_rpc.specs.Turns.{datagram_max}
 use Rattle.yp_answer.specs.Maps.{Maps, map_check, row_check}
 use Rattle.yp_answer.specs.Results.{no_value, no_row, matched, first_row, next_row, all_items, mastered, ordered}
 use Rattle.yp_answer.specs.Results.{maps_listed}
 use Rattle.yp_answer.specs.Procedures.{programs_on}
 use Rattle.yp_answer.specs.declared.make.MakeJob.{MakeJob}
-use Rattle.yp_answer.specs.Make.{make_check}
+use Rattle.yp_answer.specs.Make.{map_numbered, make_check}
 use Rattle.yp_answer.specs.Transfer.{XfrRequest, Taken, asked_transid, taken_for, xfr_check}
 
 -- What a record gets: no reply, this reply message, the same and a transfer is taken, or, to the call with this xid,
@@ -81,11 +82,11 @@ value_read (Err fault) = Err fault
 abbrev pub arguments_of : (kind : Kind) → List ℕ → Result (Value kind) XdrFault
 arguments_of kind bytes = value_read (reading kind (record { at = 0; bytes = bytes }))
 
--- the reply of MAKE with a status
+-- the reply of the make program with a status
 abbrev pub make_reply : ℕ → XfrStat → List ℕ
 make_reply xid stat = success xid resp_make (xfr_number stat)
 
--- MAKE has the status that refuses it, or its map is made first
+-- a call to make a map has the status that refuses it, or the map is made first
 abbrev pub make_response : ℕ → Result MakeJob XfrStat → Response
 make_response xid (Err stat) = Bytes (make_reply xid stat)
 make_response xid (Ok job) = Open xid job
@@ -138,7 +139,11 @@ procedure_reply maps caller Maplist bytes =
     (λ domain. Bytes (success caller.xid map_list (maps_listed maps domain)))
 procedure_reply maps caller Make bytes =
     with_arguments caller.xid (arguments_of req_make bytes)
-    (λ asked. make_response caller.xid (make_check maps.catalogue caller.peer asked))
+    (λ asked. make_response caller.xid
+    (make_check maps.catalogue caller.peer asked.0 (map_numbered asked.1)))
+procedure_reply maps caller MakeNamed bytes =
+    with_arguments caller.xid (arguments_of req_nokey bytes)
+    (λ asked. make_response caller.xid (make_check maps.catalogue caller.peer asked.0 (Some asked.1)))
 
 -- the reply to a message that isn't answered, or to a call that isn't let to a procedure, or is
 abbrev pub judged_reply : Path → Maps → Peer → List ℕ → Judged Procedure → Response
@@ -160,6 +165,7 @@ asks_for Domain bytes = false
 asks_for DomainNonack bytes = false
 asks_for Clear bytes = false
 asks_for Make bytes = false
+asks_for MakeNamed bytes = false
 asks_for Match bytes = is_ok (arguments_of req_key bytes)
 asks_for First bytes = is_ok (arguments_of req_nokey bytes)
 asks_for Next bytes = is_ok (arguments_of req_key bytes)

@@ -1,6 +1,7 @@
 pub mod Numbers
 pub mod ShownVersion
 pub mod Results
+pub mod Make
 pub mod Causes
 pub mod Transfer
 pub mod Reply

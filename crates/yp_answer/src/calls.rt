@@ -1,14 +1,16 @@
 //! The reply to one call.
 
-ghost use Rattle.std.specs.Prelude.{◌≡◌, ◌≢◌, ◌≤◌, length, IfOk, MatchResult};
+ghost use Rattle.std.specs.Prelude.{◌≡◌, ◌≢◌, ◌≤◌, length, option_map, IfOk, MatchResult};
 ghost use Rattle.yp_answer.specs.declared.procedure.Path.TheVariants as paths;
 ghost use Rattle.yp_rpc.specs.Turns.{datagram_max};
 ghost use Rattle.yp_answer.specs.Numbers.{record_max};
 ghost use Rattle.yp_answer.specs.inside.Numbers.{room_of};
 ghost use Rattle.yp_answer.specs.Maps.{maps_of};
-ghost use Rattle.yp_answer.specs.Reply.{asks, asks_for, garbage, procedure_reply};
+ghost use Rattle.yp_answer.specs.Make.{make_check};
+ghost use Rattle.yp_answer.specs.Reply.{asks, asks_for, garbage, make_response, procedure_reply};
 ghost use Rattle.yp_answer.specs.Answers.{StepsWhere};
-ghost use Rattle.yp_answer.specs.inside.Answers.{IsAnswer, IsNoStream, IsProcedureAnswer, IsReadAnswer, Streams};
+ghost use Rattle.yp_answer.specs.inside.Answers.{HasReply, IsAnswer, IsNoStream, IsProcedureAnswer, IsReadAnswer};
+ghost use Rattle.yp_answer.specs.inside.Answers.{Streams};
 
 use crate::arguments::{read_arguments, read_refreshed};
 use crate::caller::{Caller, put_head};
@@ -17,7 +19,7 @@ use crate::facts::{
     answer_domain, answer_domain_nonack, answer_maplist, answer_master, answer_order,
 };
 use crate::look_up::{answer_first, answer_match, answer_next};
-use crate::make::{MakeJob, make_check, make_reply};
+use crate::make::{MakeJob, make_check, make_reply, map_numbered};
 use crate::procedure::{Path, Procedure};
 use crate::stream::AllStream;
 use crate::transfer::{TransferJob, answer_xfr};
@@ -65,7 +67,32 @@ fn answer_all<V: View>(
     Ok(AllStream::new(caller.xid, source))
 }
 
-/// Answers MAKE: with the status that refuses it, or with what is to be made.
+/// Answers a call to make a map of a domain: with the status that refuses it, or with what is to be made.
+fn answer_making<'a, V: View>(
+    view: &V,
+    caller: &Caller,
+    domain: &[u8],
+    map: Option<&[u8]>,
+    buf: &mut [u8],
+) -> Answered<'a>
+    requires { room_of caller.now.path ≤ length buf.old }
+    ensures reply { let maps = maps_of (V.seen view.now) in let name = option_map (λ name. name.now) map.entry in
+        HasReply maps (make_response caller.now.xid (make_check maps.catalogue caller.now.peer domain.now name))
+        result buf.new }
+    ensures no_stream { IsNoStream result }
+{
+    match make_check(view.catalog(), caller.peer, domain, map) {
+        Err(stat) => Answered::Reply {
+            len: make_reply(buf, caller.xid, stat),
+        },
+        Ok(job) => Answered::Make {
+            xid: caller.xid,
+            job,
+        },
+    }
+}
+
+/// Answers MAKE, which asks for the map of a kind.
 fn answer_make<'a, V: View>(
     view: &V,
     caller: &Caller,
@@ -76,16 +103,26 @@ fn answer_make<'a, V: View>(
     ensures reply { IsReadAnswer (maps_of (V.seen view.now)) caller.now Procedure.Make arguments.now result buf.new }
     ensures no_stream { IfOk result IsNoStream }
 {
-    let request: ReqMake<'_> = read_arguments(arguments)?;
-    Ok(match make_check(view.catalog(), caller.peer, &request) {
-        Err(stat) => Answered::Reply {
-            len: make_reply(buf, caller.xid, stat),
-        },
-        Ok(job) => Answered::Make {
-            xid: caller.xid,
-            job,
-        },
-    })
+    let asked: ReqMake<'_> = read_arguments(arguments)?;
+    let map = map_numbered(asked.kind);
+    Ok(answer_making(view, caller, asked.domain, map, buf))
+}
+
+/// Answers MAKE_NAMED, which asks for a map by its name.
+fn answer_make_named<'a, V: View>(
+    view: &V,
+    caller: &Caller,
+    arguments: &'a [u8],
+    buf: &mut [u8],
+) -> Result<Answered<'a>, XdrFault>
+    requires { room_of caller.now.path ≤ length buf.old }
+    ensures reply { let maps = maps_of (V.seen view.now) in
+        IsReadAnswer maps caller.now Procedure.MakeNamed arguments.now result buf.new }
+    ensures no_stream { IfOk result IsNoStream }
+{
+    let asked: ReqNokey<'_> = read_arguments(arguments)?;
+    let map = Some(asked.map);
+    Ok(answer_making(view, caller, asked.domain, map, buf))
 }
 
 /// Answers a call that is let to a procedure, where its arguments can be read.
@@ -117,6 +154,7 @@ fn answer_arguments<'a, V: View>(
         Procedure::Order => answer_order(view, caller, arguments, buf)?,
         Procedure::Maplist => answer_maplist(view, caller, arguments, buf)?,
         Procedure::Make => return answer_make(view, caller, arguments, buf),
+        Procedure::MakeNamed => return answer_make_named(view, caller, arguments, buf),
     };
     Ok(Answered::Reply { len })
 }

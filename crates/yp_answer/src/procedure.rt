@@ -4,8 +4,8 @@ ghost use Rattle.std.specs.Prelude.{◌≡◌};
 ghost use Rattle.yp_answer.specs.Procedures.{procedure_of, make_procedure_of, programs_on};
 
 use yp_messages::protocol::{
-    ALL, CLEAR, DOMAIN, DOMAIN_NONACK, FIRST, MAKE, MAKE_NULL, MAKEPROG, MAKEVERS, MAPLIST, MASTER,
-    MATCH, NEXT, NULL, ORDER, XFR, YPPROG, YPVERS,
+    ALL, CLEAR, DOMAIN, DOMAIN_NONACK, FIRST, MAKE, MAKE_NAMED, MAKE_NULL, MAKEPROG, MAKEVERS,
+    MAPLIST, MASTER, MATCH, NEXT, NULL, ORDER, XFR, YPPROG, YPVERS,
 };
 use yp_rpc::Programs;
 
@@ -34,6 +34,7 @@ pub enum Procedure {
     Order,
     Maplist,
     Make,
+    MakeNamed,
 }
 
 impl Procedure {
@@ -68,6 +69,7 @@ impl Procedure {
         match number {
             MAKE_NULL => Some(Procedure::Null),
             MAKE => Some(Procedure::Make),
+            MAKE_NAMED => Some(Procedure::MakeNamed),
             _ => None,
         }
     }

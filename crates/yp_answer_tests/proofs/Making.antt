@@ -6,10 +6,11 @@ use Rattle.yp_messages.specs.declared.transfer.XfrStat.TheVariants.{Succ, Age, N
 use Rattle.yp_version.specs.Versions.{MapVersion}
 use Rattle.yp_board.specs.Logs.{Log, shown}
 use Rattle.yp_board.specs.Views.{IsFront}
-use Rattle.yp_texts.specs.declared.kind.Kind.{Kind}
+use Rattle.yp_texts.specs.declared.reading.Reading.{Reading}
 use Rattle.yp_texts.specs.After.{Material, material_of, basis_of, other_master, built_after, HasLaterOrder}
 use Rattle.yp_answer.specs.declared.make.MakeJob.{MakeJob}
-use Rattle.yp_answer.specs.Causes.{IsCaused, basis_at}
+use Rattle.yp_board.specs.Catalogues.{Catalogue}
+use Rattle.yp_answer.specs.Causes.{IsCaused, task_at}
 use Rattle.yp_answer.specs.session.Hosts.{Counts, counts_after}
 
 pub front : (log : Log) → IsFront log log
@@ -19,21 +20,21 @@ front log = ([], sym (append-nil log))
 pub other_so : {own name : List ℕ} {last now : Option MapVersion} {found : Option (List ℕ)} → own ≡ name → last ≡ now → found ≡ other_master own last → other_master name now ≡ found
 other_so {own} {name} {last} o l e = ap (λ (v : Option MapVersion). other_master name v) (sym l) ∙ ap (λ (n : List ℕ). other_master n last) (sym o) ∙ sym e
 
-pub built_so : {own name : List ℕ} {last now : Option MapVersion} (kind : Kind) (text : List ℕ) (moment : ℕ) (version : MapVersion) → own ≡ name → last ≡ now
-    → built_after (basis_of kind own None last) (material_of text moment) ≡ Ok version → HasLaterOrder last version
-    → (material : Material) × (built_after (basis_of kind name None now) material ≡ Ok version) × HasLaterOrder now version
-built_so {own} {name} {last} {now} kind text moment version o l e over = (
+pub built_so : {own name : List ℕ} {last now : Option MapVersion} (reading : Reading) (text : List ℕ) (moment : ℕ) (version : MapVersion) → own ≡ name → last ≡ now
+    → built_after (basis_of reading own None last) (material_of text moment) ≡ Ok version → HasLaterOrder last version
+    → (material : Material) × (built_after (basis_of reading name None now) material ≡ Ok version) × HasLaterOrder now version
+built_so {own} {name} {last} {now} reading text moment version o l e over = (
   material_of text moment,
-  subst (λ (v : Option MapVersion). built_after (basis_of kind name None v) (material_of text moment) ≡ Ok version) l
-      (subst (λ (n : List ℕ). built_after (basis_of kind n None last) (material_of text moment) ≡ Ok version) o e),
+  subst (λ (v : Option MapVersion). built_after (basis_of reading name None v) (material_of text moment) ≡ Ok version) l
+      (subst (λ (n : List ℕ). built_after (basis_of reading n None last) (material_of text moment) ≡ Ok version) o e),
   subst (λ (v : Option MapVersion). HasLaterOrder v version) l over,
 )
 
 -- a version that was built and is shown
-pub shown_anew : (own : List ℕ) (job : MakeJob) (log : Log) (version : MapVersion) (new : Log)
-    → (material : Material) × (built_after (basis_at own job log) material ≡ Ok version) × HasLaterOrder (shown job.map log) version
-    → new ≡ log ++ (job.map, version) ∷ [] → IsCaused (record { text = λ file. None; moment = None }) own job Succ log new
-shown_anew own job log version new made is = record {
+pub shown_anew : (catalogue : Catalogue) (job : MakeJob) (log : Log) (version : MapVersion) (new : Log)
+    → (material : Material) × (built_after (task_at catalogue job log).basis material ≡ Ok version) × HasLaterOrder (shown job.map log) version
+    → new ≡ log ++ (job.map, version) ∷ [] → IsCaused (record { text = λ file. None; moment = None }) catalogue job Succ log new
+shown_anew catalogue job log version new made is = record {
   version = version;
   before = log;
   entry = ([], is ∙ sym (append-nil (log ++ (job.map, version) ∷ [])));

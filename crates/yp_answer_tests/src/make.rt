@@ -13,7 +13,7 @@ use yp_board::PlainBoard;
 use yp_io::Peer;
 use yp_messages::XfrStat;
 use yp_rpc::DATAGRAM_MAX;
-use yp_texts::Kind;
+use yp_texts::{Kind, Reading};
 
 const OWN_HOST: [u8; 4] = [127, 0, 0, 1];
 
@@ -85,12 +85,16 @@ fn try_from<R: RandomSource + Abort>(rt: &R, alloc: Global, addr: [u8; 4], rows:
     }
 }
 
-static OF_OTHERS: [&str; 2] = [
+static OF_OTHERS: [&str; 6] = [
     "another host: MAKE LAB HOSTS_KIND -> MADE XFR_REFUSED",
     "another host, before all else: MAKE EMPTY KIND_99 -> MADE XFR_REFUSED",
+    "another host, by name: NAMED LAB HOSTS -> MADE XFR_REFUSED",
+    "another host, by the name of no kind: NAMED LAB BARE_MAP -> MADE XFR_REFUSED",
+    "another host, before empty names: NAMED EMPTY EMPTY -> MADE XFR_REFUSED",
+    "another host, before no such map: NAMED ZZZ NO_MAP -> MADE XFR_REFUSED",
 ];
 
-static REFUSED_MAKES: [&str; 9] = [
+static REFUSED_MAKES: [&str; 19] = [
     "an empty domain: MAKE EMPTY HOSTS_KIND -> MADE YP_BADARGS",
     "an empty domain, before an unknown kind: MAKE EMPTY KIND_99 -> MADE YP_BADARGS",
     "a domain that isn't served: MAKE ZZZ HOSTS_KIND -> MADE YP_NODOM",
@@ -100,6 +104,16 @@ static REFUSED_MAKES: [&str; 9] = [
     "the kind 11: MAKE LAB KIND_11 -> MADE YP_NOMAP",
     "hosts.byaddr, of which lab has no map: MAKE LAB BY_ADDRESS_KIND -> MADE YP_NOMAP",
     "passwd.byname, of which zoo has no map: MAKE ZOO PASSWD_KIND -> MADE YP_NOMAP",
+    "an empty domain, by name: NAMED EMPTY HOSTS -> MADE YP_BADARGS",
+    "an empty domain, before no such map: NAMED EMPTY NO_MAP -> MADE YP_BADARGS",
+    "an empty map: NAMED LAB EMPTY -> MADE YP_BADARGS",
+    "an empty map, before a domain that isn't served: NAMED ZZZ EMPTY -> MADE YP_BADARGS",
+    "empty names: NAMED EMPTY EMPTY -> MADE YP_BADARGS",
+    "a domain that isn't served, by name: NAMED ZZZ HOSTS -> MADE YP_NODOM",
+    "a domain that isn't served, before no such map: NAMED ZZZ NO_MAP -> MADE YP_NODOM",
+    "no such map: NAMED LAB NO_MAP -> MADE YP_NOMAP",
+    "a map that another domain has: NAMED ZOO BARE_MAP -> MADE YP_NOMAP",
+    "a name that goes on: NAMED LAB 00000005 62617265 61000000 -> MADE YP_NOMAP",
 ];
 
 #[test]
@@ -113,7 +127,7 @@ fn refused_makes(rt: HostRuntime) {
 }
 
 // Whole calls of the make program, and the replies to them.
-static OTHER_CALLS: [&str; 7] = [
+static OTHER_CALLS: [&str; 10] = [
     "NULL, whose arguments aren't read: 00000002 00000000 00000002 20004e49 00000001 00000000 \
         00000000 00000000 00000000 00000000 \
         -> 00000002 00000001 00000000 00000000 00000000 00000000",
@@ -123,7 +137,7 @@ static OTHER_CALLS: [&str; 7] = [
     "the version 0: 00000003 00000000 00000002 20004e49 00000000 00000001 00000000 00000000 \
         00000000 00000000 \
         -> 00000003 00000001 00000000 00000000 00000000 00000002 00000001 00000001",
-    "the procedure 2: 00000002 00000000 00000002 20004e49 00000001 00000002 00000000 00000000 \
+    "the procedure 3: 00000002 00000000 00000002 20004e49 00000001 00000003 00000000 00000000 \
         00000000 00000000 \
         -> 00000002 00000001 00000000 00000000 00000000 00000003",
     "MAKE without arguments: 00000002 00000000 00000002 20004e49 00000001 00000001 00000000 \
@@ -134,6 +148,10 @@ static OTHER_CALLS: [&str; 7] = [
         -> 00000002 00000001 00000000 00000000 00000000 00000004",
     "MAKE of a domain of 65 bytes: 00000002 00000000 00000002 20004e49 00000001 00000001 \
         00000000 00000000 00000000 00000000 00000041 \
+        -> 00000002 00000001 00000000 00000000 00000000 00000004",
+    "by name, without arguments: NAMED -> 00000002 00000001 00000000 00000000 00000000 00000004",
+    "by name, without a map: NAMED LAB -> 00000002 00000001 00000000 00000000 00000000 00000004",
+    "by a name of 65 bytes: NAMED LAB 00000041 \
         -> 00000002 00000001 00000000 00000000 00000000 00000004",
 ];
 
@@ -172,19 +190,29 @@ fn open_make(
     opened_by(rt, path, board, call, &mut buf)
 }
 
-// Calls that are left open, and the number of the map that each asks for. Bytes behind the arguments aren't read.
-static OPEN: [(&str, u32); 3] = [
-    ("MAKE LAB HOSTS_KIND", 0),
-    ("MAKE LAB HOSTS_KIND 01020304", 0),
-    ("MAKE ZOO HOSTS_KIND", 1),
+// A call that is left open, the number of the map that it asks for, and how the text of that is read.
+type Open = (&'static str, u32, Reading);
+
+const AS_HOSTS: Reading = Reading::Text(Kind::HostsByname);
+
+// Bytes behind the arguments aren't read.
+static OPEN: [Open; 8] = [
+    ("MAKE LAB HOSTS_KIND", 0, AS_HOSTS),
+    ("MAKE LAB HOSTS_KIND 01020304", 0, AS_HOSTS),
+    ("MAKE ZOO HOSTS_KIND", 1, AS_HOSTS),
+    ("NAMED LAB HOSTS", 0, AS_HOSTS),
+    ("NAMED LAB HOSTS 01020304", 0, AS_HOSTS),
+    ("NAMED ZOO HOSTS", 1, AS_HOSTS),
+    ("NAMED LAB BARE_MAP", 2, Reading::Rows),
+    ("NAMED LAB EMPTY_MAP", 3, Reading::Rows),
 ];
 
-fn try_open(rt: &impl Abort, alloc: Global, board: &mut PlainBoard, row: &(&str, u32)) {
-    let (name, map) = row;
+fn try_open(rt: &impl Abort, alloc: Global, board: &mut PlainBoard, row: &Open) {
+    let (name, map, reading) = row;
     let call = words(rt, alloc, name);
     let job = MakeJob {
         map: *map,
-        kind: Kind::HostsByname,
+        reading: *reading,
     };
     let by_record = open_make(rt, alloc, Path::Stream, board, &call);
     assert_same(rt, &by_record, &(2, job), name);

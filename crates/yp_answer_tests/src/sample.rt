@@ -21,8 +21,8 @@ use yp_version::{Version, VersionBuilder};
 // ---- words
 
 // A name for each word or words of a call or a reply. A procedure stands for a call with the xid 7, without credential
-// or verifier, up to its arguments, and MAKE for one of the make program, with the xid 2. How a call was accepted
-// stands for a reply up to its results.
+// or verifier, up to its arguments, and MAKE and NAMED, by a kind and by a name, for one of the make program, with the
+// xid 2. How a call was accepted stands for a reply up to its results.
 static NAMES: &str = "\
 NULL = 00000007 00000000 00000002 000186a4 00000002 00000000 00000000 00000000 00000000 00000000
 DOMAIN = 00000007 00000000 00000002 000186a4 00000002 00000001 00000000 00000000 00000000 00000000
@@ -70,6 +70,7 @@ PEER_X = 00000001 78000000
 TRANSACTION = 00000009
 CALL_BACK = 00000009 40000000 00001b5a
 MAKE = 00000002 00000000 00000002 20004e49 00000001 00000001 00000000 00000000 00000000 00000000
+NAMED = 00000002 00000000 00000002 20004e49 00000001 00000002 00000000 00000000 00000000 00000000
 MADE = 00000002 00000001 00000000 00000000 00000000 00000000
 PASSWD_KIND = 00000001
 HOSTS_KIND = 00000005

@@ -5,6 +5,7 @@ use Rattle.yp_rpc.specs.Called.{call_of}
 use Rattle.yp_messages.specs.Numbers.{program, version, match_procedure}
 use Rattle.yp_messages.specs.Numbers.{first_procedure, next_procedure, xfr_procedure, all_procedure}
 use Rattle.yp_messages.specs.Numbers.{master_procedure, order_procedure, maplist_procedure}
+use Rattle.yp_messages.specs.Numbers.{make_program, make_version, make_named_procedure}
 use Rattle.yp_messages.specs.Messages.{req_domain, req_key, req_nokey}
 use Rattle.yp_messages.specs.Transfers.{req_xfr}
 
@@ -41,3 +42,7 @@ pull_request domain map source = (domain, (map, (0, (source, (0, (0, 0))))))
 
 abbrev pub pull_call : List ℕ → List ℕ → List ℕ → ℕ → List ℕ
 pull_call domain map source xid = xfr_call (pull_request domain map source) xid
+
+-- of the make program: a map of a domain, by its name
+abbrev pub make_named_call : List ℕ → List ℕ → ℕ → List ℕ
+make_named_call domain map xid = call_of req_nokey xid make_program make_version make_named_procedure (domain, map)

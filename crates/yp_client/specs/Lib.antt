@@ -8,4 +8,5 @@ pub mod Calls
 pub mod All
 pub mod Questions
 pub mod query
+pub mod orders
 pub mod inside

@@ -15,7 +15,7 @@ use Rattle.yp_messages.specs.Numbers.{key_max, value_max}
 use Rattle.yp_messages.specs.Statuses.{stat}
 use Rattle.yp_messages.specs.Messages.{name}
 use Rattle.yp_messages.specs.MapLists.{map_list}
-use Rattle.yp_messages.specs.Transfers.{resp_xfr}
+use Rattle.yp_messages.specs.Transfers.{resp_xfr, resp_make}
 use Rattle.yp_client.specs.declared.fault.ClientFault.{ClientFault}
 use Rattle.yp_client.specs.declared.fault.ClientFault.TheVariants.{Yp, Denied, BadReply, BadXid, NoMemory}
 
@@ -121,6 +121,13 @@ taken_of xid message = do
   left ← results_of xid message
   taken ← item resp_xfr left
   Ok taken.0.1
+
+-- of the make program: the number of a status, whichever it is
+abbrev pub made_of : ℕ → List ℕ → Result ℤ ClientFault
+made_of xid message = do
+  left ← results_of xid message
+  made ← item resp_make left
+  Ok made.0
 
 -- ---- what a call answers
 

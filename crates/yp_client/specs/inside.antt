@@ -10,3 +10,4 @@ pub mod Listed
 pub mod Lent
 pub mod Questions
 pub mod query
+pub mod orders

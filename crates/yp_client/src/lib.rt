@@ -8,7 +8,7 @@
 //! A [`Question`] is what a client command asks of a server. The words of the command line make it, and a query asks
 //! it. That its names and its key fit into a call stands on [`Question::is_within`].
 //!
-//! [`query`] asks what a client command asks, and prints the answer.
+//! [`query`] asks what a client command asks, and prints the answer. [`orders`] compares the orders of servers.
 #![tactic(auto)]
 
 mod all;
@@ -18,6 +18,7 @@ mod dialed;
 mod exchange;
 mod fault;
 pub mod limits;
+pub mod orders;
 mod procedures;
 pub mod query;
 mod question;

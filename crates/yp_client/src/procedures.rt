@@ -7,14 +7,13 @@ ghost use Rattle.yp_messages.specs.Numbers.{name_max, key_max};
 ghost use Rattle.yp_messages.specs.inside.Transfers.{req_xfr_view, ReqXfrIsWithin};
 ghost use Rattle.yp_client.specs.Results.{value_of, row_of, master_of, order_of, maps_of};
 ghost use Rattle.yp_client.specs.inside.Results.{nothing_of, served_of};
-ghost use Rattle.yp_client.specs.Results.{taken_of};
-ghost use Rattle.yp_client.specs.inside.Results.{made_of};
+ghost use Rattle.yp_client.specs.Results.{taken_of, made_of};
 ghost use Rattle.yp_client.specs.Said.{SaysNumber, SaysBytes, SaysNames, SaysStat};
 ghost use Rattle.yp_client.specs.inside.Said.{SaysNothing, SaysBool, SaysRow};
 ghost use Rattle.yp_client.specs.Asked.{maplist_call, first_call, master_call};
 ghost use Rattle.yp_client.specs.inside.Asked.{null_call, clear_call, domain_call};
 ghost use Rattle.yp_client.specs.Asked.{order_call};
-ghost use Rattle.yp_client.specs.Asked.{match_call, next_call, xfr_call};
+ghost use Rattle.yp_client.specs.Asked.{match_call, next_call, xfr_call, make_named_call};
 ghost use Rattle.yp_client.specs.inside.Asked.{make_call};
 ghost use Rattle.yp_client.specs.Limits.{reply_max};
 ghost use Rattle.yp_client.specs.inside.States.{state_of};
@@ -30,8 +29,8 @@ use crate::exchange::RemoteProcedure;
 use crate::fault::ClientFault;
 use yp_io::{Sink, Source};
 use yp_messages::protocol::{
-    CLEAR, DOMAIN, FIRST, MAKE, MAKEPROG, MAKEVERS, MAPLIST, MASTER, MATCH, NEXT, NULL, ORDER, XFR,
-    YPPROG, YPVERS,
+    CLEAR, DOMAIN, FIRST, MAKE, MAKE_NAMED, MAKEPROG, MAKEVERS, MAPLIST, MASTER, MATCH, NEXT, NULL,
+    ORDER, XFR, YPPROG, YPVERS,
 };
 use yp_messages::{MapList, Message, ReqDomain, ReqKey, ReqMake, ReqNokey, ReqXfr, XfrStat};
 
@@ -246,6 +245,24 @@ impl<S: Source, K: Sink> Client<S, K> {
                 procedure: MAKE,
             },
             &ReqMake { domain, kind },
+            &MakeResult,
+        )
+    }
+
+    /// MAKE_NAMED of the make program: has the server make a map anew, by its name.
+    pub fn make_named(&mut self, domain: &[u8], map: &[u8]) -> Result<XfrStat, ClientFault>
+        requires domain { length domain.now ≤ name_max }
+        requires map { length map.now ≤ name_max }
+        ensures { Calls reply_max (make_named_call domain.now map.now) (SaysStat made_of) result
+            (state_of S.Source K.Sink self.old) (state_of S.Source K.Sink self.new) }
+    {
+        self.call(
+            RemoteProcedure {
+                prog: MAKEPROG,
+                vers: MAKEVERS,
+                procedure: MAKE_NAMED,
+            },
+            &ReqNokey { domain, map },
             &MakeResult,
         )
     }

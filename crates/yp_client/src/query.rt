@@ -3,12 +3,12 @@
 //! A query dials a server, makes its calls, gives the wire back, and prints the whole answer, or nothing of a refusal.
 //! Its promise stands on [`query`].
 
-mod answer;
+pub(crate) mod answer;
 mod dialed;
-mod fault;
+pub(crate) mod fault;
 mod print;
-mod text;
-mod transfer;
+mod status;
+pub(crate) mod text;
 
 pub use dialed::query;
 pub use fault::QueryFault;

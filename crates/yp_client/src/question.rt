@@ -47,6 +47,11 @@ pub enum Question<T> {
         map: T,
         source: T,
     },
+    /// MAKE_NAMED of the make program: has the server make a map anew.
+    Make {
+        domain: T,
+        map: T,
+    },
     /// ALL of the map `netgroup`: `yes` or `no`, whether a host, a user and a domain are a member of a group. What
     /// isn't given may be any.
     Innetgr {
@@ -78,6 +83,7 @@ impl Question<Vec<u8>> {
                 map,
                 source,
             } => is_name(domain) && is_name(map) && is_name(source),
+            Question::Make { domain, map } => is_name(domain) && is_name(map),
             Question::Innetgr { domain, .. } => is_name(domain),
         }
     }

@@ -48,7 +48,8 @@ fn assert_within<R: Abort>(rt: &R, question: &Question<Vec<u8>>)
     assert!(rt; question.is_within());
 }
 
-fn text<R: Abort>(rt: &R, alloc: Global, text: &[u8]) -> Vec<u8> {
+/// A copy of bytes.
+pub fn text<R: Abort>(rt: &R, alloc: Global, text: &[u8]) -> Vec<u8> {
     text.to_vec(alloc).expect(rt, "a text")
 }
 
@@ -94,6 +95,10 @@ fn owned<R: Abort>(rt: &R, alloc: Global, question: &Fixed) -> Question<Vec<u8>>
             map: text(rt, alloc, map),
             source: text(rt, alloc, source),
         },
+        Question::Make { domain, map } => Question::Make {
+            domain: text(rt, alloc, domain),
+            map: text(rt, alloc, map),
+        },
         Question::Innetgr {
             domain,
             group,
@@ -110,8 +115,8 @@ fn owned<R: Abort>(rt: &R, alloc: Global, question: &Fixed) -> Question<Vec<u8>>
     }
 }
 
-// The numbers of calls that fail.
-fn list<R: Abort>(rt: &R, alloc: Global, calls: &[u64]) -> Vec<u64> {
+/// The numbers of calls that fail.
+pub fn list<R: Abort>(rt: &R, alloc: Global, calls: &[u64]) -> Vec<u64> {
     Vec::from_slice(alloc, calls).expect(rt, "a list")
 }
 

@@ -307,3 +307,15 @@ fn make_program(rt: HostRuntime) {
     assert_same(&rt, &client.make(b"lab", 5), &Ok(XfrStat::Succ), "MAKE");
     assert_sent(&rt, alloc, client, call, "MAKE");
 }
+
+#[test]
+fn make_program_by_name(rt: HostRuntime) {
+    let alloc = rt.alloc();
+    let reply = "8000001c 00000002 00000001 00000000 00000000 00000000 00000000 fffffff7";
+    let call = "80000040 00000002 00000000 00000002 20004e49 00000001 00000002 00000000 00000000 \
+        00000000 00000000 00000003 6c616200 0000000c 686f7374 732e6279 6e616d65";
+    let mut client = fair_client(&rt, alloc, &[reply], 2);
+    let made = client.make_named(b"lab", b"hosts.byname");
+    assert_same(&rt, &made, &Ok(XfrStat::File), "MAKE_NAMED");
+    assert_sent(&rt, alloc, client, call, "MAKE_NAMED");
+}

@@ -1,4 +1,5 @@
-//! Tests of `yp_client`, `yp_client::query` and `yp_end_to_end::exchange`: clients, and clients that ask servers.
+//! Tests of `yp_client`, `yp_client::query`, `yp_client::orders` and `yp_end_to_end::exchange`: clients, and clients
+//! that ask servers.
 #![tactic(auto)]
 
 #[cfg(test)]
@@ -13,5 +14,7 @@ mod exchange;
 mod given;
 #[cfg(test)]
 mod lent;
+#[cfg(test)]
+mod orders;
 #[cfg(test)]
 mod queries;

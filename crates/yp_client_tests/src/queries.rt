@@ -46,6 +46,11 @@ const PULL: Fixed = Question::Pull {
     source: b"m1",
 };
 
+const MAKE: Fixed = Question::Make {
+    domain: b"lab",
+    map: b"hosts.byname",
+};
+
 const ALPHA_CALL: &str =
     "8000004c 00000001 00000000 00000002 000186a4 00000002 00000003 00000000 00000000 \
     00000000 00000000 00000003 6c616200 0000000c 686f7374 732e6279 6e616d65 00000005 616c7068 61000000";
@@ -85,6 +90,11 @@ const PULL_CALL: &str =
     "80000058 00000001 00000000 00000002 000186a4 00000002 00000006 00000000 00000000 \
     00000000 00000000 00000003 6c616200 0000000c 686f7374 732e6279 6e616d65 00000000 00000002 6d310000 \
     00000000 00000000 00000000";
+
+/// The call of MAKE_NAMED for `hosts.byname` in `lab`.
+const MAKE_CALL: &str =
+    "80000040 00000001 00000000 00000002 20004e49 00000001 00000002 00000000 00000000 \
+    00000000 00000000 00000003 6c616200 0000000c 686f7374 732e6279 6e616d65";
 
 const NO_ROWS: &str = "8000001c 00000001 00000001 00000000 00000000 00000000 00000000 00000000";
 
@@ -326,86 +336,93 @@ static STATUSES: [Taken; 16] = [
     ("00000001", Ok(()), b"lab/hosts.byname 1 SUCC\n"),
     (
         "00000002",
-        Err(QueryFault::NotTaken(XfrStat::Age)),
+        Err(QueryFault::NotDone(XfrStat::Age)),
         b"lab/hosts.byname 2 AGE\n",
     ),
     (
         "ffffffff",
-        Err(QueryFault::NotTaken(XfrStat::Nomap)),
+        Err(QueryFault::NotDone(XfrStat::Nomap)),
         b"lab/hosts.byname -1 NOMAP\n",
     ),
     (
         "fffffffe",
-        Err(QueryFault::NotTaken(XfrStat::Nodom)),
+        Err(QueryFault::NotDone(XfrStat::Nodom)),
         b"lab/hosts.byname -2 NODOM\n",
     ),
     (
         "fffffffd",
-        Err(QueryFault::NotTaken(XfrStat::Rsrc)),
+        Err(QueryFault::NotDone(XfrStat::Rsrc)),
         b"lab/hosts.byname -3 RSRC\n",
     ),
     (
         "fffffffc",
-        Err(QueryFault::NotTaken(XfrStat::Rpc)),
+        Err(QueryFault::NotDone(XfrStat::Rpc)),
         b"lab/hosts.byname -4 RPC\n",
     ),
     (
         "fffffffb",
-        Err(QueryFault::NotTaken(XfrStat::Maddr)),
+        Err(QueryFault::NotDone(XfrStat::Maddr)),
         b"lab/hosts.byname -5 MADDR\n",
     ),
     (
         "fffffffa",
-        Err(QueryFault::NotTaken(XfrStat::Yperr)),
+        Err(QueryFault::NotDone(XfrStat::Yperr)),
         b"lab/hosts.byname -6 YPERR\n",
     ),
     (
         "fffffff9",
-        Err(QueryFault::NotTaken(XfrStat::Badargs)),
+        Err(QueryFault::NotDone(XfrStat::Badargs)),
         b"lab/hosts.byname -7 BADARGS\n",
     ),
     (
         "fffffff8",
-        Err(QueryFault::NotTaken(XfrStat::Dbm)),
+        Err(QueryFault::NotDone(XfrStat::Dbm)),
         b"lab/hosts.byname -8 DBM\n",
     ),
     (
         "fffffff7",
-        Err(QueryFault::NotTaken(XfrStat::File)),
+        Err(QueryFault::NotDone(XfrStat::File)),
         b"lab/hosts.byname -9 FILE\n",
     ),
     (
         "fffffff6",
-        Err(QueryFault::NotTaken(XfrStat::Skew)),
+        Err(QueryFault::NotDone(XfrStat::Skew)),
         b"lab/hosts.byname -10 SKEW\n",
     ),
     (
         "fffffff5",
-        Err(QueryFault::NotTaken(XfrStat::Clear)),
+        Err(QueryFault::NotDone(XfrStat::Clear)),
         b"lab/hosts.byname -11 CLEAR\n",
     ),
     (
         "fffffff4",
-        Err(QueryFault::NotTaken(XfrStat::Force)),
+        Err(QueryFault::NotDone(XfrStat::Force)),
         b"lab/hosts.byname -12 FORCE\n",
     ),
     (
         "fffffff3",
-        Err(QueryFault::NotTaken(XfrStat::Xfrerr)),
+        Err(QueryFault::NotDone(XfrStat::Xfrerr)),
         b"lab/hosts.byname -13 XFRERR\n",
     ),
     (
         "fffffff2",
-        Err(QueryFault::NotTaken(XfrStat::Refused)),
+        Err(QueryFault::NotDone(XfrStat::Refused)),
         b"lab/hosts.byname -14 REFUSED\n",
     ),
 ];
 
-fn try_status<R: RandomSource + Abort>(rt: &R, alloc: Global, taken: &Taken) {
+fn try_status<R: RandomSource + Abort>(
+    rt: &R,
+    alloc: Global,
+    question: &Fixed,
+    call: &str,
+    reply: &str,
+    taken: &Taken,
+) {
     let (stat, wanted, line) = taken;
-    let input = bytes(rt, alloc, &[TAKEN_REPLY, *stat]);
-    let calls = bytes(rt, alloc, &[PULL_CALL]);
-    let (result, wires, sent, printed) = ask(rt, alloc, &PULL, input, 4, &FAIR);
+    let input = bytes(rt, alloc, &[reply, *stat]);
+    let calls = bytes(rt, alloc, &[call]);
+    let (result, wires, sent, printed) = ask(rt, alloc, question, input, 4, &FAIR);
     let came = (result, wires, sent.as_slice(), printed.as_slice());
     assert_same(rt, &came, &(*wanted, 1, calls.as_slice(), *line), *stat);
 }
@@ -413,7 +430,46 @@ fn try_status<R: RandomSource + Abort>(rt: &R, alloc: Global, taken: &Taken) {
 #[test]
 fn each_status_of_a_transfer(rt: HostRuntime) {
     for taken in &STATUSES {
-        try_status(&rt, rt.alloc(), taken);
+        try_status(&rt, rt.alloc(), &PULL, PULL_CALL, TAKEN_REPLY, taken);
+    }
+}
+
+/// The reply to a call of the make program, up to its status.
+const MADE_REPLY: &str = "8000001c 00000001 00000001 00000000 00000000 00000000 00000000";
+
+static MADE: [Taken; 6] = [
+    ("00000001", Ok(()), b"lab/hosts.byname made\n"),
+    (
+        "00000002",
+        Err(QueryFault::NotDone(XfrStat::Age)),
+        b"lab/hosts.byname 2 AGE\n",
+    ),
+    (
+        "fffffffd",
+        Err(QueryFault::NotDone(XfrStat::Rsrc)),
+        b"lab/hosts.byname -3 RSRC\n",
+    ),
+    (
+        "fffffff8",
+        Err(QueryFault::NotDone(XfrStat::Dbm)),
+        b"lab/hosts.byname -8 DBM\n",
+    ),
+    (
+        "fffffff7",
+        Err(QueryFault::NotDone(XfrStat::File)),
+        b"lab/hosts.byname -9 FILE\n",
+    ),
+    (
+        "fffffff2",
+        Err(QueryFault::NotDone(XfrStat::Refused)),
+        b"lab/hosts.byname -14 REFUSED\n",
+    ),
+];
+
+#[test]
+fn statuses_of_maps_that_are_made(rt: HostRuntime) {
+    for made in &MADE {
+        try_status(&rt, rt.alloc(), &MAKE, MAKE_CALL, MADE_REPLY, made);
     }
 }
 
@@ -422,7 +478,7 @@ const OTHER_SERVER: Peer = Peer {
     port: 65_535,
 };
 
-static QUESTIONS: [(&str, Fixed); 7] = [
+static QUESTIONS: [(&str, Fixed); 8] = [
     ("CAT", CAT),
     ("CATK", CATK),
     ("MATCH", ALPHA),
@@ -430,6 +486,7 @@ static QUESTIONS: [(&str, Fixed); 7] = [
     ("POLL", POLL),
     ("MAPS", MAPS),
     ("PULL", PULL),
+    ("MAKE", MAKE),
 ];
 
 #[test]
@@ -488,10 +545,15 @@ const SHORT_REPLY: &str = "8000001c 00000001 00000001 00000000 00000000 00000000
 
 const BAD_STATUS: QueryFault = QueryFault::Client(ClientFault::BadReply { at: 28 });
 
+/// The same of a map that is made.
+const NOT_MADE: &str = "8000001c 00000001 00000001 00000000 00000000 00000000 00000000 00000003";
+
+const BAD_MADE: QueryFault = QueryFault::Client(ClientFault::BadReply { at: 24 });
+
 /// The question, the input, the fault, and how many bytes were sent. A call has 68 bytes, 80 with the key, 92 of XFR.
 type Refusal = (&'static str, Fixed, &'static str, QueryFault, usize);
 
-static REFUSALS: [Refusal; 16] = [
+static REFUSALS: [Refusal; 19] = [
     ("CAT, no map", CAT, NOMAP_ROWS_REPLY, NO_MAP, 68),
     ("CATK, torn", CATK, TORN_REPLY, TORN, 68),
     ("MATCH, no key", ALPHA, NOKEY_REPLY, QueryFault::NoKey, 80),
@@ -508,6 +570,9 @@ static REFUSALS: [Refusal; 16] = [
     ("PULL, other reply", PULL, OTHER_REPLY, OTHER_XID, 92),
     ("PULL, no such status", PULL, NO_STATUS, BAD_STATUS, 92),
     ("PULL, no status", PULL, SHORT_REPLY, BAD_STATUS, 92),
+    ("MAKE, torn", MAKE, "", TORN, 68),
+    ("MAKE, denied", MAKE, DENIED_REPLY, DENIED, 68),
+    ("MAKE, no such status", MAKE, NOT_MADE, BAD_MADE, 68),
 ];
 
 fn try_refusal<R: RandomSource + Abort>(rt: &R, alloc: Global, refusal: &Refusal) {

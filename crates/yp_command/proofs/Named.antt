@@ -8,6 +8,7 @@ use Rattle.std.specs.Option.{ok_or, option_map_or, option_and_then}
 use Rattle.std.proofs.lemmas.Bool.Decides.{nat_tests}
 use Rattle.std.proofs.lemmas.List.{append-nil, take_all}
 use Rattle.std.proofs.lemmas.List.Elements.{All-append}
+use Rattle.yp_io.specs.declared.stream.Peer.{Peer}
 use Rattle.yp_version.specs.Limits.{key_max}
 use Rattle.yp_binding.specs.Kept.{servers_max}
 use Rattle.yp_board.specs.readers.Boards.{workers_max}
@@ -22,11 +23,12 @@ use Rattle.yp_command.specs.Words.{Meaning, meaning, ◌>>=◌, word, served, st
 use Rattle.yp_command.specs.Words.{is_new_store, is_new_server, once, session, serve, check, dump, build, load, xfr}
 use Rattle.yp_command.specs.Words.{walk, revnet, sample, push, bind, portmap, getport, asking, match_key, maps, innetgr}
 use Rattle.yp_command.specs.Words.{pull}
+use Rattle.yp_command.specs.Words.{compared, orders, Orders}
 use Rattle.yp_command.specs.Words.{sentence, command_of, each, end, optional, Once, Session, Serve, Check, Dump, Build}
 use Rattle.yp_command.specs.Words.{Load, Xfr, Walk, Revnet, Sample, Push, Bind, Portmap, Getport, Ask}
 use Rattle.yp_command.specs.inside.Words.{IsNamed, IsOneMap, AreMaps as MakeMaps, HasNames, Answers}
 use Rattle.yp_client.specs.declared.question.Question.TheVariants.{Cat, Catk, Match, Which, Poll, Maps, Innetgr}
-use Rattle.yp_client.specs.declared.question.Question.TheVariants.{Pull}
+use Rattle.yp_client.specs.declared.question.Question.TheVariants.{Pull, Make}
 use Rattle.yp_client.specs.Questions.{ByteQuestion}
 use Rattle.yp_client.specs.inside.Questions.{QuestionIsWithin}
 
@@ -558,6 +560,27 @@ innetgr_named words =
     read (word 6 form.member words) _ λ user_domain _. read (end 7 words) _ λ end _.
     whole (Ask peer (Innetgr domain group host user user_domain)) (text_read 2 words domain domain_is)
 
+-- the domain of servers that are compared is a name
+compared_short : (at : ℕ) (peers : List Peer) (domain : List ℕ) (words : List (List ℕ)) (all : List Peer × List ℕ)
+    → length domain ≤ name_max → compared at peers domain words ≡ Ok all → length all.1 ≤ name_max
+compared_short at peers domain [] all short e =
+    let same : (peers, domain) ≡ all = cc in
+    subst (λ (a : List Peer × List ℕ). length a.1 ≤ name_max) same short
+compared_short at peers domain (word ∷ words) all short e =
+    let peer = bound (ok_or (form.address domain) at) _ all e in
+    let next = bound (ok_or (form.text word) at) _ all peer.2 in
+    compared_short (at + 1) (peers ++ peer.0 ∷ []) next.0 words all
+    (text_said word next.0 (some_of (form.text word) at next.0 next.1)) next.2
+
+orders_named : (words : List (List ℕ)) → Named (orders words)
+unfolding orders
+orders_named words =
+    read (word 1 form.address words) _ λ first _.
+    read (word 2 form.text words) _ λ second second_is.
+    read (compared 3 [] second (drop 3 words)) _ λ all all_is.
+    whole (Orders first all.0 all.1)
+    (compared_short 3 [] second (drop 3 words) all (text_read 2 words second second_is) all_is)
+
 named_if : (test : Bool) (here there : Result Meaning ℕ) → Named here → Named there → Named (cond test here there)
 named_if true here there named later = named
 named_if false here there named later = later
@@ -590,7 +613,9 @@ sentence_named first words =
     named_if (bytes_eq first (codes "match")) _ _ (match_key_named words) (
     named_if (bytes_eq first (codes "maps")) _ _ (maps_named words) (
     named_if (bytes_eq first (codes "pull")) _ _ (pull_named words) (
-    named_if (bytes_eq first (codes "innetgr")) _ _ (innetgr_named words) (none_named 0)))))))))))))))))))))))
+    named_if (bytes_eq first (codes "make")) _ _ (asking_named Make words (λ domain map short. short)) (
+    named_if (bytes_eq first (codes "innetgr")) _ _ (innetgr_named words) (
+    named_if (bytes_eq first (codes "orders")) _ _ (orders_named words) (none_named 0)))))))))))))))))))))))))
 
 -- what the words ask for has such names
 asked_named : (words : List (List ℕ)) (meaning : Meaning) → command_of words ≡ Ok meaning → HasNames meaning

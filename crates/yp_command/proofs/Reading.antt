@@ -15,7 +15,7 @@ use Rattle.yp_board.specs.Catalogues.{Name, is_same, maps_max}
 use Rattle.yp_command.specs.Forms.{Host}
 use Rattle.yp_command.specs.Forms as form
 use Rattle.yp_command.specs.Words.{word, each, served, servers, stores_and_hosts, ◌>>=◌}
-use Rattle.yp_command.specs.Words.{is_new_store, is_new_server}
+use Rattle.yp_command.specs.Words.{is_new_store, is_new_server, compared}
 
 -- a word that is there, and those behind it
 there : (at : ℕ) (words : List (List ℕ)) (text : List ℕ) → slice_get words at ≡ Some text
@@ -219,3 +219,27 @@ all_read at words read e = rw e refl
 pub served_all : (at : ℕ) (stores : List Name) (hosts : List Host) (words : List (List ℕ)) → length words ≤ at
     → served at stores hosts (drop at words) ≡ Ok (stores, hosts)
 served_all at stores hosts words past = rw (no_more at words past) refl
+
+-- ---- servers that are compared
+
+pub compared_more : (at : ℕ) (peers : List Peer) (domain : List ℕ) (words : List (List ℕ)) (peer : Peer) (next : List ℕ)
+    → ok_or (form.address domain) at ≡ Ok peer → word at form.text words ≡ Ok next
+    → compared at peers domain (drop at words) ≡ compared (at + 1) (peers ++ peer ∷ []) next (drop (at + 1) words)
+compared_more at peers domain words peer next address e =
+    let (text, is, says) = found form.text at words next e in
+    rw (is, address, says) refl
+
+-- a word before another is no address
+pub compared_early : (at : ℕ) (peers : List Peer) (domain : List ℕ) (words : List (List ℕ)) (wrong : ℕ)
+    → at < length words → ok_or (form.address domain) at ≡ Err wrong
+    → compared at peers domain (drop at words) ≡ Err wrong
+compared_early at peers domain words wrong within none =
+    let behind = drop-cons words at [] within in
+    rw (behind, none) refl
+
+pub compared_wrong : (at : ℕ) (peers : List Peer) (domain : List ℕ) (words : List (List ℕ)) (peer : Peer) (wrong : ℕ)
+    → at < length words → ok_or (form.address domain) at ≡ Ok peer → word at form.text words ≡ Err wrong
+    → compared at peers domain (drop at words) ≡ Err wrong
+compared_wrong at peers domain words peer wrong within address e =
+    let (text, is, says) = lacking form.text at words wrong within e in
+    rw (is, address, says) refl

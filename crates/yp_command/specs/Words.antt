@@ -13,7 +13,7 @@ use Rattle.yp_binding.specs.Kept.{servers_max}
 use Rattle.yp_binding.specs.Rounds.{is_same_peer}
 use Rattle.yp_board.specs.Catalogues.{Name, maps_max, name_view, is_same}
 use Rattle.yp_client.specs.declared.question.Question.TheVariants.{Cat, Catk, Match, Which, Poll, Maps, Innetgr}
-use Rattle.yp_client.specs.declared.question.Question.TheVariants.{Pull}
+use Rattle.yp_client.specs.declared.question.Question.TheVariants.{Pull, Make}
 use Rattle.yp_client.specs.Questions.{ByteQuestion, bytes_of}
 use Rattle.yp_command.specs.declared.command.KeyValue.{KeyValue}
 use Rattle.yp_command.specs.declared.command.HostWord.{HostWord}
@@ -55,6 +55,8 @@ pub data Meaning : Type 0 where
   Getport : (port turns : ℕ) (peer : Peer) (prog vers prot : ℕ) → Meaning
   -- a server, and what it is asked
   Ask : (peer : Peer) (question : ByteQuestion) → Meaning
+  -- the server that names the maps, the other servers, and the domain
+  Orders : (first : Peer) (others : List Peer) (domain : List ℕ) → Meaning
 
 -- the caller where there is none
 abbrev pub nobody : Peer
@@ -119,6 +121,15 @@ servers at hosts [] = Ok hosts
 servers at hosts (word ∷ words) = do
   host ← ok_or (form.host word) at
   if is_new_server hosts host then servers (at + 1) (hosts ++ host ∷ []) words else Err at
+
+-- Further servers, behind these, and the domain, which is the word before these words where there are none. Where there
+-- are, that word is the address of one more server.
+abbrev pub compared : ℕ → List Peer → List ℕ → List (List ℕ) → Result (List Peer × List ℕ) ℕ
+compared at peers domain [] = Ok (peers, domain)
+compared at peers domain (word ∷ words) = do
+  peer ← ok_or (form.address domain) at
+  next ← ok_or (form.text word) at
+  compared (at + 1) (peers ++ peer ∷ []) next words
 
 abbrev pub Sentence : Type 0
 Sentence = List (List ℕ) → Result Meaning ℕ
@@ -293,6 +304,13 @@ innetgr words = do
   _ ← end 7 words
   Ok (Ask peer (Innetgr domain group host user user_domain))
 
+unfoldable pub orders : Sentence
+orders words = do
+  first ← word 1 form.address words
+  second ← word 2 form.text words
+  (others, domain) ← compared 3 [] second (drop 3 words)
+  Ok (Orders first others domain)
+
 -- the sentence that begins with this word; where none does, that word is wrong
 abbrev pub sentence : List ℕ → Sentence
 sentence first words =
@@ -318,7 +336,9 @@ sentence first words =
     else if bytes_eq first (codes "match") then match_key words
     else if bytes_eq first (codes "maps") then maps words
     else if bytes_eq first (codes "pull") then pull words
+    else if bytes_eq first (codes "make") then asking Make words
     else if bytes_eq first (codes "innetgr") then innetgr words
+    else if bytes_eq first (codes "orders") then orders words
     else Err 0
 
 -- the command that the words are, or the number of the word that is wrong
@@ -362,6 +382,7 @@ stores_of (Bind port policy turns domain hosts) = []
 stores_of (Portmap port turns) = []
 stores_of (Getport port turns peer prog vers prot) = []
 stores_of (Ask peer question) = []
+stores_of (Orders first others domain) = []
 
 -- the maps whose disks a command line needs; none where its words are no sentence
 abbrev pub stores_in : Result Meaning ℕ → List Name
@@ -403,6 +424,7 @@ meaning (command.Bind port policy turns domain hosts) =
 meaning (command.Portmap port turns) = Portmap port turns
 meaning (command.Getport port turns addr prog vers prot) = Getport port turns addr prog vers prot
 meaning (command.Ask addr question) = Ask addr (bytes_of question)
+meaning (command.Orders first others domain) = Orders first others.items domain.items
 
 -- the bytes of each word
 abbrev pub texts : List (String Global) → List (List ℕ)
@@ -428,3 +450,4 @@ TakesMemory (Bind port policy turns domain hosts) = Unit {0}
 TakesMemory (Portmap port turns) = ⊥
 TakesMemory (Getport port turns peer prog vers prot) = ⊥
 TakesMemory (Ask peer question) = Unit {0}
+TakesMemory (Orders first others domain) = Unit {0}

@@ -166,4 +166,10 @@ pub enum Command {
         addr: Peer,
         question: Question<Vec<u8>>,
     },
+    /// Compares the orders that these servers have of the maps of a domain, which the first one names.
+    Orders {
+        first: Peer,
+        others: Vec<Peer>,
+        domain: Vec<u8>,
+    },
 }

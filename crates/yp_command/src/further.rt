@@ -4,14 +4,16 @@
 
 ghost use Rattle.std.specs.Prelude.{◌≡◌, ◌++◌, ◌∷◌, [], drop, map};
 ghost use Rattle.std.specs.List.{list_any};
+ghost use Rattle.std.specs.Option.{ok_or};
 ghost use Rattle.yp_board.specs.Catalogues.{name_view, is_same};
 ghost use Rattle.yp_command.specs.Forms as forms;
-ghost use Rattle.yp_command.specs.Words.{each, servers, stores_and_hosts, row_view, host_view, texts};
+ghost use Rattle.yp_command.specs.Words.{each, servers, stores_and_hosts, compared, row_view, host_view, texts};
 ghost use Rattle.yp_command.specs.inside.Words.{Holds, AreRead};
-ghost use Rattle.yp_command.specs.inside.Words.{AreServed};
+ghost use Rattle.yp_command.specs.inside.Words.{AreServed, AreCompared};
 ghost use Rattle.yp_binding.specs.Rounds.{is_same_peer};
 
 use crate::command::{HostWord, KeyValue};
+use crate::form;
 use crate::sentence::Words;
 use crate::words::{bytes, host_word, map_name};
 use arrayvec::ArrayVec;
@@ -46,6 +48,16 @@ fn with_host(alloc: Global, hosts: Made<HostWord>, host: (&str, Peer)) -> Made<H
     Ok(hosts)
 }
 
+/// The addresses with one more.
+fn with_peer(peers: Made<Peer>, peer: Peer) -> Made<Peer>
+    ensures { (values : _) → Holds (λ peer. peer) peers values
+        → Holds (λ peer. peer) result (values ++ peer ∷ []) }
+{
+    let mut peers = peers?;
+    peers.push(peer)?;
+    Ok(peers)
+}
+
 /// The rows that the words are from this number on.
 pub fn each_pair(alloc: Global, words: Words, at: usize) -> Result<Made<KeyValue>, usize>
     ensures { AreRead row_view (each forms.pair at [] (drop at (texts words.entry.words.now))) result }
@@ -68,6 +80,34 @@ pub fn each_host(alloc: Global, words: Words, at: usize) -> Result<Made<HostWord
         hosts = with_host(alloc, hosts, host);
     }
     Ok(hosts)
+}
+
+/// The address that a word says with another one behind it, which has this number and is wrong where it says none.
+fn address_before(word: &str, at: usize) -> Result<Peer, usize>
+    ensures { result ≡ ok_or (forms.address word.now) at }
+{
+    form::address(word).ok_or(at)
+}
+
+/// The servers and the domain that the words are from this number on, where `domain` is the word before them. The last
+/// word is the domain, and each before it an address.
+pub fn peers_and_domain<'a>(
+    alloc: Global,
+    words: Words<'a>,
+    at: usize,
+    domain: &'a str,
+) -> Result<(Made<Peer>, &'a str), usize>
+    ensures { AreCompared (compared at [] domain.entry.now (drop at (texts words.entry.words.now))) result }
+{
+    let mut last = domain;
+    let mut peers = Ok(Vec::new(alloc));
+    for i in at..words.words.len() {
+        let peer = address_before(last, i)?;
+        let next = words.text(i)?;
+        peers = with_peer(peers, peer);
+        last = next;
+    }
+    Ok((peers, last))
 }
 
 /// The names of maps.

@@ -2,20 +2,19 @@
 
 ghost use Rattle.std.specs.Prelude.{◌≡◌, ◌∷◌, [], map, option_map, Ok, IfOk, IfErr, OnErr};
 ghost use Rattle.yp_board.specs.Catalogues.{name_view};
-ghost use Rattle.yp_client.specs.declared.question.Question.TheVariants.{Cat, Catk, Which, Poll};
+ghost use Rattle.yp_client.specs.declared.question.Question.TheVariants.{Cat, Catk, Which, Poll, Make};
 ghost use Rattle.yp_command.specs.Words.{command_of, disk_names, stores_of};
 ghost use Rattle.yp_command.specs.inside.Words.{connections_of, port_of};
 ghost use Rattle.yp_command.specs.Words.{row_view, host_view, meaning, texts};
 ghost use Rattle.yp_command.specs.inside.Words.{Answers};
 ghost use Rattle.yp_command.specs.Words.{once, session, serve, check, dump, build, load, xfr, walk, revnet, sample};
 ghost use Rattle.yp_command.specs.Words.{push, bind, portmap, getport, asking, match_key, maps, innetgr, TakesMemory};
-ghost use Rattle.yp_command.specs.Words.{pull};
-ghost use Rattle.yp_command.specs.Words.{netgroup_of, ypservers_of};
+ghost use Rattle.yp_command.specs.Words.{pull, orders, netgroup_of, ypservers_of};
 ghost use Rattle.yp_command.specs.inside.Words.{IsSentenceOfWords, IsUsage, HasNames};
 ghost use Rattle.yp_command.specs.Words.{is_ypservers, with_ypservers};
 
 use crate::command::{Command, HostWord, KeyValue, PushJob, ServeJob, WalkJob, XfrJob};
-use crate::further::{each_host, each_pair, servers, stores_and_hosts};
+use crate::further::{each_host, each_pair, peers_and_domain, servers, stores_and_hosts};
 use crate::sentence::Words;
 use std::alloc::{AllocError, Global};
 use yp_board::{MapName, copy_names};
@@ -437,6 +436,20 @@ fn pull(alloc: Global, words: Words) -> Result<Command, ParseFault>
     Ok(Command::Ask { addr, question })
 }
 
+fn make(alloc: Global, words: Words) -> Result<Command, ParseFault>
+    ensures { Answers (asking Make (texts words.entry.words.now)) result }
+{
+    let addr = words.address(1)?;
+    let domain = words.text(2)?;
+    let map = words.text(3)?;
+    words.end(4)?;
+    let question = Question::Make {
+        domain: bytes(alloc, domain)?,
+        map: bytes(alloc, map)?,
+    };
+    Ok(Command::Ask { addr, question })
+}
+
 #[tactic(auto, unfolding(crate::specs::Words::innetgr))]
 fn innetgr(alloc: Global, words: Words) -> Result<Command, ParseFault>
     ensures { Answers (innetgr (texts words.entry.words.now)) result }
@@ -456,6 +469,20 @@ fn innetgr(alloc: Global, words: Words) -> Result<Command, ParseFault>
         user_domain: member(alloc, user_domain)?,
     };
     Ok(Command::Ask { addr, question })
+}
+
+#[tactic(auto, unfolding(crate::specs::Words::orders))]
+fn orders(alloc: Global, words: Words) -> Result<Command, ParseFault>
+    ensures { Answers (orders (texts words.entry.words.now)) result }
+{
+    let first = words.address(1)?;
+    let second = words.text(2)?;
+    let (others, domain) = peers_and_domain(alloc, words, 3, second)?;
+    Ok(Command::Orders {
+        first,
+        others: others?,
+        domain: bytes(alloc, domain)?,
+    })
 }
 
 /// The command that the words are.
@@ -496,7 +523,9 @@ fn read(alloc: Global, words: Words) -> Result<Command, ParseFault>
         "match" => match_key(alloc, words),
         "maps" => maps(alloc, words),
         "pull" => pull(alloc, words),
+        "make" => make(alloc, words),
         "innetgr" => innetgr(alloc, words),
+        "orders" => orders(alloc, words),
         _ => Err(ParseFault::Usage { word: 0 }),
     }
 }
@@ -523,6 +552,7 @@ pub fn stores_of(alloc: Global, command: &Command) -> Result<Vec<MapName>, NoMem
         Command::Portmap { .. } => return Ok(Vec::new(alloc)),
         Command::Getport { .. } => return Ok(Vec::new(alloc)),
         Command::Ask { .. } => return Ok(Vec::new(alloc)),
+        Command::Orders { .. } => return Ok(Vec::new(alloc)),
     };
     match names {
         Ok(names) => Ok(names),
@@ -551,6 +581,7 @@ pub fn port_of(command: &Command) -> Option<u16>
         Command::Portmap { port, .. } => Some(*port),
         Command::Getport { port, .. } => Some(*port),
         Command::Ask { .. } => None,
+        Command::Orders { .. } => None,
     }
 }
 
@@ -575,6 +606,7 @@ pub fn connections_of(command: &Command) -> u32
         Command::Portmap { .. } => 0,
         Command::Getport { .. } => 0,
         Command::Ask { .. } => 0,
+        Command::Orders { .. } => 0,
     }
 }
 

@@ -16,7 +16,7 @@ use Rattle.yp_texts.specs.declared.reading.Reading.{Reading}
 use Rattle.yp_texts.specs.declared.reading.Reading.TheVariants as reading
 use Rattle.yp_texts.specs.declared.fault.BuildFault.{BuildFault}
 use Rattle.yp_texts.specs.declared.fault.BuildFault.TheVariants as fault
-use Rattle.yp_texts.specs.After.{Hindrance, HasOther, HasFault, material_of, built_behind}
+use Rattle.yp_texts.specs.After.{Hindrance, HasOther, HasFault, basis_of, material_of, built_after}
 use Rattle.yp_command.specs.Forms.{kind_of}
 use Rattle.yp_command.specs.office.Lines.{map_text}
 use Rattle.yp_command.specs.declared.office.status.Status.{Status}
@@ -61,7 +61,8 @@ pub data Unplanned : Type 0 where
 
 -- the version that a text makes behind the one that stands
 abbrev pub offered : Job → List ℕ → ℕ → Option MapVersion → Result MapVersion Hindrance
-offered job text now standing = built_behind job.reading job.name job.flag standing (material_of text now)
+offered job text now standing =
+    built_after (basis_of job.reading job.name job.flag standing) (material_of text now)
 
 -- a version needs a further generation of its file
 abbrev pub with_generation : ℕ → Result MapVersion Hindrance → Result MapVersion Unplanned

@@ -1,6 +1,6 @@
 //! Tests of the words of commands, and of commands as `yp_program` runs them over memory: what memory alone can show of
-//! `once`, `session`, `sample`, the clients, `build`, `load`, `check`, `dump`, `xfr` and `revnet`, as calls that fail
-//! and crashes; and the codes and notes of statuses. The rest is in examples/.
+//! `once`, `session`, `sample`, the clients with `orders`, `build`, `load`, `check`, `dump`, `xfr` and `revnet`, as
+//! calls that fail and crashes; and the codes and notes of statuses. The rest is in examples/.
 #![tactic(auto)]
 
 #[cfg(test)]
@@ -9,6 +9,8 @@ mod given;
 mod notes;
 #[cfg(test)]
 mod once;
+#[cfg(test)]
+mod orders;
 #[cfg(test)]
 mod question;
 #[cfg(test)]

@@ -17,7 +17,7 @@ const USAGE: Row = Row {
 };
 
 /// No version, a record that is torn, and wires that don't come. The tables of the other commands have this row, too.
-static ROWS: [Row; 11] = [
+static ROWS: [Row; 12] = [
     USAGE,
     Row {
         name: "once",
@@ -70,6 +70,12 @@ static ROWS: [Row; 11] = [
     Row {
         name: "pull",
         words: &["pull", "10.0.0.1:834", "lab", "hosts.byname", "m1"],
+        code: 15,
+        ..USAGE
+    },
+    Row {
+        name: "make",
+        words: &["make", "10.0.0.1:834", "lab", "hosts.byname"],
         code: 15,
         ..USAGE
     },

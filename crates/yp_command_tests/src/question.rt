@@ -39,6 +39,10 @@ const XFR: &str = "00000001 00000000 00000002 000186a4 00000002 00000006
 
 const FROM_M1: &str = "00000000 00000002 6d310000 00000000 00000000 00000000";
 
+/// MAKE_NAMED of the make program, up to the map.
+const MAKE_NAMED: &str = "00000001 00000000 00000002 20004e49 00000001 00000002
+    00000000 00000000 00000000 00000000 00000003 6c616200";
+
 const CAT: Row = Row {
     name: "cat",
     words: &["cat", "10.0.0.1:834", "lab", "hosts.byname"],
@@ -105,8 +109,8 @@ static CLIENTS: [Row; 6] = [
     },
 ];
 
-/// A transfer that the server refuses: `once` is the master of its map.
-static REFUSED: [Row; 1] = [PULL];
+/// What the server refuses: `once` is the master of its map, and makes no map, since it is nobody's own host.
+static REFUSED: [Row; 2] = [PULL, MAKE];
 
 const PULL: Row = Row {
     name: "pull",
@@ -117,7 +121,16 @@ const PULL: Row = Row {
     ..CAT
 };
 
-/// A reply of SUCC to the same call.
+const MAKE: Row = Row {
+    name: "make",
+    words: &["make", "10.0.0.1:834", "lab", "hosts.byname"],
+    wire: &["80000040", MAKE_NAMED, HOSTS],
+    code: 1,
+    output: "lab/hosts.byname -14 REFUSED\n",
+    ..CAT
+};
+
+/// A reply of SUCC to the call of a transfer.
 const TAKEN: &str =
     "80000020 00000001 00000001 00000000 00000000 00000000 00000000 00000000 00000001";
 
@@ -150,15 +163,26 @@ static ABSENT: [Row; 3] = [
     },
 ];
 
-/// A transfer that is taken, of a map that another host is the master of.
-static TAKES: [Row; 1] = [Row {
+/// A transfer that is taken, of a map that another host is the master of, and a map that is made.
+static TAKES: [Row; 2] = [TAKES_TRANSFER, MAKES_MAP];
+
+const TAKES_TRANSFER: Row = Row {
     name: "pull that is taken",
     server: &[],
     wire: &[TAKEN],
     code: 0,
     output: "lab/hosts.byname 1 SUCC\n",
     ..PULL
-}];
+};
+
+const MAKES_MAP: Row = Row {
+    name: "make of a map",
+    server: &[],
+    wire: &["8000001c 00000001 00000001 00000000 00000000 00000000 00000000 00000001"],
+    code: 0,
+    output: "lab/hosts.byname made\n",
+    ..MAKE
+};
 
 #[test]
 fn answers_of_a_server(rt: HostRuntime) {
@@ -245,4 +269,6 @@ fn each_call_fails(rt: HostRuntime) {
     try_output(&rt, rt.alloc(), &POLLS[0]);
     try_wire(&rt, rt.alloc(), &PULL, 2);
     try_output(&rt, rt.alloc(), &PULL);
+    try_wire(&rt, rt.alloc(), &MAKE, 2);
+    try_output(&rt, rt.alloc(), &MAKE);
 }

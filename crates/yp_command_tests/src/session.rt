@@ -54,7 +54,7 @@ const MADE_ONCE: Row = Row {
     name: "make, then match",
     words: &["session", "m1", "127.0.0.1:40000", "lab/hosts.byname"],
     input: &["8000004c 00000001", MATCH, MAKE, "8000004c 00000003", MATCH],
-    hosts: "10.0.0.1 alpha\n",
+    sources: &[("hosts", "10.0.0.1 alpha\n")],
     moment: 100,
     replies: &[
         "80000020 00000001",
@@ -104,6 +104,84 @@ const NO_TEXT: Row = Row {
     ],
     ..MADE_ONCE
 };
+
+/// MATCH of `alpha` in the map `addr` of `lab`, behind the word of its number.
+const MATCH_ADDR: &str =
+    "00000000 00000002 000186a4 00000002 00000003 00000000 00000000 00000000 00000000
+    00000003 6c616200 00000004 61646472 00000005 616c7068 61000000";
+
+/// The making of that map by its name, number 2.
+const MAKE_ADDR: &str = "80000038 00000002 00000000 00000002 20004e49 00000001 00000002
+    00000000 00000000 00000000 00000000 00000003 6c616200 00000004 61646472";
+
+/// The same of the map of hosts by name.
+const MAKE_HOSTS: &str = "80000040 00000002 00000000 00000002 20004e49 00000001 00000002
+    00000000 00000000 00000000 00000000 00000003 6c616200 0000000c 686f7374 732e6279 6e616d65";
+
+/// Its reply with REFUSED.
+const REFUSED: &str = "00000001 00000000 00000000 00000000 00000000 fffffff2";
+
+/// MATCH, the making of a map of rows by its name, and MATCH, over a map without a version.
+const NAMED: Row = Row {
+    name: "a map of rows by its name",
+    words: &["session", "m1", "127.0.0.1:40000", "lab/addr"],
+    input: &[
+        "80000044 00000001",
+        MATCH_ADDR,
+        MAKE_ADDR,
+        "80000044 00000003",
+        MATCH_ADDR,
+    ],
+    sources: &[("addr", "alpha\t10.0.0.1 alpha\n")],
+    ..MADE_ONCE
+};
+
+/// What can't be made.
+const NAMED_UNMADE: Row = Row {
+    name: "there is no text with the name of the map",
+    sources: &[("hosts", "10.0.0.1 alpha\n")],
+    replies: &[
+        "80000020 00000001",
+        NOMAP,
+        "8000001c 00000002",
+        UNMADE,
+        "80000020 00000003",
+        NOMAP,
+    ],
+    stands: None,
+    left: &[],
+    ..NAMED
+};
+
+static MADE_BY_NAME: [Row; 4] = [
+    NAMED,
+    Row {
+        name: "a map of a kind by its name",
+        input: &[
+            "8000004c 00000001",
+            MATCH,
+            MAKE_HOSTS,
+            "8000004c 00000003",
+            MATCH,
+        ],
+        ..MADE_ONCE
+    },
+    NAMED_UNMADE,
+    Row {
+        name: "by its name for another host",
+        words: &["session", "m1", "10.0.0.9:700", "lab/addr"],
+        sources: &[("addr", "alpha\t10.0.0.1 alpha\n")],
+        replies: &[
+            "80000020 00000001",
+            NOMAP,
+            "8000001c 00000002",
+            REFUSED,
+            "80000020 00000003",
+            NOMAP,
+        ],
+        ..NAMED_UNMADE
+    },
+];
 
 /// No call is read. Each record takes a read for its head and one for its body, and the end of the input one.
 const UNREAD: Row = Row {
@@ -221,6 +299,11 @@ static WRITES: [Row; 8] = [
     },
     NO_TEXT,
 ];
+
+#[test]
+fn made_by_name(rt: HostRuntime) {
+    try_rows(&rt, rt.alloc(), &MADE_BY_NAME);
+}
 
 #[test]
 fn each_read_fails(rt: HostRuntime) {

@@ -4,29 +4,29 @@ use Rattle.yp_version.specs.Versions.{MapVersion}
 use Rattle.yp_texts.specs.declared.fault.BuildFault.{BuildFault}
 use Rattle.yp_texts.specs.declared.fault.BuildFault.TheVariants as fault
 use Rattle.yp_texts.specs.Builds.{order_max}
-use Rattle.yp_texts.specs.After.{Basis, Material, HasFault, last_order, built_after}
+use Rattle.yp_texts.specs.After.{Material, HasFault, last_order, built_after}
 use Rattle.yp_publisher.specs.declared.install.Origin.TheVariants.{Built}
 use Rattle.yp_publisher.specs.Installs.{offer, not_following}
 use Rattle.yp_publisher.specs.Standing.{StoredMap, OfMap}
-use Rattle.yp_answer.specs.Causes.{BasisIsTold, is_of_another, HasBadRowAt}
+use Rattle.yp_answer.specs.Causes.{Task, MaterialIsTold, is_of_another, HasBadRowAt}
 use Rattle.yp_answer.specs.inside.Causes.{build_stat}
 use Rattle.yp_host.specs.Locals.{Telling}
 use Rattle.yp_host.specs.Anew.{IsUnbuilt}
 
 -- ---- why a version isn't built
 
-pub unbuilt : {E : Type 0} (telling : Telling E) (site : Basis) (material : Material) (why : BuildFault) (old new : E)
-    → is_of_another site ≡ false → BasisIsTold (telling.told old) site material → (why ≡ fault.NoMemory) ⊎ (built_after site material ≡ Err (HasFault why))
-    → (why ≡ fault.OrderSpent → last_order site.last ≡ Some order_max) → IsUnbuilt telling site (build_stat why) old new
-unbuilt telling site material why old new own told cause spent = by_fault why cause spent where
-  row : (f : BuildFault) → (f ≡ fault.NoMemory → ⊥) → (f ≡ fault.OrderSpent → ⊥) → (f ≡ fault.NoMemory) ⊎ (built_after site material ≡ Err (HasFault f)) → HasBadRowAt (telling.told old) site
+pub unbuilt : {E : Type 0} (telling : Telling E) (task : Task) (material : Material) (why : BuildFault) (old new : E)
+    → is_of_another task.basis ≡ false → MaterialIsTold (telling.told old) task.source material → (why ≡ fault.NoMemory) ⊎ (built_after task.basis material ≡ Err (HasFault why))
+    → (why ≡ fault.OrderSpent → last_order task.basis.last ≡ Some order_max) → IsUnbuilt telling task (build_stat why) old new
+unbuilt telling task material why old new own told cause spent = by_fault why cause spent where
+  row : (f : BuildFault) → (f ≡ fault.NoMemory → ⊥) → (f ≡ fault.OrderSpent → ⊥) → (f ≡ fault.NoMemory) ⊎ (built_after task.basis material ≡ Err (HasFault f)) → HasBadRowAt (telling.told old) task
   row f memory spent cause = elim cause [
     | inl e ↦ absurd (memory e)
     | inr e ↦ record { material = material; of_told = told; fault = f; of_row = spent; cause = e }
   ]
 
-  by_fault : (f : BuildFault) → (f ≡ fault.NoMemory) ⊎ (built_after site material ≡ Err (HasFault f)) → (f ≡ fault.OrderSpent → last_order site.last ≡ Some order_max)
-      → IsUnbuilt telling site (build_stat f) old new
+  by_fault : (f : BuildFault) → (f ≡ fault.NoMemory) ⊎ (built_after task.basis material ≡ Err (HasFault f)) → (f ≡ fault.OrderSpent → last_order task.basis.last ≡ Some order_max)
+      → IsUnbuilt telling task (build_stat f) old new
   by_fault fault.OrderSpent cause spent = (own, spent refl)
   by_fault fault.NoMemory cause spent = own
   by_fault (fault.KeyLong line) cause spent = (own, row (fault.KeyLong line) (λ e. cc) (λ e. cc) cause)

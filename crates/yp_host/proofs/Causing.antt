@@ -9,7 +9,6 @@ use Rattle.yp_map_file.specs.declared.fault.SlotFault.TheVariants as slot
 use Rattle.yp_board.specs.Catalogues.{Catalogue}
 use Rattle.yp_board.specs.Logs.{Log, shown}
 use Rattle.yp_board.specs.Views.{IsFront}
-use Rattle.yp_texts.specs.Kinds.{file_of}
 use Rattle.yp_texts.specs.After.{HasFault, other_master, built_after, HasLaterOrder}
 use Rattle.yp_answer.specs.declared.make.MakeJob.{MakeJob}
 use Rattle.yp_publisher.specs.declared.install.InstallFault.{InstallFault}
@@ -19,13 +18,14 @@ use Rattle.yp_publisher.specs.Rising.{PublisherState, with_shown}
 use Rattle.yp_publisher.specs.Keeping.{Keeping}
 use Rattle.yp_publisher.specs.Installs.{Installs}
 use Rattle.yp_publisher.specs.Opens.{Opens}
-use Rattle.yp_answer.specs.Causes.{IsAnew, IsCaused, basis_at, HasBadRowAt}
+use Rattle.yp_answer.specs.Make.{text_for}
+use Rattle.yp_answer.specs.Causes.{IsAnew, IsCaused, task_at, HasBadRowAt}
 use Rattle.yp_answer.specs.Causes as causes
 use Rattle.yp_answer.specs.session.Hosts.{Fulfils, counts_after}
 use Rattle.yp_host.specs.Locals.{Local, Telling}
 use Rattle.yp_host.specs.Anew.{IsUnbuilt}
 use Rattle.yp_host.specs.Making.{open_stat, IsInstallStat, built_offer}
-use Rattle.yp_host.specs.Making.{site_at, Makes, OpensAndTries}
+use Rattle.yp_host.specs.Making.{task_on, Makes, OpensAndTries}
 use Rattle.yp_host.specs.Connections.{local_conduct}
 use Rattle.yp_host.proofs.Growing.{opened_front}
 
@@ -44,11 +44,11 @@ module _ {D B E : Type 0} (keeping : Keeping D B) (telling : Telling E) (job : M
   -- why it has a status
   abbrev Caused : XfrStat → Type 0
   Caused stat =
-      IsCaused (telling.told old.desk) old.published.catalogue.own job stat (keeping.log old.published.board) (keeping.log new.published.board)
+      IsCaused (telling.told old.desk) old.published.catalogue job stat (keeping.log old.published.board) (keeping.log new.published.board)
 
-  -- what holds for the own name of the maps between holds for that of the maps before
-  of_old : (P : List ℕ → Type 0) (middle : Published D B) → Opens keeping job.map old.published middle → P middle.catalogue.own → P old.published.catalogue.own
-  of_old P middle opens h = subst (λ (k : Catalogue). P k.own) opens.upheld.catalogue h
+  -- what holds for the catalogue of the maps between holds for that of the maps before
+  of_old : (P : Catalogue → Type 0) (middle : Published D B) → Opens keeping job.map old.published middle → P middle.catalogue → P old.published.catalogue
+  of_old P middle opens h = subst P opens.upheld.catalogue h
 
   front_to : (middle : Published D B) → new.published ≡ middle → IsFront (keeping.log middle.board) (keeping.log new.published.board)
   front_to middle e = ([], ap (λ (p : Published D B). keeping.log p.board) e ∙ sym (append-nil (keeping.log middle.board)))
@@ -62,14 +62,14 @@ module _ {D B E : Type 0} (keeping : Keeping D B) (telling : Telling E) (job : M
   ]
 
   shown_anew : job.map < length old.published.maps → (version : MapVersion) (middle : Published D B) → Opens keeping job.map old.published middle
-      → IsAnew (telling.told old.desk) (site_at keeping job middle) version → Installs keeping job.map (built_offer version) middle new.published → Caused Succ
+      → IsAnew (telling.told old.desk) (task_on keeping job middle) version → Installs keeping job.map (built_offer version) middle new.published → Caused Succ
   shown_anew kept version middle opens anew installs =
       let log = keeping.log middle.board in
       record {
         version = version;
         before = log;
         entry = ([], installs.log ∙ sym (append-nil (with_shown job.map version log)));
-        anew = of_old (λ own. IsAnew (telling.told old.desk) (basis_at own job log) version) middle opens anew;
+        anew = of_old (λ k. IsAnew (telling.told old.desk) (task_at k job log) version) middle opens anew;
         over = record {
           log = log;
           begins = opened_front keeping.log job.map old.published middle kept opens.upheld.elsewhere opens.shown;
@@ -78,28 +78,28 @@ module _ {D B E : Type 0} (keeping : Keeping D B) (telling : Telling E) (job : M
         };
       }
 
-  bad_row : (own : List ℕ) (log : Log) (bad : HasBadRowAt (telling.told old.desk) (basis_at own job log)) (told : Option (List ℕ))
-      → IfSome told (λ known. bad.material.text ≡ known) → IfSome told (causes.HasBadRow own job)
-  bad_row own log bad None h = tt
-  bad_row own log bad (Some text) h = record {
+  bad_row : (k : Catalogue) (log : Log) (bad : HasBadRowAt (telling.told old.desk) (task_at k job log)) (told : Option (List ℕ))
+      → IfSome told (λ known. bad.material.text ≡ known) → IfSome told (causes.HasBadRow k job)
+  bad_row k log bad None h = tt
+  bad_row k log bad (Some text) h = record {
     log = log;
     moment = bad.material.moment;
     fault = bad.fault;
     of_row = bad.of_row;
-    refused = subst (λ (t : List ℕ). built_after (basis_at own job log) (record { text = t; moment = bad.material.moment }) ≡ Err (HasFault bad.fault)) h bad.cause;
+    refused = subst (λ (t : List ℕ). built_after (task_at k job log).basis (record { text = t; moment = bad.material.moment }) ≡ Err (HasFault bad.fault)) h bad.cause;
   }
 
   unbuilt : (stat : XfrStat) (middle : Published D B) → Opens keeping job.map old.published middle → new.published ≡ middle
-      → IsUnbuilt telling (site_at keeping job middle) stat old.desk new.desk → Caused stat
+      → IsUnbuilt telling (task_on keeping job middle) stat old.desk new.desk → Caused stat
   unbuilt Refused middle opens same none =
       let log = keeping.log middle.board in
-      let master = of_old (λ own. (master : List ℕ) × (other_master own (shown job.map log) ≡ Some master)) middle opens
+      let master = of_old (λ k. (master : List ℕ) × (other_master k.own (shown job.map log) ≡ Some master)) middle opens
       (another (other_master middle.catalogue.own (shown job.map log)) none) in
       (log, front_to middle same, master.0, master.1)
   unbuilt Age middle opens same none = (keeping.log middle.board, front_to middle same, none.1)
   unbuilt Dbm middle opens same none =
-      of_old (λ own. IfSome ((telling.told old.desk).text (file_of job.kind)) (causes.HasBadRow own job)) middle opens
-      (bad_row middle.catalogue.own (keeping.log middle.board) none.1 ((telling.told old.desk).text (file_of job.kind)) none.1.of_told.text)
+      of_old (λ k. IfSome ((telling.told old.desk).text (text_for k job)) (causes.HasBadRow k job)) middle opens
+      (bad_row middle.catalogue (keeping.log middle.board) none.1 ((telling.told old.desk).text (text_for middle.catalogue job)) none.1.of_told.text)
   unbuilt File middle opens same none = tt
   unbuilt Rsrc middle opens same none = tt
   unbuilt Succ middle opens same none = absurd none

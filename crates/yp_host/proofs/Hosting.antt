@@ -7,7 +7,6 @@ use Rattle.yp_messages.specs.declared.transfer.XfrStat.{XfrStat}
 use Rattle.yp_version.specs.Versions.{MapVersion}
 use Rattle.yp_board.specs.Catalogues.{Catalogue}
 use Rattle.yp_board.specs.Logs.{shown}
-use Rattle.yp_texts.specs.Kinds.{file_of}
 use Rattle.yp_publisher.specs.Standing.{Published}
 use Rattle.yp_answer.specs.declared.procedure.Path.TheVariants.{Stream}
 use Rattle.yp_answer.specs.Answers.{StepsWhere}
@@ -21,7 +20,6 @@ use Rattle.yp_answer.specs.session.Wires.{Wire}
 use Rattle.yp_answer.specs.session.Hosts.{Turn, CarriesWhere, Carries, Link}
 use Rattle.yp_answer.specs.session.Runs.{Dialogue, Chain, Ends, unsent, Runs}
 use Rattle.yp_host.specs.Locals.{Local, Telling, IsUsed, seen_of}
-use Rattle.yp_texts.specs.After.{Basis}
 use Rattle.std.specs.Prelude.{IsTrue}
 use Rattle.yp_publisher.specs.declared.install.Installed.{Installed}
 use Rattle.yp_transfer.specs.declared.fault.XfrFault.{XfrFault}
@@ -30,8 +28,7 @@ use Rattle.yp_transfer.specs.Fetching.{FetchOutcome}
 use Rattle.yp_transfer.specs.Installing.{OpensAndOffers, marking, fetched_offer}
 use Rattle.yp_transfer.specs.Transfers.{InstallsOutcome}
 use Rattle.yp_host.specs.Transferring.{MapIsTransferred, request_for}
-use Rattle.yp_answer.specs.Causes.{Told, IsAnew, TellsSame}
-use Rattle.yp_texts.specs.After.{basis_of}
+use Rattle.yp_answer.specs.Causes.{Told, Task, IsAnew, TellsSame, task_of, task_at}
 use Rattle.yp_host.specs.Making.{MapIsMade, OpensAndTries}
 use Rattle.yp_host.specs.Connections.{Service, IsCalledFor, Transition, transition_of, transitions_of, GaveVersion, IsGiven, local_conduct}
 use Rattle.yp_host.proofs.Passing.{Respects, Sound, Passes, passes_none, passes_then, stays_on, opens_on, offered_on, fetched_on}
@@ -53,11 +50,11 @@ pub told_then : {a b c : Told} → TellsSame a b → TellsSame b c → TellsSame
 told_then first second = record { texts = λ file. second.texts file ∙ first.texts file; moment = second.moment ∙ first.moment }
 
 -- what is built of what is told later is built of what is told now
-anew_before : (first now : Told) (site : Basis) (version : MapVersion) → TellsSame first now → IsAnew now site version → IsAnew first site version
-anew_before first now site version same anew = record {
+anew_before : (first now : Told) (task : Task) (version : MapVersion) → TellsSame first now → IsAnew now task version → IsAnew first task version
+anew_before first now task version same anew = record {
   material = anew.material;
   of_told = record {
-    text = subst (λ (o : Option (List ℕ)). IfSome o (λ text. anew.material.text ≡ text)) (same.texts (file_of site.kind)) anew.of_told.text;
+    text = subst (λ (o : Option (List ℕ)). IfSome o (λ text. anew.material.text ≡ text)) (same.texts task.source) anew.of_told.text;
     moment = subst (λ (o : Option ℕ). IfSome o (λ moment. anew.material.moment ≡ moment)) same.moment anew.of_told.moment;
   };
   built = anew.built;
@@ -70,7 +67,7 @@ module _ {D B E : Type 0} (service : Service D B E) (turns : List Turn) (transit
       job = made.job;
       of_map = made.of_map;
       called = made.called;
-      anew = subst (λ (s : Option MapVersion). IsAnew first (basis_of made.job.kind service.catalogue.own None s) version) e made.anew;
+      anew = subst (λ (s : Option MapVersion). IsAnew first (task_of service.catalogue made.job s) version) e made.anew;
     })
     | inr fetched ↦ inr (record {
       taken = fetched.taken;
@@ -126,15 +123,15 @@ module _ {D B E : Type 0} (service : Service D B E) (turns : List Turn) (transit
 
   is_made : (job : MakeJob) (old : Local D B E) (middle : Published D B) (version : MapVersion)
       → IsCalledFor service turns job → SoundHost old → middle.catalogue ≡ old.published.catalogue
-      → IsAnew (service.telling.told old.desk) (basis_of job.kind middle.catalogue.own None (shown job.map (service.keeping.log middle.board))) version
+      → IsAnew (service.telling.told old.desk) (task_at middle.catalogue job (service.keeping.log middle.board)) version
       → IsGiven service turns transitions first table job.map (service.keeping.log middle.board) version
   is_made job old middle version called sound same anew = inl (record {
     job = job;
     of_map = refl;
     called = called;
     anew =
-        anew_before first (service.telling.told old.desk) (basis_of job.kind service.catalogue.own None (shown job.map (service.keeping.log middle.board))) version sound.told
-        (subst (λ (k : Catalogue). IsAnew (service.telling.told old.desk) (basis_of job.kind k.own None (shown job.map (service.keeping.log middle.board))) version) (same ∙ sound.catalogue) anew);
+        anew_before first (service.telling.told old.desk) (task_at service.catalogue job (service.keeping.log middle.board)) version sound.told
+        (subst (λ (k : Catalogue). IsAnew (service.telling.told old.desk) (task_at k job (service.keeping.log middle.board)) version) (same ∙ sound.catalogue) anew);
   })
 
   opened_on : (stat : XfrStat) (job : MakeJob) (old new : Local D B E) → IsCalledFor service turns job → SoundHost old

@@ -27,8 +27,7 @@ use Rattle.yp_answer.specs.declared.session.session.End.{End}
 use Rattle.yp_answer.specs.declared.session.session.TheConstants.{CALLS_MAX}
 use Rattle.yp_publisher.specs.Keeping.{Keeping}
 use Rattle.yp_host.specs.Locals.{Local, Telling, seen_of}
-use Rattle.yp_answer.specs.Causes.{Told, IsAnew}
-use Rattle.yp_texts.specs.After.{basis_of}
+use Rattle.yp_answer.specs.Causes.{Told, IsAnew, task_of}
 use Rattle.yp_host.specs.Making.{MapIsMade}
 use Rattle.yp_host.specs.Transferring.{MapIsTransferred}
 
@@ -104,7 +103,7 @@ pub record WasMade {D B E : Type 0} (service : Service D B E) (turns : List Turn
   pub job : MakeJob
   pub of_map : job.map ≡ number
   pub called : IsCalledFor service turns job
-  pub anew : IsAnew told (basis_of job.kind service.catalogue.own None (shown number log)) version
+  pub anew : IsAnew told (task_of service.catalogue job (shown number log)) version
 
 -- a record of a run: the host before it and the one behind it, and what came of it
 pub record Transition (H : Type 0) : Type 0 where

@@ -6,7 +6,6 @@ use Rattle.yp_messages.specs.declared.transfer.XfrStat.TheVariants.{Succ, Rsrc, 
 use Rattle.yp_version.specs.Versions.{MapVersion}
 use Rattle.yp_map_file.specs.declared.fault.SlotFault.{SlotFault}
 use Rattle.yp_map_file.specs.declared.fault.SlotFault.TheVariants as slot
-use Rattle.yp_texts.specs.After.{Basis}
 use Rattle.yp_answer.specs.declared.make.MakeJob.{MakeJob}
 use Rattle.yp_publisher.specs.declared.install.InstallFault.{InstallFault}
 use Rattle.yp_publisher.specs.declared.install.InstallFault.TheVariants as install
@@ -15,7 +14,7 @@ use Rattle.yp_publisher.specs.Standing.{Published}
 use Rattle.yp_publisher.specs.Keeping.{Keeping}
 use Rattle.yp_publisher.specs.Installs.{OfferedVersion, offer, Installs, Refuses}
 use Rattle.yp_publisher.specs.Opens.{Opens, StaysBehind}
-use Rattle.yp_answer.specs.Causes.{IsAnew, basis_at}
+use Rattle.yp_answer.specs.Causes.{Task, IsAnew, task_at}
 use Rattle.yp_host.specs.Locals.{Local, Telling, IsUsed, LeavesDial}
 use Rattle.yp_host.specs.Anew.{IsUnbuilt}
 
@@ -58,16 +57,16 @@ OffersBuilt keeping number version stat old new =
     ((stat ≡ Succ) × Installs keeping number (built_offer version) old new)
     ⊎ IsUninstalled keeping number version stat old new
 
--- what a version of the map is built for
-abbrev pub site_at : {D B : Type 0} → Keeping D B → MakeJob → Published D B → Basis
-site_at keeping job published = basis_at published.catalogue.own job (keeping.log published.board)
+-- what is made of the map, behind what is shown of it
+abbrev pub task_on : {D B : Type 0} → Keeping D B → MakeJob → Published D B → Task
+task_on keeping job published = task_at published.catalogue job (keeping.log published.board)
 
 -- No version was built, and the maps stay; or one was built, and came to this.
 abbrev pub Tries : {D B E : Type 0} → Keeping D B → Telling E → MakeJob → XfrStat → Local D B E → Local D B E
     → Type 0
 Tries keeping telling job stat old new =
-    (IsUnbuilt telling (site_at keeping job old.published) stat old.desk new.desk × (new.published ≡ old.published))
-    ⊎ ((version : MapVersion) × IsAnew (telling.told old.desk) (site_at keeping job old.published) version
+    (IsUnbuilt telling (task_on keeping job old.published) stat old.desk new.desk × (new.published ≡ old.published))
+    ⊎ ((version : MapVersion) × IsAnew (telling.told old.desk) (task_on keeping job old.published) version
     × OffersBuilt keeping job.map version stat old.published new.published)
 
 -- The map is level, where it was behind by opening its file again, and then it is tried to make it. The maps between

@@ -1,30 +1,29 @@
 //! A version that is built anew for a map.
 
-ghost use Rattle.std.specs.Prelude.{◌≡◌, ◌⊎◌, ◌≤◌, false, None, length, option_map, IfSome, IfOk, IfErr};
+ghost use Rattle.std.specs.Prelude.{◌≡◌, ◌⊎◌, ◌<◌, ◌≤◌, ℕ, false, List, None, length, option_map, IfSome, IfOk};
+ghost use Rattle.std.specs.Prelude.{IfErr};
 ghost use Rattle.yp_io.specs.Counts.{HasRisen};
 ghost use Rattle.yp_io.specs.Texts.{text_max};
-ghost use Rattle.yp_io.specs.declared.texts.TextFile.{TextFile};
-ghost use Rattle.yp_version.specs.Limits.{master_max};
-ghost use Rattle.yp_texts.specs.Kinds.{file_of};
 ghost use Rattle.yp_publisher.specs.declared.install.Origin.TheVariants.{Built};
 ghost use Rattle.yp_publisher.specs.Installs.{offer, not_following};
 ghost use Rattle.yp_host.specs.Locals.{told_by, IsUsed, LeavesDial};
 ghost use Rattle.yp_host.specs.inside.Locals.{telling_by};
-ghost use Rattle.yp_answer.specs.Causes.{IsAnew};
+ghost use Rattle.yp_answer.specs.Causes.{IsAnew, task_of};
 ghost use Rattle.yp_answer.specs.inside.Causes.{build_stat};
-ghost use Rattle.yp_texts.specs.After.{basis_of};
 ghost use Rattle.yp_host.specs.Anew.{IsUnbuilt};
 
 use crate::desk::Desk;
 use std::alloc::Global;
 use std::random::RandomSource;
+use yp_answer::MakeJob;
+use yp_board::Catalog;
 use yp_io::{Clock, Dial, TextFault, Texts};
 use yp_messages::XfrStat;
-use yp_texts::{AfterFault, BuildFault, Kind, Reading, build_after, other_master};
+use yp_texts::{AfterFault, BuildFault, build_after, other_master};
 use yp_version::Version;
 
-/// Builds a version of a map, where `own` is the host's own name and `shown` the version that is shown of the map. It
-/// is marked as that one.
+/// Builds a version of a map of the catalogue, where `shown` is the version that is shown of it. It is marked as that
+/// one.
 ///
 /// A map with another master is REFUSED, a text that isn't read is FILE, an order that is spent AGE, and a row that
 /// passes a limit DBM. Want of memory is RSRC.
@@ -32,43 +31,44 @@ pub fn build_anew<A: Dial, T: Texts, C: Clock>(
     alloc: Global,
     rt: &impl RandomSource,
     desk: &mut Desk<A, T, C>,
-    kind: Kind,
-    own: &[u8],
+    catalog: &Catalog,
+    job: MakeJob,
     shown: Option<&Version>,
 ) -> Result<Version, XfrStat>
-    requires { length own.now ≤ master_max }
+    requires { job.map < length catalog.now.maps }
     ensures anew { IfOk result (IsAnew (told_by T.Texts C.Clock desk.old)
-        (basis_of kind own.now None (option_map (λ version. version.now) shown.entry))) }
-    ensures follows { IfOk result (λ version.
-        not_following own.now (offer version Built false) (option_map (λ version. version.now) shown.entry) ≡ None) }
+        (task_of catalog.now job (option_map (λ version. version.now) shown.entry))) }
+    ensures follows { IfOk result (λ version. not_following catalog.now.own (offer version Built false)
+        (option_map (λ version. version.now) shown.entry) ≡ None) }
     ensures unbuilt { IfErr result (λ stat. IsUnbuilt (telling_by T.Texts C.Clock A.Dial)
-        (basis_of kind own.now None (option_map (λ version. version.now) shown.entry)) stat desk.old desk.new) }
+        (task_of catalog.now job (option_map (λ version. version.now) shown.entry)) stat desk.old desk.new) }
     ensures desk { IsUsed (telling_by T.Texts C.Clock A.Dial) desk.old desk.new }
     ensures dial { LeavesDial (telling_by T.Texts C.Clock A.Dial) desk.old desk.new }
 {
+    let own = catalog.own();
     if other_master(own, shown).is_some() {
         return Err(XfrStat::Refused);
     }
-    let text = read_text(alloc, &mut desk.texts, kind)?;
+    let text = read_text(alloc, &mut desk.texts, job.text(catalog))?;
     let now = desk.clock.now();
-    match build_after(alloc, rt, Reading::Text(kind), text, shown, None, now, own) {
+    match build_after(alloc, rt, job.reading, text, shown, None, now, own) {
         Ok(version) => Ok(version),
         Err(AfterFault::Build(fault)) => Err(build_stat(fault)),
         Err(AfterFault::Foreign { .. }) => unreachable!(),
     }
 }
 
-/// The text of a kind.
-fn read_text<T: Texts>(alloc: Global, texts: &mut T, kind: Kind) -> Result<Vec<u8>, XfrStat>
-    ensures text { IfOk result (λ text. IfSome (T.text texts.old (file_of kind)) (λ told. text.items ≡ told)) }
+/// The text with a name.
+fn read_text<T: Texts>(alloc: Global, texts: &mut T, name: &[u8]) -> Result<Vec<u8>, XfrStat>
+    ensures text { IfOk result (λ text. IfSome (T.text texts.old name.now) (λ told. text.items ≡ told)) }
     ensures limit { IfOk result (λ text. length text.items ≤ text_max) }
     ensures fault { IfErr result (λ stat. (stat ≡ XfrStat.Rsrc)
         ⊎ ((stat ≡ XfrStat.File) × HasRisen (T.faults texts.old) (T.faults texts.new))) }
-    ensures same { (file : TextFile) → T.text texts.new file ≡ T.text texts.old file }
+    ensures same { (file : List ℕ) → T.text texts.new file ≡ T.text texts.old file }
     ensures never_falls { T.faults texts.old ≤ T.faults texts.new }
 {
     let mut text = Vec::new(alloc);
-    match texts.read(kind.text(), &mut text) {
+    match texts.read(name, &mut text) {
         Ok(()) => Ok(text),
         Err(TextFault::Failed) => Err(XfrStat::File),
         Err(TextFault::NoMemory) => Err(XfrStat::Rsrc),

@@ -9,13 +9,12 @@ ghost use Rattle.yp_board.specs.Views.{IsFront};
 ghost use Rattle.yp_publisher.specs.Installs.{offer, not_following};
 ghost use Rattle.yp_publisher.specs.declared.install.Origin.TheVariants.{Built};
 ghost use Rattle.yp_publisher.specs.Standing.{Level, OfMap};
-ghost use Rattle.yp_answer.specs.Make.{job_of};
 ghost use Rattle.yp_publisher.specs.Keeping.{keeping_of};
 ghost use Rattle.yp_host.specs.Locals.{seen_of, told_by, IsUsed, LeavesDial};
 ghost use Rattle.yp_host.specs.inside.Locals.{telling_by};
 ghost use Rattle.yp_answer.specs.Causes.{IsAnew};
 ghost use Rattle.yp_host.specs.Anew.{IsUnbuilt};
-ghost use Rattle.yp_host.specs.Making.{site_at, Tries, Makes, MapIsMade};
+ghost use Rattle.yp_host.specs.Making.{task_on, Tries, Makes, MapIsMade};
 ghost use Rattle.yp_host.specs.Transferring.{MapIsTransferred};
 
 use crate::anew::build_anew;
@@ -32,7 +31,6 @@ use yp_board::{Catalog, Show, View};
 use yp_io::{Clock, Dial, Disk, NoMemory, Peer, Texts};
 use yp_messages::XfrStat;
 use yp_publisher::Publisher;
-use yp_texts::Kind;
 use yp_version::Version;
 
 /// A host over stored maps, for one thread. What it knows is all that was shown.
@@ -117,29 +115,30 @@ impl<D: Disk, B: Show, A: Dial, T: Texts, C: Clock, R: RandomSource + Drop> Loca
     }
 
     /// Makes a map anew, or answers why it can't be made, the first reason that applies.
-    fn make_anew(&mut self, map: u32, kind: Kind) -> Result<(), XfrStat>
-        requires { map < length self.old.published.catalogue.maps }
+    fn make_anew(&mut self, job: MakeJob) -> Result<(), XfrStat>
+        requires { job.map < length self.old.published.catalogue.maps }
         ensures made { OnOk result (Makes (keeping_of D.history D.faults B.log)
-            (telling_by T.Texts C.Clock A.Dial) (job_of map kind) XfrStat.Succ self.old self.new) }
+            (telling_by T.Texts C.Clock A.Dial) job XfrStat.Succ self.old self.new) }
         ensures unmade { IfErr result (λ stat. Makes (keeping_of D.history D.faults B.log)
-            (telling_by T.Texts C.Clock A.Dial) (job_of map kind) stat self.old self.new) }
+            (telling_by T.Texts C.Clock A.Dial) job stat self.old self.new) }
         ensures grown { IsFront (B.log self.old.published.board) (B.log self.new.published.board) }
         ensures catalogue { self.new.published.catalogue ≡ self.old.published.catalogue }
         ensures files { self.new.files ≡ self.old.files }
         ensures transfers { self.new.transfers ≡ self.old.transfers }
     {
-        reopen(self.alloc, &self.rt, &mut self.publisher, map)?;
-        self.make_level(map, kind)
+        reopen(self.alloc, &self.rt, &mut self.publisher, job.map)?;
+        self.make_level(job)
     }
 
     /// Makes a level map anew.
-    fn make_level(&mut self, map: u32, kind: Kind) -> Result<(), XfrStat>
-        requires map { map < length self.old.published.maps }
-        requires level { OfMap map self.old.published.maps (λ kept. kept.standing ≡ Level) }
+    fn make_level(&mut self, job: MakeJob) -> Result<(), XfrStat>
+        requires map { job.map < length self.old.published.maps }
+        requires named { job.map < length self.old.published.catalogue.maps }
+        requires level { OfMap job.map self.old.published.maps (λ kept. kept.standing ≡ Level) }
         ensures made { OnOk result (Tries (keeping_of D.history D.faults B.log)
-            (telling_by T.Texts C.Clock A.Dial) (job_of map kind) XfrStat.Succ self.old self.new) }
+            (telling_by T.Texts C.Clock A.Dial) job XfrStat.Succ self.old self.new) }
         ensures unmade { IfErr result (λ stat. Tries (keeping_of D.history D.faults B.log)
-            (telling_by T.Texts C.Clock A.Dial) (job_of map kind) stat self.old self.new) }
+            (telling_by T.Texts C.Clock A.Dial) job stat self.old self.new) }
         ensures desk { IsUsed (telling_by T.Texts C.Clock A.Dial) self.old.desk self.new.desk }
         ensures dial { LeavesDial (telling_by T.Texts C.Clock A.Dial) self.old.desk self.new.desk }
         ensures grown { IsFront (B.log self.old.published.board) (B.log self.new.published.board) }
@@ -148,15 +147,8 @@ impl<D: Disk, B: Show, A: Dial, T: Texts, C: Clock, R: RandomSource + Drop> Loca
         ensures files { self.new.files ≡ self.old.files }
         ensures transfers { self.new.transfers ≡ self.old.transfers }
     {
-        let version = build_for(
-            self.alloc,
-            &self.rt,
-            &self.publisher,
-            &mut self.desk,
-            map,
-            kind,
-        )?;
-        install(self.alloc, &mut self.publisher, map, version)
+        let version = build_for(self.alloc, &self.rt, &self.publisher, &mut self.desk, job)?;
+        install(self.alloc, &mut self.publisher, job.map, version)
     }
 }
 
@@ -166,22 +158,21 @@ fn build_for<D: Disk, B: Show, A: Dial, T: Texts, C: Clock>(
     rt: &impl RandomSource,
     publisher: &Publisher<D, B>,
     desk: &mut Desk<A, T, C>,
-    map: u32,
-    kind: Kind,
+    job: MakeJob,
 ) -> Result<Version, XfrStat>
-    requires { map < length publisher.now.maps }
+    requires map { job.map < length publisher.now.maps }
+    requires named { job.map < length publisher.now.catalogue.maps }
     ensures anew { IfOk result (IsAnew (told_by T.Texts C.Clock desk.old)
-        (site_at (keeping_of D.history D.faults B.log) (job_of map kind) publisher.now)) }
-    ensures follows { IfOk result (λ version. OfMap map publisher.now.maps (λ kept.
+        (task_on (keeping_of D.history D.faults B.log) job publisher.now)) }
+    ensures follows { IfOk result (λ version. OfMap job.map publisher.now.maps (λ kept.
         not_following publisher.now.catalogue.own (offer version Built false) kept.version ≡ None)) }
     ensures unbuilt { IfErr result (λ stat. IsUnbuilt (telling_by T.Texts C.Clock A.Dial)
-        (site_at (keeping_of D.history D.faults B.log) (job_of map kind) publisher.now) stat desk.old desk.new) }
+        (task_on (keeping_of D.history D.faults B.log) job publisher.now) stat desk.old desk.new) }
     ensures desk { IsUsed (telling_by T.Texts C.Clock A.Dial) desk.old desk.new }
     ensures dial { LeavesDial (telling_by T.Texts C.Clock A.Dial) desk.old desk.new }
 {
-    let shown = held(publisher, map);
-    let own = publisher.catalog().own();
-    build_anew(alloc, rt, desk, kind, own, shown)
+    let shown = held(publisher, job.map);
+    build_anew(alloc, rt, desk, publisher.catalog(), job, shown)
 }
 
 /// The version that is shown of a map.
@@ -245,7 +236,7 @@ impl<D: Disk, B: Show, A: Dial, T: Texts, C: Clock, R: RandomSource + Drop> Host
     ghost made = { MapIsMade (keeping_of D.history D.faults B.log) (telling_by T.Texts C.Clock A.Dial) };
 
     fn make(&mut self, job: MakeJob) -> XfrStat {
-        match self.make_anew(job.map, job.kind) {
+        match self.make_anew(job) {
             Ok(()) => XfrStat::Succ,
             Err(XfrStat::File) => {
                 self.files = self.files.saturating_add(1);

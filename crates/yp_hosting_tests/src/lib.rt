@@ -12,6 +12,8 @@ mod mailing;
 #[cfg(test)]
 mod makes;
 #[cfg(test)]
+mod named;
+#[cfg(test)]
 mod serve;
 #[cfg(test)]
 mod transfers;

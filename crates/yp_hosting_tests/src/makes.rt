@@ -43,7 +43,7 @@ const MADE_TWICE: Row = Row {
         MATCH,
     ]],
     most: 1,
-    hosts: "10.0.0.1 alpha\n",
+    sources: &[("hosts", "10.0.0.1 alpha\n")],
     moment: 100,
     output: "connections 1 calls 5\n",
     takes: &[&[
@@ -346,7 +346,7 @@ const SERVED: Row = Row {
     ],
     most: 2,
     piece: 40,
-    hosts: "10.0.0.1 alpha\n",
+    sources: &[("hosts", "10.0.0.1 alpha\n")],
     moment: 100,
     output: "connections 2 calls 3\n",
     takes: TOLD_OF_BOTH,

@@ -128,7 +128,7 @@ const MADE_UNTOLD: Row = Row {
         bytes: &["00000002", MAKE],
     }],
     inbox: 1,
-    hosts: "10.0.0.1 alpha\n",
+    sources: &[("hosts", "10.0.0.1 alpha\n")],
     moment: 100,
     turns: 1,
     stands: FIRST,

@@ -56,6 +56,6 @@ pub use slice_source::SliceSource;
 pub use stream::{
     Failed, NoMemory, OWN_HOST, Pair, Peer, Sink, Source, count_fault, write_all, write_through,
 };
-pub use texts::{TEXT_MAX, TextFault, TextFile, Texts};
+pub use texts::{TEXT_MAX, TextFault, Texts};
 pub use trail::Trail;
 pub use whole::{Unread, read_all, zeros};

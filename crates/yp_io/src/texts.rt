@@ -9,18 +9,6 @@ use crate::stream::Failed;
 /// The most bytes of a text.
 pub const TEXT_MAX: usize = 33_554_432;
 
-/// A text that maps are built of.
-#[derive(Clone, Copy, Debug, PartialEq, Eq)]
-pub enum TextFile {
-    Passwd,
-    Group,
-    Hosts,
-    Services,
-    Protocols,
-    Netgroup,
-    Ypservers,
-}
-
 /// Why a text was not read.
 #[derive(Clone, Copy, Debug, PartialEq, Eq)]
 pub enum TextFault {
@@ -41,24 +29,24 @@ impl From<Failed> for TextFault {
     }
 }
 
-/// Where the texts are.
+/// Where the texts are, each under its name.
 pub trait Texts {
     ghost use Rattle.yp_io.specs.Texts.{text_max};
-    ghost use Rattle.yp_io.specs.declared.texts.TextFile.{TextFile};
 
-    /// The bytes of each text, where they are told. They never change.
-    ghost text: { Self → TextFile → Option (List ℕ) };
+    /// The bytes of the text with a name, where they are told. They never change.
+    ghost text: { Self → List ℕ → Option (List ℕ) };
 
     /// How often it has failed, up to 2^64 - 1.
     ghost faults: { Self → ℕ };
 
-    /// Puts the whole text into `into`. A text over [`TEXT_MAX`] bytes is a fault.
-    fn read(&mut self, which: TextFile, into: &mut Vec<u8>) -> Result<(), TextFault>
+    /// Puts the whole text with this name into `into`. A name that no text has is a fault, and so is a text over
+    /// [`TEXT_MAX`] bytes.
+    fn read(&mut self, name: &[u8], into: &mut Vec<u8>) -> Result<(), TextFault>
         requires { into.old.items ≡ [] }
-        ensures bytes { OnOk result (IfSome (text self.old which) (λ bytes. into.new.items ≡ bytes)) }
+        ensures bytes { OnOk result (IfSome (text self.old name.now) (λ bytes. into.new.items ≡ bytes)) }
         ensures limit { OnOk result (length into.new.items ≤ text_max) }
         ensures err { OnErr result (into.new.items ≡ []) }
-        ensures same { (file : TextFile) → text self.new file ≡ text self.old file }
+        ensures same { (file : List ℕ) → text self.new file ≡ text self.old file }
         ensures never_falls { faults self.old ≤ faults self.new }
         ensures cause { IsErrOf result TextFault.Failed → HasRisen (faults self.old) (faults self.new) };
 }

@@ -60,6 +60,9 @@ make_null_procedure = 0
 abbrev pub make_procedure : ℕ
 make_procedure = 1
 
+abbrev pub make_named_procedure : ℕ
+make_named_procedure = 2
+
 -- the program that is told how a transfer went (YPPUSH_XFRRESPPROG, whose number is in each request): its version and
 -- its procedures
 abbrev pub push_version : ℕ

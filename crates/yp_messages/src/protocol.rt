@@ -7,6 +7,7 @@ ghost use Rattle.yp_messages.specs.Numbers.{null_procedure, domain_procedure, do
 ghost use Rattle.yp_messages.specs.Numbers.{first_procedure, next_procedure, xfr_procedure, clear_procedure};
 ghost use Rattle.yp_messages.specs.Numbers.{all_procedure, master_procedure, order_procedure, maplist_procedure};
 ghost use Rattle.yp_messages.specs.Numbers.{make_program, make_version, make_null_procedure, make_procedure};
+ghost use Rattle.yp_messages.specs.Numbers.{make_named_procedure};
 ghost use Rattle.yp_messages.specs.Numbers.{push_version, push_null_procedure, xfrresp_procedure};
 ghost use Rattle.yp_messages.specs.Numbers.{bind_program, bind_version, bind_null_procedure, bind_domain_procedure};
 ghost use Rattle.yp_messages.specs.Numbers.{setdom_procedure, addr_len, port_len};
@@ -62,8 +63,11 @@ pub const MAKEVERS: u32 = 1;
 /// Its procedure that does nothing.
 pub const MAKE_NULL: u32 = 0;
 
-/// Its procedure that has a map made anew.
+/// Its procedure that has the map of a kind made anew.
 pub const MAKE: u32 = 1;
+
+/// Its procedure that has a map made anew by its name.
+pub const MAKE_NAMED: u32 = 2;
 
 /// The version of the program that is told how a pushed transfer went. Each request has the program's number.
 pub const PUSHVERS: u32 = 1;
@@ -128,6 +132,7 @@ pub fn make_program_is_defined()
     ensures version { MAKEVERS ≡ make_version }
     ensures null { MAKE_NULL ≡ make_null_procedure }
     ensures make { MAKE ≡ make_procedure }
+    ensures named { MAKE_NAMED ≡ make_named_procedure }
 {}
 
 /// The numbers of the push response program are those that the definitions have. It does nothing.

@@ -4,3 +4,4 @@ pub mod Unparsed
 pub mod Sourced
 pub mod Walked
 pub mod Sending
+pub mod Comparing

@@ -2,7 +2,7 @@
 use Rattle.std.proofs.Common.{◌≡◌, ℕ, List, Result, Ok, Err, refl, inr, true}
 use Rattle.yp_answer.specs.session.Wires.{Wire}
 use Rattle.yp_command.specs.Words.{Meaning, Once, Session, Serve, Check, Dump, Build, Load, Xfr, Walk, Sample, Push}
-use Rattle.yp_command.specs.Words.{Bind, Portmap, Getport, Ask, Revnet}
+use Rattle.yp_command.specs.Words.{Bind, Portmap, Getport, Ask, Orders, Revnet}
 use Rattle.yp_command.specs.inside.Words.{IsSentenceOfWords, IsUsage}
 use Rattle.yp_command.specs.declared.words.ParseFault.{ParseFault}
 use Rattle.yp_command.specs.declared.words.ParseFault.TheVariants as fault
@@ -35,6 +35,7 @@ command_may (Bind port policy turns domain hosts) = refl
 command_may (Portmap port turns) = refl
 command_may (Getport port turns peer prog vers prot) = refl
 command_may (Ask peer question) = refl
+command_may (Orders first others domain) = refl
 
 memory_may : (command : Result Meaning ℕ) → IsSentenceOfWords command → MayEnd command NoMemory
 memory_may (Ok meaning) h = command_may meaning

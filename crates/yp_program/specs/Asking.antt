@@ -24,7 +24,7 @@ abbrev pub status_of : Result (Unit {0}) QueryFault → Status
 status_of (Ok done) = Done
 status_of (Err fault.NoKey) = No
 status_of (Err fault.NotMember) = No
-status_of (Err (fault.NotTaken stat)) = No
+status_of (Err (fault.NotDone stat)) = No
 status_of (Err fault.Dial) = DialFault
 status_of (Err fault.Output) = WriteFault
 status_of (Err fault.NoMemory) = NoMemory
@@ -52,7 +52,7 @@ pub record AsksAs (peer : Peer) (question : ByteQuestion) (status : Status) (old
   pub asks : Asks peer question result old new
   pub told : status ≡ status_of result
 
--- an answer, that there is no such key or no such member, or that no transfer was taken, or want of memory
+-- an answer, that there is no such key or no such member, or that no map is fetched or made, or want of memory
 abbrev pub IsClientAnswer : Status → Type 0
 IsClientAnswer status = (status ≡ Done) ⊎ (status ≡ No) ⊎ (status ≡ NoMemory)
 
@@ -76,9 +76,10 @@ ask_may_end _ = false
 -- What a client command does: it asks one server, on one connection, and prints what its replies say, or tells the
 -- first refusal. Where the wire that came gives what a server of this product sent in a run over the calls of the
 -- question, the text, or the refusal, is what the maps of that server tell at its first call, and for `poll` at its
--- second: all rows of one version, the value of the key in it, its master, its order, the names of maps, or whether a
--- group that is reached in it lists a triple that fits. Where the wire gives whole replies that answer its calls, and
--- nothing fails, it is answered.
+-- second: all rows of one version, the value of the key in it, its master, its order, the names of maps, whether a
+-- group that is reached in it lists a triple that fits, or the status with which a map is fetched or isn't, or isn't
+-- made. Where a map is made for it, its status is told, with its cause by the logs before and behind. Where the wire
+-- gives whole replies that answer its calls, and nothing fails, it is answered.
 pub record AskDoes {S K D C A I T : Type 0} (seen : Seeing S K D C A I T) (peer : Peer) (question : ByteQuestion)
     (status : Status) (old new : Office S K D C A I T) : Type 0 where
   pub asks : AsksAs peer question status (scene seen old) (scene seen new)

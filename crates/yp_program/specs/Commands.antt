@@ -2,7 +2,7 @@
 use Rattle.std.specs.Prelude.{◌≡◌, ◌⊎◌, ℕ, Bool, IsTrue, List, Result, Ok, Err}
 use Rattle.yp_answer.specs.session.Wires.{Wire}
 use Rattle.yp_command.specs.Words.{Meaning, Once, Session, Serve, Check, Dump, Build, Load, Xfr, Walk}
-use Rattle.yp_command.specs.Words.{Sample, Push, Bind, Portmap, Getport, Ask, TakesMemory, Revnet}
+use Rattle.yp_command.specs.Words.{Sample, Push, Bind, Portmap, Getport, Ask, Orders, TakesMemory, Revnet}
 use Rattle.yp_command.specs.declared.office.office.Office.{Office}
 use Rattle.yp_command.specs.declared.office.status.Status.{Status}
 use Rattle.yp_command.specs.declared.office.status.Status.TheVariants.{Usage, NoMemory}
@@ -23,6 +23,7 @@ use Rattle.yp_command_mail.specs.Portmap.{PortmapDoes, portmap_may_end}
 use Rattle.yp_command_maps.specs.walk.Walk.{walk_may_end}
 use Rattle.yp_command_mail.specs.Push.{PushDoes, job_of, push_may_end}
 use Rattle.yp_program.specs.Asking.{AskDoes, ask_may_end}
+use Rattle.yp_program.specs.Orders.{OrdersDoes}
 use Rattle.yp_program.specs.Transferring.{TransferDoes}
 use Rattle.yp_program.specs.Walking.{WalkingDoes}
 use Rattle.yp_program.specs.declared.program.Outside.{Outside}
@@ -58,6 +59,8 @@ AloneDoes seen (Getport port turns peer prog vers prot) status old new before af
     GetportDoes seen turns (begun peer prog vers prot) status old new × (after ≡ before)
 AloneDoes seen (Ask peer question) status old new before after =
     AskDoes seen peer question status old new × (after ≡ before)
+AloneDoes seen (Orders first others domain) status old new before after =
+    OrdersDoes seen first others domain status old new × (after ≡ before)
 
 -- what a command does, to what a listener tells, too: any but `serve` leaves it as it is
 abbrev pub CommandDoes : {S K D C A I T : Type 0} → Seeing S K D C A I T → Meaning → Status
@@ -103,6 +106,7 @@ may_end (Bind port policy turns domain hosts) status = bind_may_end status
 may_end (Portmap port turns) status = portmap_may_end status
 may_end (Getport port turns peer prog vers prot) status = getport_may_end status
 may_end (Ask peer question) status = ask_may_end status
+may_end (Orders first others domain) status = ask_may_end status
 
 abbrev pub MayEnd : Result Meaning ℕ → Status → Type 0
 MayEnd (Ok meaning) status = IsTrue (may_end meaning status)

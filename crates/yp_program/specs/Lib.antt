@@ -1,4 +1,5 @@
 pub mod Asking
+pub mod Orders
 pub mod Transferring
 pub mod Walking
 pub mod Commands

@@ -37,12 +37,12 @@ fn status_of_call(fault: ClientFault) -> Status
 }
 
 /// The status of a question that has no answer.
-fn status_of(fault: QueryFault) -> Status
+pub fn status_of(fault: QueryFault) -> Status
     requires { MayBeTold fault }
     ensures { result ≡ status_of (Err fault) }
 {
     match fault {
-        QueryFault::NoKey | QueryFault::NotMember | QueryFault::NotTaken(_) => Status::No,
+        QueryFault::NoKey | QueryFault::NotMember | QueryFault::NotDone(_) => Status::No,
         QueryFault::Client(fault) => status_of_call(fault),
         QueryFault::Dial => Status::DialFault,
         QueryFault::Output => Status::WriteFault,

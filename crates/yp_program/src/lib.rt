@@ -8,6 +8,7 @@
 
 mod ask;
 pub mod laws;
+mod orders;
 mod program;
 mod transferring;
 mod walking;

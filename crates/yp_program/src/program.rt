@@ -18,6 +18,7 @@ ghost use Rattle.yp_program.specs.inside.Commands.{IsAlone};
 ghost use Rattle.yp_program.specs.inside.Commands.{parse_status};
 
 use crate::ask::ask;
+use crate::orders::compare;
 use crate::transferring::transfer;
 use crate::walking::walk;
 use std::alloc::Global;
@@ -160,6 +161,11 @@ fn obey<S: Source, K: Sink, D: Disk, C: Clock, A: Dial, I: Inbox, T: Texts, W: W
             ..
         } => ask_mapper(alloc, turns, addr, prog, vers, prot, &mut office),
         Command::Ask { addr, question } => ask(alloc, rt, addr, question, &mut office),
+        Command::Orders {
+            first,
+            others,
+            domain,
+        } => compare(alloc, first, &others, &domain, &mut office),
         Command::Session {
             name,
             addr,

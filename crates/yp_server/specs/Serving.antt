@@ -2,7 +2,6 @@
 use Rattle.std.specs.Prelude.{◌≡◌, ℕ, Bool, List, map, length, Option, None, Result, is_err}
 use Rattle.yp_io.specs.Disk.{History}
 use Rattle.yp_io.specs.declared.stream.Failed.{Failed}
-use Rattle.yp_io.specs.declared.texts.TextFile.{TextFile}
 use Rattle.yp_board.specs.Catalogues.{Catalogue}
 use Rattle.yp_board.specs.Logs.{Log}
 use Rattle.yp_board.specs.Views.{Seen, IsFront}
@@ -17,7 +16,7 @@ use Rattle.yp_host.specs.workers.Desks.{texts_alone}
 use Rattle.yp_host.specs.workers.Workers.{WorkerState, counts_of, Stepped, WorkerMakesMap, WorkerTransfersMap}
 
 -- what the hosts of workers do whose readers tell this, at a desk with these texts and hosts
-abbrev pub conduct_at : {V : Type 0} → (V → Seen) → (V → V → Type 0) → (TextFile → Option (List ℕ)) → HostList
+abbrev pub conduct_at : {V : Type 0} → (V → Seen) → (V → V → Type 0) → (List ℕ → Option (List ℕ)) → HostList
     → Conduct (WorkerState V)
 conduct_at seen stepped text hosts =
     conduct_of (λ host. seen host.reader) (λ host. texts_alone text) counts_of (Stepped stepped)

@@ -58,14 +58,18 @@ fn disk_of(rt: &impl Abort, host: MemHost) -> MemDisk {
 struct Making<'a> {
     row: &'a str,
     own: &'a [u8],
+    map: Map,
     file: &'a str,
+    // The one text, and its name.
     text: &'a [u8],
+    source: &'a [u8],
     // The read of the text that fails.
     failing: u64,
     moment: u32,
     peer: Peer,
     make: &'a str,
     made: &'a str,
+    look_up: &'a str,
     answer: &'a str,
     stored: Stored,
 }
@@ -81,8 +85,15 @@ fn host_before(
     making: &Making<'_>,
 ) -> MemHost {
     let disk = sound_disk(alloc, words(rt, alloc, making.file));
-    let desk = desk_of(rt, alloc, making.text, making.moment, making.failing);
-    let catalog = catalog_of(rt, alloc, making.own, &[LAB]);
+    let desk = desk_with(
+        rt,
+        alloc,
+        making.source,
+        making.text,
+        making.moment,
+        making.failing,
+    );
+    let catalog = catalog_of(rt, alloc, making.own, &[making.map]);
     host_of(rt, runtime, alloc, catalog, disk, desk)
 }
 
@@ -94,7 +105,7 @@ fn made_by(
     making: &Making<'_>,
 ) -> (Replied, Replied) {
     let make = words(rt, alloc, making.make);
-    let look_up = words(rt, alloc, "8000004c 00000003 MATCH");
+    let look_up = words(rt, alloc, making.look_up);
     let mut session = Session::new(alloc).expect(rt, "a session");
     let made = run_session(rt, alloc, &mut session, host, making.peer, make);
     let looked_up = run_session(rt, alloc, &mut session, host, making.peer, look_up);
@@ -123,6 +134,13 @@ const HOSTS: &str = "80000034 00000002 MAKE 00000005";
 
 const NO_KIND: &str = "80000034 00000002 MAKE 00000063";
 
+// The same by name: of hosts.byname, of the map `addr`, and of a map that isn't served.
+const HOSTS_NAMED: &str = "80000040 00000002 NAMED HOSTS_NAME";
+
+const ADDR_NAMED: &str = "80000038 00000002 NAMED ADDR_NAME";
+
+const NONE_NAMED: &str = "80000038 00000002 NAMED 00000004 61646473";
+
 // The replies to MAKE.
 const SUCC: &str = "8000001c 00000002 MADE 00000001";
 
@@ -147,15 +165,35 @@ const YPERR: &str = "80000020 00000003 YPERR_OF";
 const EMPTY: Making<'static> = Making {
     row: "made on an empty file",
     own: b"m1",
+    map: LAB,
     file: "",
     text: TEXT,
+    source: b"hosts",
     failing: NEVER,
     moment: 100,
     peer: OWN_HOST,
     make: HOSTS,
     made: SUCC,
+    look_up: "8000004c 00000003 MATCH",
     answer: VALUE,
     stored: (Some((100, false)), 1),
+};
+
+// A map of no kind that is made by its name, of the rows of its text.
+const EMPTY_ADDR: Making<'static> = Making {
+    row: "a map of rows, made on an empty file",
+    map: ADDR,
+    text: b"alpha\t10.0.0.1 alpha\n",
+    source: b"addr",
+    make: ADDR_NAMED,
+    look_up: "80000044 00000003 MATCH_ADDR",
+    ..EMPTY
+};
+
+const UNMADE_ADDR: Making<'static> = Making {
+    answer: NO_MAP,
+    stored: (None, 0),
+    ..EMPTY_ADDR
 };
 
 // One that isn't.
@@ -165,7 +203,7 @@ const UNMADE: Making<'static> = Making {
     ..EMPTY
 };
 
-static MADE_MAPS: [Making<'static>; 4] = [
+static MADE_MAPS: [Making<'static>; 10] = [
     EMPTY,
     Making {
         row: "the order rises where the clock does not",
@@ -187,6 +225,37 @@ static MADE_MAPS: [Making<'static>; 4] = [
         stored: (Some((101, true)), 2),
         ..EMPTY
     },
+    Making {
+        row: "a map of a kind, by its name",
+        make: HOSTS_NAMED,
+        ..EMPTY
+    },
+    EMPTY_ADDR,
+    Making {
+        row: "rows that stand behind blanks, of which the first of a key counts",
+        text: b"alpha  10.0.0.1 alpha\n\nbeta\nalpha 2",
+        ..EMPTY_ADDR
+    },
+    Making {
+        row: "the order of a map of rows rises where the clock does not",
+        file: "HOSTS_FILE",
+        stored: (Some((101, false)), 2),
+        ..EMPTY_ADDR
+    },
+    Making {
+        row: "the order of a map of rows follows the clock",
+        file: "HOSTS_FILE",
+        moment: 200,
+        stored: (Some((200, false)), 2),
+        ..EMPTY_ADDR
+    },
+    Making {
+        row: "a secure map of rows stays secure",
+        file: "SECURE_FILE",
+        answer: YPERR,
+        stored: (Some((101, true)), 2),
+        ..EMPTY_ADDR
+    },
 ];
 
 #[test]
@@ -196,7 +265,7 @@ fn made_maps(rt: HostRuntime) {
     }
 }
 
-static UNMADE_MAPS: [Making<'static>; 7] = [
+static UNMADE_MAPS: [Making<'static>; 15] = [
     Making {
         row: "a call from another host",
         peer: Peer {
@@ -247,6 +316,61 @@ static UNMADE_MAPS: [Making<'static>; 7] = [
         stored: (Some((100, false)), u64::MAX),
         ..EMPTY
     },
+    Making {
+        row: "a call by name from another host",
+        peer: Peer {
+            addr: [10, 0, 0, 9],
+            port: 40000,
+        },
+        made: REFUSED,
+        ..UNMADE_ADDR
+    },
+    Making {
+        row: "a name that no map has",
+        make: NONE_NAMED,
+        made: NOMAP,
+        ..UNMADE_ADDR
+    },
+    Making {
+        row: "rows that are not read",
+        failing: 0,
+        made: FILE,
+        ..UNMADE_ADDR
+    },
+    Making {
+        row: "no text with the name of the map",
+        source: b"hosts",
+        made: FILE,
+        ..UNMADE_ADDR
+    },
+    Making {
+        row: "no text of a kind, where one has the name of the map",
+        source: b"hosts.byname",
+        make: HOSTS_NAMED,
+        made: FILE,
+        ..UNMADE
+    },
+    Making {
+        row: "another master of a map of rows",
+        own: b"m2",
+        file: "HOSTS_FILE",
+        made: REFUSED,
+        ..EMPTY_ADDR
+    },
+    Making {
+        row: "the orders of a map of rows are spent",
+        file: "LAST_ORDER",
+        made: AGE,
+        stored: (Some((u32::MAX, false)), 1),
+        ..EMPTY_ADDR
+    },
+    Making {
+        row: "the generations of a map of rows are spent",
+        file: "LAST_GENERATION",
+        made: FILE,
+        stored: (Some((100, false)), u64::MAX),
+        ..EMPTY_ADDR
+    },
 ];
 
 #[test]
@@ -273,4 +397,11 @@ fn row_past_a_limit(rt: HostRuntime) {
         ..UNMADE
     };
     try_making(&rt, rt, rt.alloc(), &making);
+    let of_rows = Making {
+        row: "a value past a limit",
+        text: &text,
+        made: DBM,
+        ..UNMADE_ADDR
+    };
+    try_making(&rt, rt, rt.alloc(), &of_rows);
 }

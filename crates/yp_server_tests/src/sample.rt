@@ -9,18 +9,16 @@ use std::process::Abort;
 use std::random::RandomSource;
 use yp_board::{Catalog, MapName};
 use yp_host::Desk;
-use yp_io::{
-    MemDial, MemDisk, MemSink, MemSource, MemTexts, MemWire, Pair, Peer, SetClock, TextFile,
-};
+use yp_io::{MemDial, MemDisk, MemSink, MemSource, MemTexts, MemWire, Pair, Peer, SetClock};
 use yp_map_file::Slot;
 use yp_transfer::Hosts;
 
 // Names of words of calls, replies and files.
 //
 // MATCH is of `alpha` in hosts.byname of `lab`, behind its transaction, as all calls and replies here. A secure map has
-// YPERR for callers at ports from 1024 on. MAKE is of `lab`, up to the kind, MADE up to the status. LIST is MAPLIST up
-// to the domain, `lab` or `dev`. XFR is of hosts.byname in `lab` from `m1`, up to how to call back, and TAKEN its
-// reply.
+// YPERR for callers at ports from 1024 on. MATCH_ADDR is of `alpha` in the map `addr` of `lab`, which has the name
+// ADDR_NAME. MAKE is of `lab`, up to the kind, NAMED up to the map, MADE up to the status. LIST is MAPLIST up to the
+// domain, `lab` or `dev`. XFR is of hosts.byname in `lab` from `m1`, up to how to call back, and TAKEN its reply.
 //
 // A file of 116 bytes has two cells, the first of them at generation 1 or at the last one, and a body: its format, its
 // order 100 or the last one, master `m1` and the row `alpha`, `10.0.0.1 alpha`. The damaged one has 1 in the padding of
@@ -32,12 +30,18 @@ use yp_transfer::Hosts;
 static NAMES: &str = "\
 MATCH = 00000000 00000002 000186a4 00000002 00000003 00000000 00000000 00000000 00000000 \
     00000003 6c616200 0000000c 686f7374 732e6279 6e616d65 00000005 616c7068 61000000
+MATCH_ADDR = 00000000 00000002 000186a4 00000002 00000003 00000000 00000000 00000000 00000000 \
+    00000003 6c616200 00000004 61646472 00000005 616c7068 61000000
 VALUE_OF = 00000001 00000000 00000000 00000000 00000000 00000001 0000000e 31302e30 2e302e31 \
     20616c70 68610000
 NO_MAP_OF = 00000001 00000000 00000000 00000000 00000000 ffffffff 00000000
 YPERR_OF = 00000001 00000000 00000000 00000000 00000000 fffffffa 00000000
 MAKE = 00000000 00000002 20004e49 00000001 00000001 00000000 00000000 00000000 00000000 00000003 \
     6c616200
+NAMED = 00000000 00000002 20004e49 00000001 00000002 00000000 00000000 00000000 00000000 00000003 \
+    6c616200
+HOSTS_NAME = 0000000c 686f7374 732e6279 6e616d65
+ADDR_NAME = 00000004 61646472
 MADE = 00000001 00000000 00000000 00000000 00000000
 HOSTS_FILE = 01000000 00000000 00000000 00000001 00000000 00000040 00000000 00000034 00000000 \
     00000000 00000000 00000000 00000000 00000000 00000000 00000000 00000001 00000064 00000002 \
@@ -100,6 +104,8 @@ pub const LAB: Map = (b"lab", b"hosts.byname");
 
 pub const DEV: Map = (b"dev", b"hosts.byname");
 
+pub const ADDR: Map = (b"lab", b"addr");
+
 fn owned(rt: &impl Abort, alloc: Global, bytes: &[u8]) -> Vec<u8> {
     Vec::from_slice(alloc, bytes).expect(rt, "bytes")
 }
@@ -146,9 +152,9 @@ pub fn stored_on(
     load_stored(rt, random, alloc, &mut slot)
 }
 
-// Texts of hosts. The read with this number fails.
-fn texts_of(rt: &impl Abort, alloc: Global, text: &[u8], failing: u64) -> MemTexts {
-    let text = (TextFile::Hosts, owned(rt, alloc, text));
+// One text, with its name. The read with this number fails.
+fn texts_of(rt: &impl Abort, alloc: Global, name: &[u8], text: &[u8], failing: u64) -> MemTexts {
+    let text = (owned(rt, alloc, name), owned(rt, alloc, text));
     let texts = vec![in alloc; text].expect(rt, "a text");
     let failing = vec![in alloc; failing].expect(rt, "a number");
     MemTexts::new(texts, failing)
@@ -156,10 +162,22 @@ fn texts_of(rt: &impl Abort, alloc: Global, text: &[u8], failing: u64) -> MemTex
 
 // A desk with this text of hosts, at a moment. The read of it with this number fails.
 pub fn desk_of(rt: &impl Abort, alloc: Global, text: &[u8], moment: u32, failing: u64) -> MemDesk {
+    desk_with(rt, alloc, b"hosts", text, moment, failing)
+}
+
+// A desk with the text of this name, at a moment. The read of it with this number fails.
+pub fn desk_with(
+    rt: &impl Abort,
+    alloc: Global,
+    name: &[u8],
+    text: &[u8],
+    moment: u32,
+    failing: u64,
+) -> MemDesk {
     Desk {
         dial: MemDial::new(alloc, Vec::new(alloc), Vec::new(alloc)),
         hosts: Hosts::new(alloc),
-        texts: texts_of(rt, alloc, text, failing),
+        texts: texts_of(rt, alloc, name, text, failing),
         clock: SetClock { moment },
     }
 }
@@ -214,7 +232,7 @@ pub fn fetching_desk(
     Desk {
         dial: dial_of(rt, alloc, input, refused),
         hosts: hosts_of(rt, alloc, host),
-        texts: texts_of(rt, alloc, b"", NEVER),
+        texts: texts_of(rt, alloc, b"hosts", b"", NEVER),
         clock: SetClock { moment: 100 },
     }
 }

@@ -11,7 +11,7 @@ use std::alloc::{AllocError, Global};
 use yp_board::MapName;
 use yp_io::{
     CallOrigin, Called, HallCall, Letter, MemDial, MemDisk, MemHall, MemInbox, MemSink, MemSource,
-    MemTexts, MemWire, OWN_HOST, Pair, Peer, Scheduled, SetClock, TextFile,
+    MemTexts, MemWire, OWN_HOST, Pair, Peer, Scheduled, SetClock,
 };
 use yp_program::{NamedDisk, Outside, disk_names, named_disks};
 
@@ -137,8 +137,12 @@ fn inbox_of(alloc: Global, row: &Row) -> Result<MemInbox, AllocError> {
 /// The texts that maps are made of.
 fn texts_of(alloc: Global, row: &Row) -> Result<MemTexts, AllocError> {
     let failing = plan(alloc, row.texts)?;
-    let hosts = Vec::from_slice(alloc, row.hosts.as_bytes())?;
-    let texts = vec![in alloc; (TextFile::Hosts, hosts)]?;
+    let mut texts = Vec::new(alloc);
+    for (name, text) in row.sources {
+        let name = Vec::from_slice(alloc, name.as_bytes())?;
+        let text = Vec::from_slice(alloc, text.as_bytes())?;
+        texts.push((name, text))?;
+    }
     Ok(MemTexts::new(texts, failing))
 }
 

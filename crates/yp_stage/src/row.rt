@@ -65,8 +65,8 @@ pub struct Row {
     pub accepts: u64,
     pub call_reads: u64,
     pub call_writes: u64,
-    /// The text of hosts, and the read of a text that fails.
-    pub hosts: &'static str,
+    /// The texts that maps are made of, each with its name, and the read of a text that fails.
+    pub sources: &'static [(&'static str, &'static str)],
     pub texts: u64,
     /// The status.
     pub code: u8,
@@ -122,7 +122,7 @@ pub const FAIR: Row = Row {
     accepts: NEVER,
     call_reads: NEVER,
     call_writes: NEVER,
-    hosts: "",
+    sources: &[],
     texts: NEVER,
     code: 0,
     replies: &[],

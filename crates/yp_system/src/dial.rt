@@ -6,6 +6,7 @@ ghost use Rattle.std.specs.Net.Socket.{v4_ip, v4_port};
 ghost use Rattle.yp_io.specs.Counts.{last_count};
 ghost use Rattle.yp_io.specs.Dials.{GoesBack, IsFresh};
 
+use crate::reserved::ReservedPorts;
 use crate::streams::{BlockReader, DirectWriter};
 use std::alloc::Global;
 use std::io;
@@ -21,31 +22,46 @@ const LIMIT_SECONDS: u64 = 30;
 /// A connection by TCP, whose two halves tell nothing of their bytes.
 pub type TcpWire = Pair<BlockReader<TcpStream>, DirectWriter<TcpStream>>;
 
+/// The ports of this machine from which wires come.
+#[derive(Clone, Copy, Debug, PartialEq, Eq)]
+pub enum LocalPorts {
+    /// Any that the system picks.
+    Any,
+    /// Those under 1,024 where the program may have one and one is free, and else any.
+    Reserved,
+}
+
 /// What connects by TCP and sends datagrams by UDP, over IPv4. It tells nothing of them.
 #[derive(Drop)]
 pub struct TcpDial<R: Net<Stream = TcpStream> + Drop> {
     alloc: Global,
     net: R,
     limit: Duration,
+    reserved: Option<ReservedPorts>,
     faults: u64,
 }
 
 impl<R: Net<Stream = TcpStream> + Drop> TcpDial<R> {
-    /// Nothing is opened yet.
-    pub fn new(alloc: Global, net: R) -> TcpDial<R>
+    /// Nothing is opened yet. Its wires come from these ports.
+    pub fn new(alloc: Global, net: R, ports: LocalPorts) -> TcpDial<R>
         ensures { ⟦<TcpDial<R> as Dial>⟧.faults result ≡ 0 }
     {
-        TcpDial::with_limit(alloc, net, Duration::from_secs(LIMIT_SECONDS))
+        TcpDial::with_limit(alloc, net, ports, Duration::from_secs(LIMIT_SECONDS))
     }
 
     /// A dial with this limit: each wire fails where connecting, a read or a write takes longer.
-    pub fn with_limit(alloc: Global, net: R, limit: Duration) -> TcpDial<R>
+    pub fn with_limit(alloc: Global, net: R, ports: LocalPorts, limit: Duration) -> TcpDial<R>
         ensures { ⟦<TcpDial<R> as Dial>⟧.faults result ≡ 0 }
     {
+        let reserved = match ports {
+            LocalPorts::Any => None,
+            LocalPorts::Reserved => Some(ReservedPorts::new()),
+        };
         TcpDial {
             alloc,
             net,
             limit,
+            reserved,
             faults: 0,
         }
     }
@@ -66,19 +82,37 @@ pub(crate) fn address_of(peer: Peer) -> SocketAddrV4
     SocketAddrV4::new(Ipv4Addr::from(peer.addr), peer.port)
 }
 
-// Connects. What is written goes out at once, since each call is small and waits for its reply.
+// Connects from a port under 1,024, where one is wanted and can be had, and else from any.
 fn connect<R: Net<Stream = TcpStream>>(
     net: &R,
-    alloc: Global,
-    to: Peer,
+    reserved: &mut Option<ReservedPorts>,
+    to: SocketAddrV4,
     limit: Duration,
-) -> io::Result<TcpWire>
+) -> io::Result<TcpStream> {
+    if let Some(ports) = reserved {
+        match ports.connect(to, limit) {
+            Err(error) if is_of_port(error.kind()) => {}
+            ended => return ended,
+        }
+    }
+    TcpStream::connect_timeout(net, &SocketAddr::V4(to), limit)
+}
+
+// Whether a connection failed since no port under 1,024 could be had.
+fn is_of_port(kind: ErrorKind) -> bool {
+    matches!(
+        kind,
+        ErrorKind::PermissionDenied | ErrorKind::AddrInUse | ErrorKind::AddrNotAvailable
+    )
+}
+
+// The wire of a connection. What is written goes out at once, since each call is small and waits for its reply.
+fn wire_of(alloc: Global, stream: TcpStream, limit: Duration) -> io::Result<TcpWire>
     ensures { IfOk result (λ wire. IsFresh
         (⟦<BlockReader<TcpStream> as Source>⟧.faults wire.source)
         (⟦<DirectWriter<TcpStream> as Sink>⟧.faults wire.sink)
         (⟦<DirectWriter<TcpStream> as Sink>⟧.output wire.sink)) }
 {
-    let stream = TcpStream::connect_timeout(net, &SocketAddr::V4(address_of(to)), limit)?;
     stream.set_nodelay(true)?;
     stream.set_read_timeout(Some(limit))?;
     stream.set_write_timeout(Some(limit))?;
@@ -116,7 +150,8 @@ impl<R: Net<Stream = TcpStream> + Drop> Dial for TcpDial<R> {
 
     /// It also fails where memory has run out.
     fn dial(&mut self, to: Peer) -> Result<TcpWire, Failed> {
-        match connect(&self.net, self.alloc, to, self.limit) {
+        let stream = connect(&self.net, &mut self.reserved, address_of(to), self.limit);
+        match stream.and_then(|stream| wire_of(self.alloc, stream, self.limit)) {
             Ok(wire) => Ok(wire),
             Err(_) => Err(count_fault(&mut self.faults)),
         }

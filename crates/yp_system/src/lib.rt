@@ -16,6 +16,7 @@ mod inbox;
 mod locked;
 mod patient;
 mod places;
+mod reserved;
 mod socket;
 mod streams;
 mod texts;
@@ -23,7 +24,7 @@ mod watch;
 mod words;
 
 pub use clock::SystemClock;
-pub use dial::{TcpDial, TcpWire};
+pub use dial::{LocalPorts, TcpDial, TcpWire};
 pub use disk::{FileDisk, Locking};
 pub use hall::{PAYMENT_SECONDS, RECORD_SECONDS, REST_SECONDS, SocketCall, TcpCloser, TcpHall};
 pub use inbox::{TURN_SECONDS, UdpInbox};

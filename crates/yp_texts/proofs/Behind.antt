@@ -6,7 +6,6 @@ use Rattle.std.proofs.lemmas.Bool.Decides.{eqb_tells}
 use Rattle.yp_version.specs.Versions.{MapVersion}
 use Rattle.yp_version.specs.Drafts.{empty_draft}
 use Rattle.yp_texts.specs.declared.reading.Reading.{Reading}
-use Rattle.yp_texts.specs.declared.reading.Reading.TheVariants.{Text}
 use Rattle.yp_texts.specs.declared.fault.BuildFault.{BuildFault}
 use Rattle.yp_texts.specs.declared.fault.BuildFault.TheVariants as fault
 use Rattle.yp_texts.specs.Rows.{rows}
@@ -53,7 +52,7 @@ built_again reading text previous now master version last h most over =
 pub built_is_built_behind : BuiltIsBuiltBehind
 built_is_built_behind basis material version last h most own over =
     by_master (other_master basis.own basis.last) h where
-      again : (next : MapVersion) → built (Text basis.kind) material.text (last_order basis.last) material.moment basis.own ≡ Ok next
+      again : (next : MapVersion) → built basis.reading material.text (last_order basis.last) material.moment basis.own ≡ Ok next
           → secured basis.flag basis.last next ≡ version
           → built_after (record basis { last = last }) (record material { moment = version.order })
           ≡ Ok (secured basis.flag last version)
@@ -61,19 +60,19 @@ built_is_built_behind basis material version last h most own over =
           let order : next.order ≡ version.order = ap (λ (v : MapVersion). v.order) is in
           let more : next.order ≤ order_max = subst (λ (n : ℕ). n ≤ order_max) (sym order) most in
           let above : HasLaterOrder last next = subst (λ (v : MapVersion). HasLaterOrder last v) (sym is) over in
-          let fresh = built_again (Text basis.kind) material.text (last_order basis.last) material.moment basis.own next last e more above in
-          let at_order : built (Text basis.kind) material.text (last_order last) version.order basis.own ≡ Ok next =
-          subst (λ (n : ℕ). built (Text basis.kind) material.text (last_order last) n basis.own ≡ Ok next) order fresh in
+          let fresh = built_again basis.reading material.text (last_order basis.last) material.moment basis.own next last e more above in
+          let at_order : built basis.reading material.text (last_order last) version.order basis.own ≡ Ok next =
+          subst (λ (n : ℕ). built basis.reading material.text (last_order last) n basis.own ≡ Ok next) order fresh in
           let marked : secured basis.flag last next ≡ secured basis.flag last version =
           ap (λ (v : MapVersion). secured basis.flag last v) is in
           subst (λ (other : Option (List ℕ)). option_map_or (λ master. Err (HasOther master)) other
-          (secured_build basis.flag last (built (Text basis.kind) material.text (last_order last) version.order basis.own))
+          (secured_build basis.flag last (built basis.reading material.text (last_order last) version.order basis.own))
           ≡ Ok (secured basis.flag last version)) (sym own)
           (ap (λ (r : Result MapVersion BuildFault). secured_build basis.flag last r) at_order
           ∙ ap (λ (v : MapVersion). Ok v) marked)
 
       by_build : (next : Result MapVersion BuildFault)
-          → built (Text basis.kind) material.text (last_order basis.last) material.moment basis.own ≡ next
+          → built basis.reading material.text (last_order basis.last) material.moment basis.own ≡ next
           → secured_build basis.flag basis.last next ≡ Ok version
           → built_after (record basis { last = last }) (record material { moment = version.order })
           ≡ Ok (secured basis.flag last version)
@@ -81,8 +80,8 @@ built_is_built_behind basis material version last h most own over =
       by_build (Err why) e is = absurd (cc)
 
       by_master : (other : Option (List ℕ))
-          → option_map_or (λ master. Err (HasOther master)) other (secured_build basis.flag basis.last (built (Text basis.kind) material.text (last_order basis.last) material.moment basis.own)) ≡ Ok version
+          → option_map_or (λ master. Err (HasOther master)) other (secured_build basis.flag basis.last (built basis.reading material.text (last_order basis.last) material.moment basis.own)) ≡ Ok version
           → built_after (record basis { last = last }) (record material { moment = version.order })
           ≡ Ok (secured basis.flag last version)
       by_master (Some other) e = absurd (cc)
-      by_master None e = by_build (built (Text basis.kind) material.text (last_order basis.last) material.moment basis.own) refl e
+      by_master None e = by_build (built basis.reading material.text (last_order basis.last) material.moment basis.own) refl e

@@ -3,22 +3,20 @@ use Rattle.std.specs.Prelude.{◌<◌, ℕ, Bool, false, List, Option, Some, Non
 use Rattle.std.specs.Prelude.{Ok, Err, option_map, unwrap_or, bytes_eq, if◌then◌else◌}
 use Rattle.std.specs.Option.{option_map_or}
 use Rattle.yp_version.specs.Versions.{MapVersion}
-use Rattle.yp_texts.specs.declared.kind.Kind.{Kind}
 use Rattle.yp_texts.specs.declared.reading.Reading.{Reading}
-use Rattle.yp_texts.specs.declared.reading.Reading.TheVariants.{Text}
 use Rattle.yp_texts.specs.declared.fault.BuildFault.{BuildFault}
 use Rattle.yp_texts.specs.Builds.{built}
 
--- what a version is built for: the kind of its map, the own name, whether it is to be secure, where that is said, and
+-- what a version is built for: how its text is read, the own name, whether it is to be secure, where that is said, and
 -- the last version of the map, or none
 pub record Basis : Type 0 where
-  pub kind : Kind
+  pub reading : Reading
   pub own : List ℕ
   pub flag : Option Bool
   pub last : Option MapVersion
 
-abbrev pub basis_of : Kind → List ℕ → Option Bool → Option MapVersion → Basis
-basis_of kind own flag last = record { kind = kind; own = own; flag = flag; last = last }
+abbrev pub basis_of : Reading → List ℕ → Option Bool → Option MapVersion → Basis
+basis_of reading own flag last = record { reading = reading; own = own; flag = flag; last = last }
 
 -- what it is built of: the bytes of a text, and a moment
 pub record Material : Type 0 where
@@ -57,14 +55,11 @@ secured_build flag last (Ok version) = Ok (secured flag last version)
 secured_build flag last (Err fault) = Err (HasFault fault)
 
 -- the version that a text makes at a moment behind the last one, or the first reason why none is
-abbrev pub built_behind : Reading → List ℕ → Option Bool → Option MapVersion → Material → Result MapVersion Hindrance
-built_behind reading own flag last material =
-    option_map_or (λ master. Err (HasOther master)) (other_master own last)
-    (secured_build flag last (built reading material.text (last_order last) material.moment own))
-
--- the same of the text of a kind
 abbrev pub built_after : Basis → Material → Result MapVersion Hindrance
-built_after basis material = built_behind (Text basis.kind) basis.own basis.flag basis.last material
+built_after basis material =
+    option_map_or (λ master. Err (HasOther master)) (other_master basis.own basis.last)
+    (secured_build basis.flag basis.last
+    (built basis.reading material.text (last_order basis.last) material.moment basis.own))
 
 -- the order of a version is over that of the last one
 abbrev pub HasLaterOrder : Option MapVersion → MapVersion → Type 0

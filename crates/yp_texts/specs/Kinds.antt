@@ -1,8 +1,7 @@
 -- The kinds of maps that are made of texts: their numbers, the names of their maps, which are those of ypserv's
--- Makefile, and their texts.
-use Rattle.std.specs.Prelude.{ℕ, List, [], ◌∷◌, codes}
-use Rattle.yp_io.specs.declared.texts.TextFile.{TextFile}
-use Rattle.yp_io.specs.declared.texts.TextFile.TheVariants as file
+-- Makefile, and the names of their texts.
+use Rattle.std.specs.Prelude.{ℕ, List, [], ◌∷◌, Option, bytes_eq, codes}
+use Rattle.std.specs.List.{find}
 use Rattle.yp_texts.specs.declared.kind.Kind.{Kind}
 use Rattle.yp_texts.specs.declared.kind.Kind.TheVariants.{PasswdByname, PasswdByuid, GroupByname, GroupBygid}
 use Rattle.yp_texts.specs.declared.kind.Kind.TheVariants.{HostsByname, HostsByaddr, ServicesByname, ProtocolsBynumber}
@@ -38,14 +37,18 @@ name_of ProtocolsBynumber = codes "protocols.bynumber"
 name_of Netgroup = codes "netgroup"
 name_of Ypservers = codes "ypservers"
 
-abbrev pub file_of : Kind → TextFile
-file_of PasswdByname = file.Passwd
-file_of PasswdByuid = file.Passwd
-file_of GroupByname = file.Group
-file_of GroupBygid = file.Group
-file_of HostsByname = file.Hosts
-file_of HostsByaddr = file.Hosts
-file_of ServicesByname = file.Services
-file_of ProtocolsBynumber = file.Protocols
-file_of Netgroup = file.Netgroup
-file_of Ypservers = file.Ypservers
+abbrev pub file_of : Kind → List ℕ
+file_of PasswdByname = codes "passwd"
+file_of PasswdByuid = codes "passwd"
+file_of GroupByname = codes "group"
+file_of GroupBygid = codes "group"
+file_of HostsByname = codes "hosts"
+file_of HostsByaddr = codes "hosts"
+file_of ServicesByname = codes "services"
+file_of ProtocolsBynumber = codes "protocols"
+file_of Netgroup = codes "netgroup"
+file_of Ypservers = codes "ypservers"
+
+-- the kind whose map has this name
+abbrev pub kind_named : List ℕ → Option Kind
+kind_named name = find (λ kind. bytes_eq (name_of kind) name) kinds

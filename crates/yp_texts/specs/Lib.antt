@@ -2,6 +2,7 @@ pub mod Kinds
 pub mod Lines
 pub mod Words
 pub mod Rows
+pub mod Readings
 pub mod Pushes
 pub mod Builds
 pub mod Samples

@@ -4,7 +4,7 @@ ghost use Rattle.std.specs.Prelude.{◌≡◌, ◌≤◌, None, Some, length, op
 ghost use Rattle.yp_io.specs.Texts.{text_max};
 ghost use Rattle.yp_version.specs.Limits.{master_max};
 ghost use Rattle.yp_texts.specs.Builds.{order_max};
-ghost use Rattle.yp_texts.specs.After.{material_of, other_master, last_order, built_behind, was_secure};
+ghost use Rattle.yp_texts.specs.After.{basis_of, material_of, other_master, last_order, built_after, was_secure};
 ghost use Rattle.yp_texts.specs.After.{HasLaterOrder};
 ghost use Rattle.yp_texts.specs.inside.After.{IsHindered, TellsMaster, HasShortMaster};
 
@@ -75,8 +75,8 @@ pub fn build_after(
 ) -> Result<Version, AfterFault>
     requires limit { length text.items ≤ text_max }
     requires own { length own.now ≤ master_max }
-    ensures version { IfOk result (λ version.
-        built_behind reading own.now flag (option_map (λ last. last.now) last.entry) (material_of text.items now)
+    ensures version { IfOk result (λ version. built_after
+        (basis_of reading own.now flag (option_map (λ last. last.now) last.entry)) (material_of text.items now)
         ≡ Ok version) }
 
     // It follows the last one.
@@ -84,8 +84,8 @@ pub fn build_after(
     ensures over { IfOk result (HasLaterOrder (option_map (λ last. last.now) last.entry)) }
 
     // The first reason that applies.
-    ensures hindered { IfErr result (IsHindered
-        (built_behind reading own.now flag (option_map (λ last. last.now) last.entry) (material_of text.items now))) }
+    ensures hindered { IfErr result (IsHindered (built_after
+        (basis_of reading own.now flag (option_map (λ last. last.now) last.entry)) (material_of text.items now))) }
     ensures spent { result ≡ Err (AfterFault.Build BuildFault.OrderSpent)
         → last_order (option_map (λ last. last.now) last.entry) ≡ Some order_max }
     ensures master { IfErr result (TellsMaster own.now (option_map (λ last. last.now) last.entry)) }

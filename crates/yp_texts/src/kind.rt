@@ -2,10 +2,7 @@
 
 ghost use Rattle.std.specs.Prelude.{◌≡◌, ◌==◌};
 ghost use Rattle.std.specs.List.{find};
-ghost use Rattle.std.specs.Str.{bytes_eq};
-ghost use Rattle.yp_texts.specs.Kinds.{kinds, number_of, name_of, file_of};
-
-use yp_io::TextFile;
+ghost use Rattle.yp_texts.specs.Kinds.{kinds, number_of, name_of, file_of, kind_named};
 
 /// What a map is made of, and by which key.
 #[derive(Clone, Copy, Debug, PartialEq, Eq)]
@@ -52,7 +49,7 @@ impl Kind {
 
     /// The kind whose map has this name.
     pub fn of_name(name: &[u8]) -> Option<Kind>
-        ensures { result ≡ find (λ kind. bytes_eq (name_of kind) name.now) kinds }
+        ensures { result ≡ kind_named name.now }
     {
         KINDS.iter().copied().find(|kind| kind.name() == name)
     }
@@ -75,18 +72,18 @@ impl Kind {
         }
     }
 
-    /// The text that its map is made of.
-    pub fn text(self) -> TextFile
-        ensures { result ≡ file_of self }
+    /// The name of the text that its map is made of.
+    pub fn text(self) -> &'static [u8]
+        ensures { result.now ≡ file_of self }
     {
         match self {
-            Kind::PasswdByname | Kind::PasswdByuid => TextFile::Passwd,
-            Kind::GroupByname | Kind::GroupBygid => TextFile::Group,
-            Kind::HostsByname | Kind::HostsByaddr => TextFile::Hosts,
-            Kind::ServicesByname => TextFile::Services,
-            Kind::ProtocolsBynumber => TextFile::Protocols,
-            Kind::Netgroup => TextFile::Netgroup,
-            Kind::Ypservers => TextFile::Ypservers,
+            Kind::PasswdByname | Kind::PasswdByuid => b"passwd",
+            Kind::GroupByname | Kind::GroupBygid => b"group",
+            Kind::HostsByname | Kind::HostsByaddr => b"hosts",
+            Kind::ServicesByname => b"services",
+            Kind::ProtocolsBynumber => b"protocols",
+            Kind::Netgroup => b"netgroup",
+            Kind::Ypservers => b"ypservers",
         }
     }
 }

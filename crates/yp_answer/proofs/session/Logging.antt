@@ -48,7 +48,7 @@ module _ {H : Type 0} (conduct : Conduct H) (path : Path) (peer : Peer) where
   carried (Open xid job) turn mid new h = record { grown = h.4.grown; catalogue = h.4.catalogue }
 
   gets : (response : Response) (turn : Turn) (mid new : H) → Carries conduct peer response turn mid new
-      → Gets (conduct.seen mid).catalogue.own response turn.answer (conduct.seen mid).known (conduct.seen new).known
+      → Gets (conduct.seen mid).catalogue response turn.answer (conduct.seen mid).known (conduct.seen new).known
   gets Silence turn mid new h = h.0
   gets (Bytes bytes) turn mid new h = h.0
   gets (Takes bytes taken) turn mid new h = h.0
@@ -67,7 +67,7 @@ module _ {H : Type 0} (conduct : Conduct H) (path : Path) (peer : Peer) where
           begins = first.grown;
           goes_on = second.grown;
           gets =
-              let P : Catalogue → Type 0 = λ c. Gets c.own (reply path (record { catalogue = c; log = (conduct.seen mid).known }) peer turn.message) turn.answer
+              let P : Catalogue → Type 0 = λ c. Gets c (reply path (record { catalogue = c; log = (conduct.seen mid).known }) peer turn.message) turn.answer
               (conduct.seen mid).known (conduct.seen new).known in
               subst P same_catalogue (gets response turn mid new link.carried);
         },

@@ -47,7 +47,7 @@ conduct_of seen told counts stepped made carried =
 -- it knew stays the front of what it knows, and FILE is counted.
 pub record Fulfils {H : Type 0} (conduct : Conduct H) (job : MakeJob) (stat : XfrStat) (old new : H) : Type 0 where
   pub made : conduct.made job stat old new
-  pub cause : IsCaused (conduct.told old) (conduct.seen old).catalogue.own job stat
+  pub cause : IsCaused (conduct.told old) (conduct.seen old).catalogue job stat
       (conduct.seen old).known (conduct.seen new).known
   pub catalogue : (conduct.seen new).catalogue ≡ (conduct.seen old).catalogue
   pub grown : IsFront (conduct.seen old).known (conduct.seen new).known

@@ -11,12 +11,13 @@ use Rattle.yp_answer.specs.Causes.{Told, IsCaused}
 use Rattle.yp_answer.specs.session.Hosts.{Turn}
 
 -- What a record got: its reply, or, where a map is made first, a status with its cause by the log behind that.
-abbrev pub Gets : List ℕ → Response → Option (List ℕ) → Log → Log → Type 0
-Gets own Silence answer log next = answer ≡ None
-Gets own (Bytes bytes) answer log next = answer ≡ Some bytes
-Gets own (Takes bytes taken) answer log next = answer ≡ Some bytes
-Gets own (Open xid job) answer log next =
-    (stat : XfrStat) × (answer ≡ Some (make_reply xid stat)) × (told : Told) × IsCaused told own job stat log next
+abbrev pub Gets : Catalogue → Response → Option (List ℕ) → Log → Log → Type 0
+Gets catalogue Silence answer log next = answer ≡ None
+Gets catalogue (Bytes bytes) answer log next = answer ≡ Some bytes
+Gets catalogue (Takes bytes taken) answer log next = answer ≡ Some bytes
+Gets catalogue (Open xid job) answer log next =
+    (stat : XfrStat) × (answer ≡ Some (make_reply xid stat))
+    × (told : Told) × IsCaused told catalogue job stat log next
 
 -- A record was answered on the state of a log that begins with the first, and the next begins with that.
 pub record IsAnsweredOn (catalogue : Catalogue) (path : Path) (peer : Peer) (turn : Turn) (first next : Log)
@@ -24,7 +25,7 @@ pub record IsAnsweredOn (catalogue : Catalogue) (path : Path) (peer : Peer) (tur
   pub log : Log
   pub begins : IsFront first log
   pub goes_on : IsFront log next
-  pub gets : Gets catalogue.own (reply path (record { catalogue = catalogue; log = log }) peer turn.message)
+  pub gets : Gets catalogue (reply path (record { catalogue = catalogue; log = log }) peer turn.message)
       turn.answer log next
 
 -- Records were answered one after the other, each on a log that begins with those before it.

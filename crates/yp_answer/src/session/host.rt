@@ -5,7 +5,7 @@ ghost use Rattle.yp_io.specs.declared.stream.Peer.{Peer};
 ghost use Rattle.yp_messages.specs.declared.transfer.XfrStat.{XfrStat};
 ghost use Rattle.yp_answer.specs.declared.make.MakeJob.{MakeJob};
 ghost use Rattle.yp_answer.specs.Causes.{Told};
-ghost use Rattle.yp_answer.specs.Make.{IsKindOf};
+ghost use Rattle.yp_answer.specs.inside.Make.{IsReadAsNamed};
 ghost use Rattle.yp_messages.specs.Numbers.{name_max};
 ghost use Rattle.yp_answer.specs.Transfer.{Taken};
 ghost use Rattle.yp_answer.specs.inside.Transfer.{taken_view};
@@ -30,7 +30,7 @@ pub trait Host: View {
     /// Makes a map of the catalogue anew, and answers how that went: SUCC, REFUSED, AGE, DBM, FILE or RSRC.
     fn make(&mut self, job: MakeJob) -> XfrStat
         requires inside { job.map < length (Self.seen self.old).catalogue.maps }
-        requires kind { IsKindOf (Self.seen self.old).catalogue job.map job.kind }
+        requires read { IsReadAsNamed (Self.seen self.old).catalogue job }
         ensures { Fulfils (conduct_of Self.seen told counts Self.stepped made carried) job result self.old self.new };
 
     /// What the carrying out of a transfer does to the whole value: the transfer, its caller, before and after.

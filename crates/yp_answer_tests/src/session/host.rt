@@ -7,7 +7,7 @@ ghost use Rattle.yp_io.specs.Texts.{text_max};
 ghost use Rattle.yp_board.specs.Logs.{shown};
 ghost use Rattle.yp_board.specs.Views.{IsFront};
 ghost use Rattle.yp_texts.specs.After.{Material, built_after, HasLaterOrder};
-ghost use Rattle.yp_answer.specs.Causes.{IsCaused, basis_at};
+ghost use Rattle.yp_answer.specs.Causes.{IsCaused, task_at};
 
 use std::alloc::Global;
 use std::sync::Arc;
@@ -49,10 +49,10 @@ fn build_next(
     requires inside { job.map < length board.now.catalogue.maps }
     requires limit { length text.now ≤ text_max }
     ensures built { IfOk result (λ version. (material : Material)
-        × (built_after (basis_at board.now.catalogue.own job board.now.known) material ≡ Ok version)
+        × (built_after (task_at board.now.catalogue job board.now.known).basis material ≡ Ok version)
         × HasLaterOrder (shown job.map board.now.known) version) }
     ensures unbuilt { IfErr result (λ stat. IsCaused (record { text = λ file. None; moment = None })
-        board.now.catalogue.own job stat board.now.known board.now.known) }
+        board.now.catalogue job stat board.now.known board.now.known) }
     ensures counted { IfErr result (λ stat. stat ≢ XfrStat.File) }
 {
     let own = board.catalog().own();
@@ -63,16 +63,7 @@ fn build_next(
     let Ok(text) = Vec::from_slice(alloc, text) else {
         return Err(XfrStat::Rsrc);
     };
-    match build_after(
-        alloc,
-        &rt,
-        Reading::Text(job.kind),
-        text,
-        last,
-        None,
-        100,
-        own,
-    ) {
+    match build_after(alloc, &rt, job.reading, text, last, None, 100, own) {
         Ok(version) => Ok(version),
         Err(AfterFault::Build(BuildFault::OrderSpent)) => Err(XfrStat::Age),
         Err(_) => Err(XfrStat::Rsrc),
@@ -83,7 +74,7 @@ fn build_next(
 fn make_next(board: &mut PlainBoard, alloc: Global, rt: HostRuntime, job: MakeJob) -> XfrStat
     requires { job.map < length board.old.catalogue.maps }
     ensures caused { IsCaused (record { text = λ file. None; moment = None })
-        board.old.catalogue.own job result board.old.known board.new.known }
+        board.old.catalogue job result board.old.known board.new.known }
     ensures counted { result ≢ XfrStat.File }
     ensures grown { IsFront board.old.known board.new.known }
     ensures catalogue { board.new.catalogue ≡ board.old.catalogue }
@@ -132,13 +123,13 @@ impl Host for TestHost {
 
     fn make(&mut self, job: MakeJob) -> XfrStat {
         self.makes = self.makes.saturating_add(1);
-        match job.kind {
-            Kind::GroupBygid => XfrStat::Dbm,
-            Kind::HostsByname => {
+        match job.reading {
+            Reading::Text(Kind::GroupBygid) => XfrStat::Dbm,
+            Reading::Text(Kind::HostsByname) => {
                 self.files = self.files.saturating_add(1);
                 XfrStat::File
             }
-            Kind::HostsByaddr => XfrStat::Rsrc,
+            Reading::Text(Kind::HostsByaddr) => XfrStat::Rsrc,
             _ => {
                 let stat = make_next(&mut self.board, self.alloc, self.rt, job);
                 self.shown = self.shown || stat == XfrStat::Succ;

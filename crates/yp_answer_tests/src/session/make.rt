@@ -9,21 +9,22 @@ use std::random::RandomSource;
 use yp_answer::session::*;
 use yp_io::Peer;
 
-// The maps of the kinds 1 to 6.
-static MAPS: [(&[u8], &[u8]); 6] = [
+// The maps of the kinds 1 to 6, and one of no kind.
+static MAPS: [(&[u8], &[u8]); 7] = [
     (b"d", b"passwd.byname"),
     (b"d", b"passwd.byuid"),
     (b"d", b"group.byname"),
     (b"d", b"group.bygid"),
     (b"d", b"hosts.byname"),
     (b"d", b"hosts.byaddr"),
+    (b"d", b"m"),
 ];
 
 // A host that shows two versions, one of another master and one of the last order.
 fn unmade<R: RandomSource + Abort>(rt: &R, runtime: HostRuntime, alloc: Global) -> TestHost {
     let foreign = shared(rt, alloc, version_of(rt, alloc, 7, b"m2", &[]));
     let last = shared(rt, alloc, version_of(rt, alloc, u32::MAX, b"m1", &[]));
-    let start = vec![in alloc; None, Some(foreign), Some(last), None, None, None];
+    let start = vec![in alloc; None, Some(foreign), Some(last), None, None, None, None];
     host_of(rt, runtime, alloc, &MAPS, start.expect(rt, "versions"))
 }
 
@@ -94,30 +95,50 @@ fn statuses_of_makes(rt: HostRuntime) {
     try_rows(&rt, rt.alloc(), host, &STATUSES);
 }
 
-static MADE: [Row; 1] = [Row {
-    name: "MATCH, MAKE, MATCH",
-    input: "MATCH MAKE 00000001 MATCH",
-    calls: 3,
-    output: "NO_MAP MADE 00000001 VALUE",
-    counts: (1, 0, true, 0, 0),
-    ..EMPTY
-}];
+// Each is a session over a host of its own.
+static MADE: [[Row; 1]; 3] = [
+    [Row {
+        name: "MATCH, MAKE, MATCH",
+        input: "MATCH MAKE 00000001 MATCH",
+        calls: 3,
+        output: "NO_MAP MADE 00000001 VALUE",
+        counts: (1, 0, true, 0, 0),
+        ..EMPTY
+    }],
+    [Row {
+        name: "the same by the map's name",
+        input: "MATCH MAKE_PASSWD MATCH",
+        calls: 3,
+        output: "NO_MAP MADE 00000001 VALUE",
+        counts: (1, 0, true, 0, 0),
+        ..EMPTY
+    }],
+    [Row {
+        name: "a map of no kind, of rows",
+        input: "MATCH_M MAKE_M MATCH_M",
+        calls: 3,
+        output: "NO_MAP MADE 00000001 NO_VALUE",
+        counts: (1, 0, true, 0, 0),
+        ..EMPTY
+    }],
+];
 
 #[test]
 fn make_then_match(rt: HostRuntime) {
-    let host = unmade(&rt, rt, rt.alloc());
-    try_rows(&rt, rt.alloc(), host, &MADE);
+    for rows in &MADE {
+        try_rows(&rt, rt.alloc(), unmade(&rt, rt, rt.alloc()), rows);
+    }
 }
 
 static FROM_ANOTHER: [Row; 1] = [Row {
-    name: "MAKE, MATCH",
+    name: "MAKE, by a kind and by names, MATCH",
     peer: Peer {
         addr: [10, 0, 0, 9],
         port: 700,
     },
-    input: "MAKE 00000001 MATCH",
-    calls: 2,
-    output: "MADE fffffff2 NO_MAP",
+    input: "MAKE 00000001 MAKE_PASSWD MAKE_M MATCH",
+    calls: 4,
+    output: "MADE fffffff2 MADE fffffff2 MADE fffffff2 NO_MAP",
     ..EMPTY
 }];
 

@@ -26,8 +26,9 @@ pub const ENOUGH: u8 = 9;
 // A name for each record. A call of the domain `d` stands for 52 bytes (DOMAIN) or 44 (NULL); NONACK, also of 52, is of
 // the domain `e`, which isn't served, so that it has no reply. ALL is of the map `m`, and MATCH of `alpha` in
 // passwd.byname, with the replies where there is no version and where the value is `alpha:1`. MAKE and MADE lack a kind
-// and a status. The transfers are of the map `n`, which has no version, from the host `x`, with the transactions 9 and
-// 11, and of the map `m`, of which the host is the master.
+// and a status. MAKE_PASSWD makes passwd.byname by its name, and MAKE_M the map `m`, of which MATCH_M asks for
+// `alpha:1`, with the reply where that has no value. The transfers are of the map `n`, which has no version, from the
+// host `x`, with the transactions 9 and 11, and of the map `m`, of which the host is the master.
 static NAMES: &str = "\
 NULL = 80000028 00000001 00000000 00000002 000186a4 00000002 00000000 00000000 00000000 00000000 \
     00000000
@@ -42,6 +43,13 @@ ALL = 80000038 00000004 00000000 00000002 000186a4 00000002 00000008 00000000 00
 MAKE = 80000034 00000002 00000000 00000002 20004e49 00000001 00000001 00000000 00000000 00000000 \
     00000000 00000001 64000000
 MADE = 8000001c 00000002 00000001 00000000 00000000 00000000 00000000
+MAKE_PASSWD = 80000044 00000002 00000000 00000002 20004e49 00000001 00000002 00000000 00000000 \
+    00000000 00000000 00000001 64000000 0000000d 70617373 77642e62 796e616d 65000000
+MAKE_M = 80000038 00000002 00000000 00000002 20004e49 00000001 00000002 00000000 00000000 00000000 \
+    00000000 00000001 64000000 00000001 6d000000
+MATCH_M = 80000044 00000001 00000000 00000002 000186a4 00000002 00000003 00000000 00000000 \
+    00000000 00000000 00000001 64000000 00000001 6d000000 00000007 616c7068 613a3100
+NO_VALUE = 80000020 00000001 00000001 00000000 00000000 00000000 00000000 00000001 00000000
 MATCH = 80000050 00000001 00000000 00000002 000186a4 00000002 00000003 00000000 00000000 \
     00000000 00000000 00000001 64000000 0000000d 70617373 77642e62 796e616d 65000000 00000005 \
     616c7068 61000000

@@ -8,9 +8,9 @@ use yp_io::*;
 // The answer to a read of a text, and the bytes that came.
 type Text = (Result<(), TextFault>, Vec<u8>);
 
-fn read_text(alloc: Global, texts: &mut MemTexts, which: TextFile) -> Text {
+fn read_text(alloc: Global, texts: &mut MemTexts, name: &[u8]) -> Text {
     let mut bytes = Vec::new(alloc);
-    let answer = texts.read(which, &mut bytes);
+    let answer = texts.read(name, &mut bytes);
     (answer, bytes)
 }
 
@@ -20,29 +20,32 @@ fn two_texts(
     alloc: Global,
     hosts: &[u8],
     groups: &[u8],
-) -> Vec<(TextFile, Vec<u8>)> {
+) -> Vec<(Vec<u8>, Vec<u8>)> {
     let texts = [
-        (TextFile::Hosts, owned(rt, alloc, hosts)),
-        (TextFile::Group, owned(rt, alloc, groups)),
+        (owned(rt, alloc, b"hosts"), owned(rt, alloc, hosts)),
+        (owned(rt, alloc, b"group"), owned(rt, alloc, groups)),
     ];
     Vec::from_array(alloc, texts).expect(rt, "memory for two texts")
 }
 
 // Reads in turn, and what comes of them.
-const READS: [(TextFile, Result<(), TextFault>, &[u8]); 4] = [
-    (TextFile::Group, Ok(()), b"two"),
-    (TextFile::Hosts, Err(TextFault::Failed), b""),
-    (TextFile::Hosts, Ok(()), b"one"),
-    (TextFile::Passwd, Err(TextFault::Failed), b""),
+static READS: [(&[u8], Result<(), TextFault>, &[u8]); 7] = [
+    (b"group", Ok(()), b"two"),
+    (b"hosts", Err(TextFault::Failed), b""),
+    (b"hosts", Ok(()), b"one"),
+    (b"passwd", Err(TextFault::Failed), b""),
+    (b"host", Err(TextFault::Failed), b""),
+    (b"Hosts", Err(TextFault::Failed), b""),
+    (b"", Err(TextFault::Failed), b""),
 ];
 
 fn check_reads(rt: &impl Abort, alloc: Global, texts: &mut MemTexts) {
-    for (which, answer, bytes) in &READS {
-        let (answered, came) = read_text(alloc, texts, *which);
+    for (name, answer, bytes) in &READS {
+        let (answered, came) = read_text(alloc, texts, *name);
         assert_same(
             rt,
-            &(*which, answered, came.as_slice()),
-            &(*which, *answer, *bytes),
+            &(*name, answered, came.as_slice()),
+            &(*name, *answer, *bytes),
             "a read of a text",
         );
     }

@@ -16,7 +16,7 @@ use std::net::{
 use std::process::Abort;
 use std::time::Duration;
 use yp_io::{Dial, Failed, Pair, Peer, Sink, Source, count_fault};
-use yp_system::{TcpDial, TcpWire};
+use yp_system::{LocalPorts, TcpDial, TcpWire};
 
 // Any free port of this machine.
 pub const ANY: Peer = Peer {
@@ -93,7 +93,7 @@ fn talk<R: Net<Stream = TcpStream, Listener = TcpListener> + Drop + Copy + Abort
     rt: R,
     alloc: Global,
 ) -> Talked {
-    let mut dial = TcpDial::new(alloc, rt);
+    let mut dial = TcpDial::new(alloc, rt, LocalPorts::Any);
     let (mut wire, mut peer, _) = open(&rt, &mut dial);
     let called = call(&mut wire, &mut peer);
     let replied = reply(&mut wire, &mut peer);
@@ -128,7 +128,7 @@ fn reset_over<R: Net<Stream = TcpStream, Listener = TcpListener> + Drop + Copy +
     rt: R,
     alloc: Global,
 ) -> ([Result<usize, Failed>; 3], u64, bool, u64) {
-    let mut dial = TcpDial::new(alloc, rt);
+    let mut dial = TcpDial::new(alloc, rt, LocalPorts::Any);
     let (mut wire, peer, to) = open(&rt, &mut dial);
     let answers = reset(&mut wire, peer);
     dial.back(wire);
@@ -149,7 +149,7 @@ fn wait<R: Net<Stream = TcpStream, Listener = TcpListener> + Drop + Copy + Abort
     rt: R,
     alloc: Global,
 ) -> (Result<usize, Failed>, u64) {
-    let mut dial = TcpDial::with_limit(alloc, rt, Duration::from_millis(100));
+    let mut dial = TcpDial::with_limit(alloc, rt, LocalPorts::Any, Duration::from_millis(100));
     let (mut wire, peer, _) = open(&rt, &mut dial);
     let answer = wire.source.read(&mut [0; 8]);
     dial.back(wire);
@@ -183,7 +183,7 @@ fn arrived<R: Net<Stream = TcpStream> + Drop>(
 #[test]
 fn letters_arrive(rt: HostRuntime) {
     let (inbox, to) = mailbox(&rt);
-    let mut dial = TcpDial::new(rt.alloc(), rt);
+    let mut dial = TcpDial::new(rt.alloc(), rt, LocalPorts::Any);
     let came = [
         arrived(&mut dial, &inbox, to, b"first"),
         arrived(&mut dial, &inbox, to, b""),
@@ -195,4 +195,31 @@ fn letters_arrive(rt: HostRuntime) {
         Some((5, *b"third\0\0\0")),
     ];
     assert_same(&rt, &came, &wanted, "three letters");
+}
+
+// Whether this program may have a port under 1,024: one that no dial tries.
+fn may_have_reserved<R: Net>(rt: &R) -> bool {
+    (512..600).any(|port| UdpSocket::bind(rt, address_of(local(port))).is_ok())
+}
+
+// The port from which a wire comes, as its peer sees it, where it answers a call.
+fn port_of_wire<R: Net<Stream = TcpStream, Listener = TcpListener> + Drop + Abort>(
+    rt: &R,
+    dial: &mut TcpDial<R>,
+) -> Option<u16> {
+    let (mut wire, mut peer, _) = open(rt, dial);
+    let (written, flushed, is_got, got) = call(&mut wire, &mut peer);
+    let from = peer.peer_addr().ok()?.port();
+    dial.back(wire);
+    (written.is_ok() && flushed.is_ok() && is_got && got == *b"call").then_some(from)
+}
+
+#[test]
+fn wires_from_reserved_ports(rt: HostRuntime) {
+    let mut dial = TcpDial::new(rt.alloc(), rt, LocalPorts::Reserved);
+    let first = port_of_wire(&rt, &mut dial).expect(&rt, "a wire");
+    let second = port_of_wire(&rt, &mut dial).expect(&rt, "another");
+    let came = (first < 1024, second < 1024, first != second, dial.faults());
+    let may = may_have_reserved(&rt);
+    assert_same(&rt, &came, &(may, may, true, 0), "the ports of two wires");
 }

@@ -20,25 +20,25 @@ use Rattle.yp_client.specs.declared.fault.ClientFault.{ClientFault}
 use Rattle.yp_client.specs.declared.fault.ClientFault.TheVariants as client
 use Rattle.yp_client.specs.Limits.{reply_max, all_max}
 use Rattle.yp_client.specs.States.{ClientState, IsFirst}
-use Rattle.yp_client.specs.Results.{Says, SaysInMemory, value_of, master_of, order_of, maps_of, taken_of}
+use Rattle.yp_client.specs.Results.{Says, SaysInMemory, value_of, master_of, order_of, maps_of, taken_of, made_of}
 use Rattle.yp_client.specs.All.{AllSaid, all_said, IsSaid}
 use Rattle.yp_client.specs.Calls.{Calls, HearsReply, NoReply}
 use Rattle.yp_client.specs.Said.{SaysNumber, SaysBytes, SaysNames, SaysStat}
-use Rattle.yp_client.specs.Asked.{match_call, master_call, order_call, maplist_call, pull_call}
+use Rattle.yp_client.specs.Asked.{match_call, master_call, order_call, maplist_call, pull_call, make_named_call}
 use Rattle.yp_messages.specs.declared.maplist.MapList.{MapList}
 use Rattle.yp_client.specs.query.Lines.{line, lines, standing_text}
 use Rattle.yp_client.specs.declared.query.fault.QueryFault.{QueryFault}
-use Rattle.yp_client.specs.declared.query.fault.QueryFault.TheVariants.{NoKey, NotMember, NotTaken, Client, Dial, Output, NoMemory}
+use Rattle.yp_client.specs.declared.query.fault.QueryFault.TheVariants.{NoKey, NotMember, NotDone, Client, Dial, Output, NoMemory}
 use Rattle.yp_client.specs.declared.question.Question.TheVariants.{Cat, Catk, Match, Which, Poll, Maps, Innetgr}
-use Rattle.yp_client.specs.declared.question.Question.TheVariants.{Pull}
+use Rattle.yp_client.specs.declared.question.Question.TheVariants.{Pull, Make}
 use Rattle.yp_client.specs.Questions.{ByteQuestion}
 use Rattle.yp_client.specs.query.Faults.{query_fault, match_fault}
 use Rattle.yp_version.specs.Rows.{Row, listed}
 use Rattle.yp_netgroup.specs.Reach.{SoughtMember}
 use Rattle.yp_netgroup.specs.Decided.{is_member}
 use Rattle.yp_client.specs.query.Asked.{QueryOutcome, told_by, meant_by, IsInMemory, no_rows, TakesRows, MakesMaster}
-use Rattle.yp_client.specs.query.Asked.{MakesCalls, rows_told, membership_outcome, membership_told, netgroup}
-use Rattle.yp_client.specs.query.Asked.{transfer_told}
+use Rattle.yp_client.specs.query.Asked.{MakesCalls, Converses, rows_told, membership_outcome, membership_told, netgroup}
+use Rattle.yp_client.specs.query.Asked.{transfer_told, making_told}
 use Rattle.yp_client.specs.query.Scenes.{QueryTells, Exchanges, Asks}
 use Rattle.yp_client.specs.inside.query.Scenes.{HasQueryCause}
 use Rattle.yp_client.specs.query.Complete.{BeginsWithReply, IsValueOrNone, HasAnswer, HasCome}
@@ -64,12 +64,12 @@ ended (Some xs) rest e h = let same : xs ≡ rest = cc in sym same ∙ h
 -- ---- one call
 
 -- the answer is by the reply, and what is behind it is left
-record Heard (limit : ℕ) (stream : List ℕ) (P : List ℕ → List ℕ → Type 0) (good : BeginsWithReply limit stream P)
+pub record Heard (limit : ℕ) (stream : List ℕ) (P : List ℕ → List ℕ → Type 0) (good : BeginsWithReply limit stream P)
     (said : List ℕ → Type 0) (new : ClientState) : Type 0 where
-  by_reply : said good.reply
-  left : new.wire.input ≡ Some good.rest
+  pub by_reply : said good.reply
+  pub left : new.wire.input ≡ Some good.rest
 
-hears_reply : Laws → {X : Type 0} (limit : ℕ) (stream : List ℕ) (P : List ℕ → List ℕ → Type 0)
+pub hears_reply : Laws → {X : Type 0} (limit : ℕ) (stream : List ℕ) (P : List ℕ → List ℕ → Type 0)
     (good : BeginsWithReply limit stream P) (answers : List ℕ → Result X ClientFault → Type 0)
     (answer : Result X ClientFault) (old new : ClientState)
     → old.wire.input ≡ Some stream → HearsReply limit answers answer old new
@@ -118,80 +118,80 @@ not_long laws limit stream P good at old new told cause =
     let long : IsLong limit (good.bytes ++ good.rest) = (front, behind.0, cause.2, sym good.whole ∙ behind.2) in
     laws.rest limit good.reply good.bytes good.rest good.fragments (inr (inr long))
 
--- an answer, that there is no such key or no such member, that no transfer was taken, want of memory, or a fault of the
--- wire
-IsGood : QueryOutcome → Type 0
+-- an answer, that there is no such key or no such member, that no map is fetched or made, want of memory, or a fault of
+-- the wire
+unfoldable pub IsGood : QueryOutcome → Type 0
 IsGood (Ok text) = ⊤
 IsGood (Err NoKey) = ⊤
 IsGood (Err NotMember) = ⊤
-IsGood (Err (NotTaken status)) = ⊤
+IsGood (Err (NotDone status)) = ⊤
 IsGood (Err NoMemory) = ⊤
 IsGood (Err (Client client.ReadFault)) = ⊤
 IsGood (Err (Client client.WriteFault)) = ⊤
 IsGood outcome = ⊥
 
 -- what is good stays so in memory
-memory_good : (meant outcome : QueryOutcome) → IsGood meant → IsInMemory meant outcome → IsGood outcome
+pub memory_good : (meant outcome : QueryOutcome) → IsGood meant → IsInMemory meant outcome → IsGood outcome
 unfolding IsGood
 memory_good meant (Ok text) good is = tt
 memory_good meant (Err NoMemory) good is = tt
 memory_good meant (Err NoKey) good is = tt
 memory_good meant (Err NotMember) good is = tt
-memory_good meant (Err (NotTaken status)) good is = tt
+memory_good meant (Err (NotDone status)) good is = tt
 memory_good meant (Err Dial) good is = subst IsGood (sym is) good
 memory_good meant (Err Output) good is = subst IsGood (sym is) good
 memory_good meant (Err (Client fault)) good is = subst IsGood (sym is) good
 
 -- One call whose reply is there comes to something good, where what a query_fault would have to say isn't said.
-told_good : Laws → {X : Type 0} (limit : ℕ) (stream : List ℕ) (P : List ℕ → List ℕ → Type 0)
+pub told_good : Laws → {X : Type 0} (limit : ℕ) (stream : List ℕ) (P : List ℕ → List ℕ → Type 0)
     (good : BeginsWithReply limit stream P) (call : ℕ → List ℕ) (answers : ℕ → List ℕ → Result X ClientFault → Type 0)
-    (refused : ClientFault → QueryFault) (means : X → QueryOutcome) (answer : Result X ClientFault) (old new : ClientState)
+    (means : Result X ClientFault → QueryOutcome) (answer : Result X ClientFault) (old new : ClientState)
     → Calls limit call answers answer old new → old.wire.input ≡ Some stream → old.spent ≡ false
-    → ((fault : ClientFault) → answers old.xid good.reply (Err fault) → IsGood (Err (refused fault)))
-    → IsGood (Err (refused client.ReadFault)) → IsGood (Err (refused client.WriteFault))
-    → ((x : X) → IsGood (means x)) → IsGood (told_by refused means answer)
+    → ((fault : ClientFault) → answers old.xid good.reply (Err fault) → IsGood (means (Err fault)))
+    → IsGood (means (Err client.ReadFault)) → IsGood (means (Err client.WriteFault))
+    → ((x : X) → IsGood (means (Ok x))) → IsGood (means answer)
 unfolding IsGood
-told_good laws limit stream P good call answers refused means (Ok x) old new calls told fresh never reads writes means_good = means_good x
-told_good laws limit stream P good call answers refused means
+told_good laws limit stream P good call answers means (Ok x) old new calls told fresh never reads writes means_good = means_good x
+told_good laws limit stream P good call answers means
     (Err (client.Yp stat)) old new calls told fresh never reads writes means_good =
     never (client.Yp stat) (hears_reply laws limit stream P good (answers old.xid)
     (Err (client.Yp stat)) old new told calls.answered).by_reply
-told_good laws limit stream P good call answers refused means
+told_good laws limit stream P good call answers means
     (Err (client.Denied head)) old new calls told fresh never reads writes means_good =
     never (client.Denied head)
     (hears_reply laws limit stream P good (answers old.xid)
     (Err (client.Denied head)) old new told calls.answered).by_reply
-told_good laws limit stream P good call answers refused means
+told_good laws limit stream P good call answers means
     (Err (client.BadReply at)) old new calls told fresh never reads writes means_good =
     never (client.BadReply at)
     (hears_reply laws limit stream P good (answers old.xid)
     (Err (client.BadReply at)) old new told calls.answered).by_reply
-told_good laws limit stream P good call answers refused means
+told_good laws limit stream P good call answers means
     (Err (client.BadXid want got)) old new calls told fresh never reads writes means_good =
     never (client.BadXid want got)
     (hears_reply laws limit stream P good (answers old.xid)
     (Err (client.BadXid want got)) old new told calls.answered).by_reply
-told_good laws limit stream P good call answers refused means
+told_good laws limit stream P good call answers means
     (Err (client.Torn at)) old new calls told fresh never reads writes means_good =
     absurd (not_torn laws limit stream P good at old new told calls.answered)
-told_good laws limit stream P good call answers refused means
+told_good laws limit stream P good call answers means
     (Err (client.TooLong at)) old new calls told fresh never reads writes means_good =
     absurd (not_long laws limit stream P good at old new told calls.answered)
-told_good laws limit stream P good call answers refused means
+told_good laws limit stream P good call answers means
     (Err client.ReadFault) old new calls told fresh never reads writes means_good =
     reads
-told_good laws limit stream P good call answers refused means
+told_good laws limit stream P good call answers means
     (Err client.WriteFault) old new calls told fresh never reads writes means_good =
     writes
-told_good laws limit stream P good call answers refused means
+told_good laws limit stream P good call answers means
     (Err client.Spent) old new calls told fresh never reads writes means_good =
     absurd (let spent : old.spent ≡ true = calls.exactly.0 refl in cc)
-told_good laws limit stream P good call answers refused means
+told_good laws limit stream P good call answers means
     (Err (client.Rows row why)) old new calls told fresh never reads writes means_good =
     never (client.Rows row why)
     (hears_reply laws limit stream P good (answers old.xid)
     (Err (client.Rows row why)) old new told calls.answered).by_reply
-told_good laws limit stream P good call answers refused means
+told_good laws limit stream P good call answers means
     (Err client.NoMemory) old new calls told fresh never reads writes means_good =
     never client.NoMemory (hears_reply laws limit stream P good (answers old.xid)
     (Err client.NoMemory) old new told calls.answered).by_reply
@@ -206,17 +206,17 @@ call_good : Laws → {X : Type 0} (limit : ℕ) (stream : List ℕ) (P : List �
     → IsGood (meant_by refused text answer)
 unfolding IsGood
 call_good laws limit stream P good call answers refused text answer old new calls told fresh never reads writes =
-    told_good laws limit stream P good call answers refused (λ x. Ok (text x)) answer old new calls told fresh never reads
+    told_good laws limit stream P good call answers (told_by refused (λ x. Ok (text x))) answer old new calls told fresh never reads
     writes (λ x. tt)
 
 -- ---- what isn't said
 
-refused_not_ok : {V : Type 0} (said : Result V ClientFault) (fault : ClientFault) → said ≡ Err fault → IsOk said → ⊥
+pub refused_not_ok : {V : Type 0} (said : Result V ClientFault) (fault : ClientFault) → said ≡ Err fault → IsOk said → ⊥
 refused_not_ok (Ok v) fault says ok = cc
 refused_not_ok (Err other) fault says ok = cc
 
 -- a value that is said isn't refused
-bytes_good : {X V : Type 0} (view : X → V) (said : Result V ClientFault) (fault : ClientFault) → IsOk said
+pub bytes_good : {X V : Type 0} (view : X → V) (said : Result V ClientFault) (fault : ClientFault) → IsOk said
     → SaysInMemory view said (Err fault) → IsGood (Err (query_fault fault))
 unfolding IsGood
 bytes_good view said (client.Yp stat) ok says = absurd (refused_not_ok said _ says ok)
@@ -231,7 +231,7 @@ bytes_good view said client.Spent ok says = absurd (refused_not_ok said _ says o
 bytes_good view said (client.Rows row why) ok says = absurd (refused_not_ok said _ says ok)
 bytes_good view said client.NoMemory ok says = tt
 
-number_good : {X V : Type 0} (view : X → V) (said : Result V ClientFault) (fault : ClientFault) → IsOk said
+pub number_good : {X V : Type 0} (view : X → V) (said : Result V ClientFault) (fault : ClientFault) → IsOk said
     → Says view said (Err fault) → ⊥
 number_good view said fault ok says = refused_not_ok said fault says ok
 
@@ -299,7 +299,7 @@ rows_answered : Laws → (means : List Row → QueryOutcome) → ((rows : List R
     → TakesRows means domain map outcome old new → IsGood outcome
 unfolding IsGood
 rows_answered laws means means_good domain map stream good outcome old new first told takes =
-    memory_good _ outcome (told_good laws all_max stream _ good _ _ query_fault (λ _. means (listed takes.draft.rows))
+    memory_good _ outcome (told_good laws all_max stream _ good _ _ (told_by query_fault (λ _. means (listed takes.draft.rows)))
     takes.makes.answer old new takes.makes.calls told first.spent
     (λ fault says. rows_good takes.draft says.0 (all_said no_rows 1 good.reply) fault good.good
     (subst (λ (xid : ℕ). IsSaid (all_said no_rows xid good.reply) takes.draft says.0 (Err fault)) first.xid says.1))
@@ -310,6 +310,11 @@ transfer_good : (domain map : List ℕ) (status : XfrStat) → IsGood (transfer_
 unfolding IsGood
 transfer_good domain map Succ = tt
 transfer_good domain map status = tt
+
+making_good : (domain map : List ℕ) (status : XfrStat) → IsGood (making_told domain map status)
+unfolding IsGood
+making_good domain map Succ = tt
+making_good domain map status = tt
 
 member_good : (member : Bool) → IsGood (membership_outcome member)
 unfolding IsGood
@@ -394,14 +399,20 @@ calls_answered laws (Maps domain) stream outcome old new good first told makes =
     says)) tt tt) makes.meant
 calls_answered laws (Pull domain map source) stream outcome old new good first told makes =
     memory_good _ outcome (told_good laws reply_max stream _ good (pull_call domain map source) (SaysStat taken_of)
-    query_fault (transfer_told domain map) makes.answer old new makes.calls told first.spent
+    (told_by query_fault (transfer_told domain map)) makes.answer old new makes.calls told first.spent
     (λ fault says. absurd (number_good xfr_number (taken_of 1 good.reply) fault good.good
     (subst (λ (x : ℕ). Says xfr_number (taken_of x good.reply) (Err fault)) first.xid says))) tt tt
     (transfer_good domain map)) makes.meant
+calls_answered laws (Make domain map) stream outcome old new good first told makes =
+    memory_good _ outcome (told_good laws reply_max stream _ good (make_named_call domain map) (SaysStat made_of)
+    (told_by query_fault (making_told domain map)) makes.answer old new makes.calls told first.spent
+    (λ fault says. absurd (number_good xfr_number (made_of 1 good.reply) fault good.good
+    (subst (λ (x : ℕ). Says xfr_number (made_of x good.reply) (Err fault)) first.xid says))) tt tt
+    (making_good domain map)) makes.meant
 
 -- ---- the wire that came
 
-last_same : {A : Type 0} (xs : List A) (x y : A) → xs ++ x ∷ [] ≡ xs ++ y ∷ [] → x ≡ y
+pub last_same : {A : Type 0} (xs : List A) (x y : A) → xs ++ x ∷ [] ≡ xs ++ y ∷ [] → x ≡ y
 last_same [] x y e = cc
 last_same (z ∷ xs) x y e = let rest : xs ++ x ∷ [] ≡ xs ++ y ∷ [] = cc in last_same xs x y rest
 
@@ -416,7 +427,7 @@ input_is wire other last (Some others) before after comes back came =
 
 exchanged_good : Laws → (peer : Peer) (question : ByteQuestion) (stream : List ℕ) (outcome : QueryOutcome)
     (old new : Dialing) → HasAnswer question stream → HasCome peer stream old.past new.past
-    → Exchanges peer question outcome old new → IsGood outcome
+    → Exchanges peer (Converses question) outcome old new → IsGood outcome
 unfolding IsGood
 exchanged_good laws peer question stream outcome old new good came did =
     let wire = connected peer did.first.wire.input did.first.wire.output in
@@ -437,7 +448,7 @@ module _ (laws : Laws) (peer : Peer) (question : ByteQuestion) (stream : List �
     (good : HasAnswer question stream) (came : HasCome peer stream old.dial.past new.dial.past)
     (dial : HasRisen old.dial.faults new.dial.faults → ⊥) (sink : HasRisen old.faults new.faults → ⊥) where
   refused_never : (fault : QueryFault) (outcome : QueryOutcome) → outcome ≡ Err fault
-      → Exchanges peer question outcome old.dial new.dial → IsGood (Err fault)
+      → Exchanges peer (Converses question) outcome old.dial new.dial → IsGood (Err fault)
   refused_never fault outcome is did =
       subst IsGood is (exchanged_good laws peer question stream outcome old.dial new.dial good came did)
 
@@ -447,7 +458,7 @@ module _ (laws : Laws) (peer : Peer) (question : ByteQuestion) (stream : List �
   query_completes (Ok done) asks cause = tt
   query_completes (Err NoKey) asks cause = tt
   query_completes (Err NotMember) asks cause = tt
-  query_completes (Err (NotTaken status)) asks cause = tt
+  query_completes (Err (NotDone status)) asks cause = tt
   query_completes (Err NoMemory) asks cause = tt
   query_completes (Err Dial) asks cause = dial cause
   query_completes (Err Output) asks cause = sink cause

@@ -10,17 +10,18 @@ use Rattle.yp_client.specs.declared.fault.ClientFault.{ClientFault}
 use Rattle.yp_client.specs.declared.fault.ClientFault.TheVariants as client_faults
 use Rattle.yp_messages.specs.declared.transfer.XfrStat.{XfrStat}
 use Rattle.yp_messages.specs.declared.transfer.XfrStat.TheVariants.{Succ}
-use Rattle.yp_client.specs.Results.{value_of, master_of, order_of, maps_of, taken_of}
+use Rattle.yp_client.specs.Results.{value_of, master_of, order_of, maps_of, taken_of, made_of}
 use Rattle.yp_client.specs.Said.{SaysNumber, SaysBytes, SaysNames, SaysStat}
 use Rattle.yp_client.specs.Asked.{all_call, match_call, master_call, order_call, maplist_call, pull_call}
+use Rattle.yp_client.specs.Asked.{make_named_call}
 use Rattle.yp_client.specs.Limits.{reply_max, all_max}
 use Rattle.yp_client.specs.All.{SaysAll}
 use Rattle.yp_client.specs.States.{ClientState}
 use Rattle.yp_client.specs.Calls.{Calls}
 use Rattle.yp_client.specs.declared.query.fault.QueryFault.{QueryFault}
-use Rattle.yp_client.specs.declared.query.fault.QueryFault.TheVariants.{NoKey, NotMember, NotTaken, Client, Dial, Output, NoMemory}
+use Rattle.yp_client.specs.declared.query.fault.QueryFault.TheVariants.{NoKey, NotMember, NotDone, Client, Dial, Output, NoMemory}
 use Rattle.yp_client.specs.declared.question.Question.TheVariants.{Cat, Catk, Match, Which, Poll, Maps, Innetgr}
-use Rattle.yp_client.specs.declared.question.Question.TheVariants.{Pull}
+use Rattle.yp_client.specs.declared.question.Question.TheVariants.{Pull, Make}
 use Rattle.yp_client.specs.Questions.{ByteQuestion}
 use Rattle.yp_client.specs.query.Faults.{query_fault, match_fault}
 use Rattle.yp_client.specs.inside.query.Faults.{FaultIsTellable}
@@ -29,16 +30,16 @@ use Rattle.yp_netgroup.specs.Reach.{SoughtMember}
 use Rattle.yp_netgroup.specs.Decided.{is_member}
 use Rattle.yp_client.specs.query.Asked.{QueryOutcome, told_by, meant_by, IsInMemory, CallIsMade, no_rows, TakesRows, MakesMaster}
 use Rattle.yp_client.specs.query.Asked.{MakesCalls, Converses, rows_told, membership_outcome, membership_told, netgroup}
-use Rattle.yp_client.specs.query.Asked.{transfer_told}
+use Rattle.yp_client.specs.query.Asked.{transfer_told, making_told}
 use Rattle.yp_client.specs.declared.query.answer.Answer.{Answer}
 use Rattle.yp_client.specs.declared.query.answer.Answer.TheVariants as answers
 use Rattle.yp_client.specs.inside.query.Answers.{answer_outcome}
-use Rattle.yp_client.specs.query.Scenes.{QueryTells, Exchanges, Prints, Asks}
-use Rattle.yp_client.specs.inside.query.Scenes.{Dials, HasQueryCause}
+use Rattle.yp_client.specs.query.Scenes.{QueryTells, Exchanges, Dials, Prints, Asks}
+use Rattle.yp_client.specs.inside.query.Scenes.{HasQueryCause}
 
 -- ---- the fault of a call may be told
 
-unspent : {X : Type 0} (limit : ℕ) (call : ℕ → List ℕ) (answers : ℕ → List ℕ → Result X ClientFault → Type 0)
+pub unspent : {X : Type 0} (limit : ℕ) (call : ℕ → List ℕ) (answers : ℕ → List ℕ → Result X ClientFault → Type 0)
     (fault : ClientFault) (old new : ClientState) → old.spent ≡ false → Calls limit call answers (Err fault) old new
     → fault ≡ client_faults.Spent → ⊥
 unspent limit call answers fault old new fresh calls is =
@@ -127,6 +128,10 @@ transfer_tells : (domain map : List ℕ) (status : XfrStat) → MayTell (transfe
 transfer_tells domain map Succ = tt
 transfer_tells domain map status = tt
 
+making_tells : (domain map : List ℕ) (status : XfrStat) → MayTell (making_told domain map status)
+making_tells domain map Succ = tt
+making_tells domain map status = tt
+
 calls_tell : (question : ByteQuestion) (outcome : QueryOutcome) (old new : ClientState) → old.spent ≡ false
     → MakesCalls question outcome old new → MayTell outcome
 calls_tell (Cat domain map) outcome old new fresh h =
@@ -149,6 +154,9 @@ calls_tell (Maps domain) outcome old new fresh h =
 calls_tell (Pull domain map source) outcome old new fresh h =
     call_tells reply_max (pull_call domain map source) (SaysStat taken_of) query_fault (transfer_told domain map) outcome
     old new fresh (transfer_tells domain map) refused h
+calls_tell (Make domain map) outcome old new fresh h =
+    call_tells reply_max (make_named_call domain map) (SaysStat made_of) query_fault (making_told domain map) outcome
+    old new fresh (making_tells domain map) refused h
 
 converses_tell : (question : ByteQuestion) (outcome : QueryOutcome) (old new : ClientState) → old.spent ≡ false
     → Converses question outcome old new → MayTell outcome
@@ -156,21 +164,21 @@ converses_tell question outcome old new fresh (inl h) = calls_tell question outc
 converses_tell question outcome old new fresh (inr h) = subst MayTell (sym h.0) tt
 
 exchanges_tell : (peer : Peer) (question : ByteQuestion) (outcome : QueryOutcome) (old new : Dialing)
-    → Exchanges peer question outcome old new → MayTell outcome
+    → Exchanges peer (Converses question) outcome old new → MayTell outcome
 exchanges_tell peer question outcome old new h =
     converses_tell question outcome h.first h.last h.dialed.begins.spent h.converses
 
 -- ---- and what a question comes to
 
 pub dials_tells : (peer : Peer) (question : ByteQuestion) (fault : QueryFault) (old new : Dialing)
-    → Dials peer question (Err fault) old new → FaultIsTellable fault
+    → Dials peer (Converses question) (Err fault) old new → FaultIsTellable fault
 dials_tells peer question Dial old new h = tt
 dials_tells peer question fault old new h = called_tells fault (exchanges_tell peer question (Err fault) old new h)
 
 -- ---- an answer that is printed
 
 exchanged : (peer : Peer) (question : ByteQuestion) (answer : Answer) (old new : Dialing)
-    → Dials peer question (answer_outcome answer) old new → Exchanges peer question (answer_outcome answer) old new
+    → Dials peer (Converses question) (answer_outcome answer) old new → Exchanges peer (Converses question) (answer_outcome answer) old new
 exchanged peer question (answers.Membership true) old new h = h
 exchanged peer question (answers.Membership false) old new h = h
 exchanged peer question answer old new h = h
@@ -182,7 +190,7 @@ came answer e = cc
 
 -- A wire came and went back, and what its calls came to was printed.
 pub answer_asks : (peer : Peer) (question : ByteQuestion) (answer : Answer) (result : Result (Unit {0}) QueryFault)
-    (old new : QueryTells) → Dials peer question (answer_outcome answer) old.dial new.dial
+    (old new : QueryTells) → Dials peer (Converses question) (answer_outcome answer) old.dial new.dial
     → Prints question (answer_outcome answer) result old.output new.output → Asks peer question result old new
 answer_asks peer question answer (Err Dial) old new dials prints = absurd (came answer prints.0)
 answer_asks peer question answer (Ok done) old new dials prints =
@@ -231,7 +239,7 @@ unfolding IsPrinted
 print_cause question answer (Ok done) old new prints cause = tt
 print_cause question answer (Err Output) old new prints cause = cause refl
 print_cause question answer (Err NotMember) old new prints cause = tt
-print_cause question answer (Err (NotTaken status)) old new prints cause = tt
+print_cause question answer (Err (NotDone status)) old new prints cause = tt
 print_cause question answer (Err NoKey) old new prints cause = tt
 print_cause question answer (Err NoMemory) old new prints cause = tt
 print_cause question answer (Err Dial) old new prints cause =

@@ -1,7 +1,6 @@
 -- What a reply says to calls that no command of the program makes, and where a fault of it lies.
-use Rattle.std.specs.Prelude.{ℕ, ◌+◌, ◌≤◌, ℤ, Bool, List, Result, Ok, ⊤}
+use Rattle.std.specs.Prelude.{ℕ, ◌+◌, ◌≤◌, Bool, List, Result, Ok, ⊤}
 use Rattle.yp_xdr.specs.Kind.{Boolean}
-use Rattle.yp_messages.specs.Transfers.{resp_make}
 use Rattle.yp_client.specs.declared.fault.ClientFault.{ClientFault}
 use Rattle.yp_client.specs.declared.fault.ClientFault.TheVariants.{BadReply}
 use Rattle.yp_client.specs.Results.{◌>>=◌, item, results_of}
@@ -30,10 +29,3 @@ served_of xid message = do
   left ← results_of xid message
   served ← item Boolean left
   Ok served.0
-
--- of MAKE: the number of a status, whichever it is
-abbrev pub made_of : ℕ → List ℕ → Result ℤ ClientFault
-made_of xid message = do
-  left ← results_of xid message
-  made ← item resp_make left
-  Ok made.0

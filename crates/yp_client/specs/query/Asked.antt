@@ -5,47 +5,52 @@ use Rattle.yp_messages.specs.declared.transfer.XfrStat.TheVariants.{Succ}
 use Rattle.yp_version.specs.Rows.{Row, listed}
 use Rattle.yp_version.specs.Drafts.{Draft, empty_draft}
 use Rattle.yp_client.specs.declared.fault.ClientFault.{ClientFault}
-use Rattle.yp_client.specs.Results.{value_of, master_of, order_of, maps_of, taken_of}
+use Rattle.yp_client.specs.Results.{value_of, master_of, order_of, maps_of, taken_of, made_of}
 use Rattle.yp_client.specs.Said.{SaysNumber, SaysBytes, SaysNames, SaysStat}
 use Rattle.yp_client.specs.Limits.{reply_max, all_max}
 use Rattle.yp_client.specs.All.{SaysAll}
 use Rattle.yp_client.specs.Asked.{all_call, match_call, master_call, order_call, maplist_call, pull_call}
+use Rattle.yp_client.specs.Asked.{make_named_call}
 use Rattle.yp_client.specs.States.{ClientState}
 use Rattle.yp_client.specs.Calls.{Calls}
 use Rattle.yp_client.specs.declared.query.fault.QueryFault.{QueryFault}
-use Rattle.yp_client.specs.declared.query.fault.QueryFault.TheVariants.{NoMemory, NotMember, NotTaken}
+use Rattle.yp_client.specs.declared.query.fault.QueryFault.TheVariants.{NoMemory, NotMember, NotDone}
 use Rattle.yp_client.specs.declared.question.Question.TheVariants.{Cat, Catk, Match, Which, Poll, Maps, Innetgr}
-use Rattle.yp_client.specs.declared.question.Question.TheVariants.{Pull}
+use Rattle.yp_client.specs.declared.question.Question.TheVariants.{Pull, Make}
 use Rattle.yp_client.specs.Questions.{ByteQuestion}
 use Rattle.yp_netgroup.specs.Reach.{SoughtMember}
 use Rattle.yp_netgroup.specs.Decided.{is_member}
-use Rattle.yp_client.specs.query.Lines.{line, lines, rows_text, standing_text, membership_text, transfer_text}
+use Rattle.yp_client.specs.query.Lines.{line, lines, rows_text, standing_text, membership_text, status_text}
+use Rattle.yp_client.specs.query.Lines.{made_text}
 use Rattle.yp_client.specs.query.Faults.{query_fault, match_fault}
+
+-- what calls come to: a value, or why there is none
+abbrev pub Outcome : Type 0 → Type 0
+Outcome V = Result V QueryFault
 
 -- the text of an answer, or why there is none
 abbrev pub QueryOutcome : Type 0
-QueryOutcome = Result (List ℕ) QueryFault
+QueryOutcome = Outcome (List ℕ)
 
 -- what is told of what a call answers: what is meant by its value, or the fault
-abbrev pub told_by : {X : Type 0} → (ClientFault → QueryFault) → (X → QueryOutcome) → Result X ClientFault
-    → QueryOutcome
+abbrev pub told_by : {X V : Type 0} → (ClientFault → QueryFault) → (X → Outcome V) → Result X ClientFault → Outcome V
 told_by refused means (Ok value) = means value
 told_by refused means (Err fault) = Err (refused fault)
 
--- the outcome of an answer whose value always has a text
-abbrev pub meant_by : {X : Type 0} → (ClientFault → QueryFault) → (X → List ℕ) → Result X ClientFault → QueryOutcome
+-- the outcome of an answer whose value always means something, as a text
+abbrev pub meant_by : {X V : Type 0} → (ClientFault → QueryFault) → (X → V) → Result X ClientFault → Outcome V
 meant_by refused text answer = told_by refused (λ value. Ok (text value)) answer
 
 -- The outcome is the expected one, or memory ran out.
-abbrev pub IsInMemory : QueryOutcome → QueryOutcome → Type 0
+abbrev pub IsInMemory : {V : Type 0} → Outcome V → Outcome V → Type 0
 IsInMemory meant (Err NoMemory) = ⊤
 IsInMemory meant outcome = outcome ≡ meant
 
 -- One call was made, whose reply has at most so many bytes, and came to this. The bytes of the wire fix what was
 -- answered, unless the wire failed or memory ran out.
-pub record CallIsMade {X : Type 0} (limit : ℕ) (call : ℕ → List ℕ)
-    (answers : ℕ → List ℕ → Result X ClientFault → Type 0) (means : Result X ClientFault → QueryOutcome)
-    (outcome : QueryOutcome) (old new : ClientState) : Type 0 where
+pub record CallIsMade {X V : Type 0} (limit : ℕ) (call : ℕ → List ℕ)
+    (answers : ℕ → List ℕ → Result X ClientFault → Type 0) (means : Result X ClientFault → Outcome V)
+    (outcome : Outcome V) (old new : ClientState) : Type 0 where
   pub answer : Result X ClientFault
   pub calls : Calls limit call answers answer old new
   pub meant : IsInMemory (means answer) outcome
@@ -72,8 +77,13 @@ membership_told group asked rows = membership_outcome (is_member rows group aske
 
 -- the status of a transfer, of which SUCC alone is an answer; another is told apart and printed, too
 abbrev pub transfer_told : List ℕ → List ℕ → XfrStat → QueryOutcome
-transfer_told domain map Succ = Ok (line (transfer_text domain map Succ))
-transfer_told domain map status = Err (NotTaken status)
+transfer_told domain map Succ = Ok (line (status_text domain map Succ))
+transfer_told domain map status = Err (NotDone status)
+
+-- that a map was made anew, which SUCC tells; another status is told apart and printed, too
+abbrev pub making_told : List ℕ → List ℕ → XfrStat → QueryOutcome
+making_told domain map Succ = Ok (line (made_text domain map))
+making_told domain map status = Err (NotDone status)
 
 -- ALL was made for the rows of a version, and came to what is meant by them, or to the number of a row that none takes.
 -- The reply fixes the rows.
@@ -116,14 +126,16 @@ MakesCalls (Maps domain) outcome old new =
 MakesCalls (Pull domain map source) outcome old new =
     CallIsMade reply_max (pull_call domain map source) (SaysStat taken_of)
     (told_by query_fault (transfer_told domain map)) outcome old new
+MakesCalls (Make domain map) outcome old new =
+    CallIsMade reply_max (make_named_call domain map) (SaysStat made_of)
+    (told_by query_fault (making_told domain map)) outcome old new
 MakesCalls (Innetgr domain group host user user_domain) outcome old new =
     TakesRows (membership_told group (record { host = host; user = user; domain = user_domain })) domain netgroup
     outcome old new
 
 -- These calls were made; or memory ran out, and none was made.
-abbrev pub IsUnlessMemory : (QueryOutcome → ClientState → ClientState → Type 0) → QueryOutcome → ClientState
-    → ClientState
-    → Type 0
+abbrev pub IsUnlessMemory : {V : Type 0} → (Outcome V → ClientState → ClientState → Type 0) → Outcome V
+    → ClientState → ClientState → Type 0
 IsUnlessMemory calls outcome old new = calls outcome old new ⊎ ((outcome ≡ Err NoMemory) × (new ≡ old))
 
 abbrev pub Converses : ByteQuestion → QueryOutcome → ClientState → ClientState → Type 0

@@ -7,10 +7,10 @@ use Rattle.yp_messages.specs.declared.stat.YpStat.TheVariants.{Nokey}
 use Rattle.yp_client.specs.declared.fault.ClientFault.{ClientFault}
 use Rattle.yp_client.specs.declared.fault.ClientFault.TheVariants.{Yp}
 use Rattle.yp_client.specs.Limits.{reply_max, all_max}
-use Rattle.yp_client.specs.Results.{value_of, master_of, order_of, maps_of, taken_of}
+use Rattle.yp_client.specs.Results.{value_of, master_of, order_of, maps_of, taken_of, made_of}
 use Rattle.yp_client.specs.All.{all_said}
 use Rattle.yp_client.specs.declared.question.Question.TheVariants.{Cat, Catk, Match, Which, Poll, Maps, Innetgr}
-use Rattle.yp_client.specs.declared.question.Question.TheVariants.{Pull}
+use Rattle.yp_client.specs.declared.question.Question.TheVariants.{Pull, Make}
 use Rattle.yp_client.specs.Questions.{ByteQuestion}
 use Rattle.yp_client.specs.query.Asked.{no_rows}
 
@@ -45,6 +45,7 @@ HasAnswer (Innetgr domain group host user user_domain) stream =
     BeginsWithReply all_max stream (λ reply rest. (all_said no_rows 1 reply).end ≡ Ok tt)
 HasAnswer (Maps domain) stream = BeginsWithReply reply_max stream (λ reply rest. IsOk (maps_of 1 reply))
 HasAnswer (Pull domain map source) stream = BeginsWithReply reply_max stream (λ reply rest. IsOk (taken_of 1 reply))
+HasAnswer (Make domain map) stream = BeginsWithReply reply_max stream (λ reply rest. IsOk (made_of 1 reply))
 
 -- One wire to this peer came of the dial. This stream is its input, and its output may be told.
 pub record HasCome (peer : Peer) (stream : List ℕ) (old new : Option Wires) : Type 0 where

@@ -31,7 +31,7 @@ standing_text order master = line (codes "order " ++ decimal order) ++ line (cod
 abbrev pub membership_text : Bool → List ℕ
 membership_text is_member = if is_member then line (codes "yes") else line (codes "no")
 
--- the name of a status of a transfer (ypxfrstat)
+-- the name of a status of a map that is fetched or made (ypxfrstat)
 abbrev pub stat_name : XfrStat → List ℕ
 stat_name Succ = codes "SUCC"
 stat_name Age = codes "AGE"
@@ -50,7 +50,11 @@ stat_name Force = codes "FORCE"
 stat_name Xfrerr = codes "XFRERR"
 stat_name Refused = codes "REFUSED"
 
--- a map, and the number and the name of the status that a server replied with when it was asked to fetch it
-abbrev pub transfer_text : List ℕ → List ℕ → XfrStat → List ℕ
-transfer_text domain map status =
+-- a map, and the number and the name of the status that a server replied with when it was asked to fetch or make it
+abbrev pub status_text : List ℕ → List ℕ → XfrStat → List ℕ
+status_text domain map status =
     domain ++ codes "/" ++ map ++ codes " " ++ signed_decimal (xfr_number status) ++ codes " " ++ stat_name status
+
+-- a map that a server has made anew
+abbrev pub made_text : List ℕ → List ℕ → List ℕ
+made_text domain map = domain ++ codes "/" ++ map ++ codes " made"

@@ -4,9 +4,9 @@ ghost use Rattle.std.specs.Prelude.{◌≡◌, ◌≤◌, List, length, option_m
 ghost use Rattle.yp_version.specs.Rows.{Row};
 ghost use Rattle.yp_netgroup.specs.inside.Who.{lent, asked_of};
 ghost use Rattle.yp_messages.specs.Numbers.{name_max, key_max};
-ghost use Rattle.yp_client.specs.Results.{value_of, master_of, maps_of, taken_of};
+ghost use Rattle.yp_client.specs.Results.{value_of, master_of, maps_of, taken_of, made_of};
 ghost use Rattle.yp_client.specs.Said.{SaysBytes, SaysNames, SaysStat};
-ghost use Rattle.yp_client.specs.Asked.{match_call, master_call, maplist_call, pull_call};
+ghost use Rattle.yp_client.specs.Asked.{match_call, master_call, maplist_call, pull_call, make_named_call};
 ghost use Rattle.yp_client.specs.inside.States.{state_of};
 ghost use Rattle.yp_client.specs.query.Lines.{line, lines};
 ghost use Rattle.yp_client.specs.Questions.{bytes_of};
@@ -14,12 +14,12 @@ ghost use Rattle.yp_client.specs.inside.Questions.{QuestionIsWithin};
 ghost use Rattle.yp_client.specs.query.Faults.{query_fault, match_fault};
 ghost use Rattle.yp_client.specs.query.Asked.{QueryOutcome, meant_by, CallIsMade, TakesRows, Polls, IsUnlessMemory};
 ghost use Rattle.yp_client.specs.query.Asked.{Converses, rows_told, membership_told, netgroup};
-ghost use Rattle.yp_client.specs.query.Asked.{told_by, transfer_told};
+ghost use Rattle.yp_client.specs.query.Asked.{told_by, transfer_told, making_told};
 ghost use Rattle.yp_client.specs.Limits.{reply_max};
 ghost use Rattle.yp_client.specs.inside.query.Answers.{outcome_of, version_outcome};
 
 use crate::query::fault::{QueryFault, of_match};
-use crate::query::transfer::transfer_text;
+use crate::query::status::{made_text, status_text};
 use crate::{Client, Question};
 use std::alloc::Global;
 use std::random::RandomSource;
@@ -34,7 +34,7 @@ use yp_version::{Version, VersionBuilder};
 pub enum Answer {
     /// The rows of a version, with their keys or without.
     Rows { version: Version, keyed: bool },
-    /// A value, a name, or the status of a transfer.
+    /// A value, a name, the status of a transfer, or that a map was made.
     Line(Vec<u8>),
     /// The order and the master of a map.
     Standing { order: u32, master: Vec<u8> },
@@ -48,7 +48,7 @@ pub enum Answer {
 const NETGROUP: &[u8] = b"netgroup";
 
 /// The bytes that a client lends, as the caller's own.
-fn copied(alloc: Global, bytes: &[u8]) -> Result<Vec<u8>, NoMemory>
+pub(crate) fn copied(alloc: Global, bytes: &[u8]) -> Result<Vec<u8>, NoMemory>
     ensures { IfOk result (λ copy. copy.items ≡ bytes.now) }
 {
     Vec::from_slice(alloc, bytes).map_err(|_| NoMemory)
@@ -77,6 +77,7 @@ pub fn ask<S: Source, K: Sink>(
             map,
             source,
         } => ask_transfer(alloc, client, domain, map, source),
+        Question::Make { domain, map } => ask_making(alloc, client, domain, map),
         Question::Innetgr {
             domain,
             group,
@@ -278,8 +279,28 @@ fn ask_transfer<S: Source, K: Sink>(
         port: 0,
     };
     match client.xfr(&request) {
-        Ok(XfrStat::Succ) => Ok(Answer::Line(transfer_text(alloc, domain, map, XfrStat::Succ)?)),
-        Ok(stat) => Err(QueryFault::NotTaken(stat)),
+        Ok(XfrStat::Succ) => Ok(Answer::Line(status_text(alloc, domain, map, XfrStat::Succ)?)),
+        Ok(stat) => Err(QueryFault::NotDone(stat)),
+        Err(fault) => Err(fault.into()),
+    }
+}
+
+/// The reply comes when the map is made, so it is waited for as long as that takes.
+fn ask_making<S: Source, K: Sink>(
+    alloc: Global,
+    client: &mut Client<S, K>,
+    domain: &[u8],
+    map: &[u8],
+) -> Result<Answer, QueryFault>
+    requires domain { length domain.now ≤ name_max }
+    requires map { length map.now ≤ name_max }
+    ensures { CallIsMade reply_max (make_named_call domain.now map.now) (SaysStat made_of)
+        (told_by query_fault (making_told domain.now map.now)) (outcome_of result)
+        (state_of S.Source K.Sink client.old) (state_of S.Source K.Sink client.new) }
+{
+    match client.make_named(domain, map) {
+        Ok(XfrStat::Succ) => Ok(Answer::Line(made_text(alloc, domain, map)?)),
+        Ok(stat) => Err(QueryFault::NotDone(stat)),
         Err(fault) => Err(fault.into()),
     }
 }

@@ -7,10 +7,11 @@ ghost use Rattle.yp_client.specs.inside.query.Faults.{FaultIsTellable};
 ghost use Rattle.yp_client.specs.Questions.{bytes_of};
 ghost use Rattle.yp_client.specs.inside.Questions.{QuestionIsWithin};
 ghost use Rattle.yp_client.specs.inside.query.Answers.{outcome_of};
+ghost use Rattle.yp_client.specs.query.Asked.{Converses};
 ghost use Rattle.yp_client.specs.query.Complete.{HasAnswer, HasCome};
 ghost use Rattle.yp_client.specs.inside.query.Complete.{QueryIsAnswered};
-ghost use Rattle.yp_client.specs.query.Scenes.{query_tells, Asks};
-ghost use Rattle.yp_client.specs.inside.query.Scenes.{Dials, DialHasCause, HasQueryCause};
+ghost use Rattle.yp_client.specs.query.Scenes.{query_tells, Asks, Dials};
+ghost use Rattle.yp_client.specs.inside.query.Scenes.{DialHasCause, HasQueryCause};
 
 use crate::query::answer::{Answer, ask};
 use crate::query::fault::QueryFault;
@@ -80,7 +81,7 @@ fn ask_and_print<A: Dial, K: Sink>(
     match ask_dialed(alloc, rt, dial, to, question) {
         Ok(answer) => print(alloc, &answer, sink),
         Err(QueryFault::NotMember) => print(alloc, &Answer::Membership(false), sink),
-        Err(QueryFault::NotTaken(stat)) => print_refusal(alloc, question, stat, sink),
+        Err(QueryFault::NotDone(stat)) => print_refusal(alloc, question, stat, sink),
         Err(fault) => Err(fault),
     }
 }
@@ -94,7 +95,7 @@ fn ask_dialed<A: Dial>(
     question: &Question<Vec<u8>>,
 ) -> Result<Answer, QueryFault>
     requires { QuestionIsWithin (bytes_of question.now) }
-    ensures dials { Dials to (bytes_of question.now) (outcome_of result)
+    ensures dials { Dials to (Converses (bytes_of question.now)) (outcome_of result)
         (dialing_of A.past A.faults dial.old) (dialing_of A.past A.faults dial.new) }
     ensures cause { IfErr result (λ fault. DialHasCause fault (A.faults dial.old) (A.faults dial.new)) }
     ensures letters { A.letters dial.new ≡ A.letters dial.old }

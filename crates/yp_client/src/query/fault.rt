@@ -8,7 +8,7 @@ use yp_io::NoMemory;
 use yp_messages::{XfrStat, YpStat};
 use yp_version::VersionFault;
 
-/// Why a question has no answer, or that the answer is no. Nothing was printed, but after `NotMember`, `NotTaken` and
+/// Why a question has no answer, or that the answer is no. Nothing was printed, but after `NotMember`, `NotDone` and
 /// `Output`.
 #[derive(Clone, Copy, Debug, PartialEq, Eq)]
 pub enum QueryFault {
@@ -16,8 +16,8 @@ pub enum QueryFault {
     NoKey,
     /// Of a group: who was asked for is no member. That was printed.
     NotMember,
-    /// XFR: the transfer isn't taken, for this status, which is never `Succ`. That was printed.
-    NotTaken(XfrStat),
+    /// Of a map to be fetched or made: the server doesn't, for this status, which is never `Succ`. That was printed.
+    NotDone(XfrStat),
     /// The first call that was refused was refused so: never `Spent`, `NoMemory`, or `Rows` for want of memory.
     Client(ClientFault),
     /// No wire came.

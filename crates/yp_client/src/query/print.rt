@@ -1,20 +1,21 @@
 //! Answers that are printed.
 
-ghost use Rattle.std.specs.Prelude.{◌≡◌, ◌≢◌, ◌≤◌, IsTrue, Ok, Err, OnOk, IfErr};
+ghost use Rattle.std.specs.Prelude.{◌≡◌, ◌≢◌, ◌≤◌, [], IsTrue, Ok, Err, OnOk, IfOk, IfErr};
+ghost use Rattle.std.specs.Option.{option_map_or};
 ghost use Rattle.yp_io.specs.Counts.{CountsFaults, HasRisen};
-ghost use Rattle.yp_client.specs.query.Lines.{lines, row_line, rows_text, standing_text, membership_text};
+ghost use Rattle.yp_client.specs.query.Lines.{line, lines, row_line, rows_text, standing_text, membership_text};
 ghost use Rattle.yp_client.specs.inside.query.Printed.{Puts};
 ghost use Rattle.yp_client.specs.inside.query.Answers.{answer_text, answer_outcome, said};
 ghost use Rattle.yp_client.specs.Questions.{ByteQuestion, bytes_of};
-ghost use Rattle.yp_client.specs.query.Scenes.{Prints};
+ghost use Rattle.yp_client.specs.query.Scenes.{Prints, refusal_text};
 
 use crate::Question;
 use crate::query::answer::Answer;
 use crate::query::fault::QueryFault;
+use crate::query::status::status_text;
 use crate::query::text::TextBuffer;
-use crate::query::transfer::transfer_text;
 use std::alloc::Global;
-use yp_io::{Failed, Sink};
+use yp_io::{Failed, NoMemory, Sink};
 use yp_messages::{Names, XfrStat};
 use yp_version::Version;
 
@@ -37,26 +38,41 @@ pub fn print<K: Sink>(alloc: Global, answer: &Answer, sink: &mut K) -> Result<()
     }
 }
 
-/// Prints the status that refuses a transfer.
+/// Prints the status for which a server doesn't do what it was asked to.
 pub fn print_refusal<K: Sink>(
     alloc: Global,
     question: &Question<Vec<u8>>,
     stat: XfrStat,
     sink: &mut K,
 ) -> Result<(), QueryFault>
-    ensures prints { Prints (bytes_of question.now) (Err (QueryFault.NotTaken stat)) result
+    ensures prints { Prints (bytes_of question.now) (Err (QueryFault.NotDone stat)) result
         (K.output sink.old) (K.output sink.new) }
     ensures flushed { result ≢ Err QueryFault.Output → IsTrue (K.flushed sink.old) → IsTrue (K.flushed sink.new) }
     ensures cause { result ≡ Err QueryFault.Output → HasRisen (K.faults sink.old) (K.faults sink.new) }
     ensures faults { K.faults sink.old ≤ K.faults sink.new }
 {
-    let Question::Pull { domain, map, .. } = question else {
-        return Err(QueryFault::NotTaken(stat));
+    let Some(text) = refusal_text(alloc, question, stat)? else {
+        return Err(QueryFault::NotDone(stat));
     };
-    let line = Answer::Line(transfer_text(alloc, domain, map, stat)?);
-    match print(alloc, &line, sink) {
-        Ok(()) => Err(QueryFault::NotTaken(stat)),
+    match print(alloc, &Answer::Line(text), sink) {
+        Ok(()) => Err(QueryFault::NotDone(stat)),
         Err(fault) => Err(fault),
+    }
+}
+
+/// The line of such a status, without its line feed, where the question is one of a map to be fetched or made.
+fn refusal_text(
+    alloc: Global,
+    question: &Question<Vec<u8>>,
+    stat: XfrStat,
+) -> Result<Option<Vec<u8>>, NoMemory>
+    ensures { IfOk result (λ text. refusal_text (bytes_of question.now) stat
+        ≡ option_map_or (λ bytes. line bytes.items) text []) }
+{
+    match question {
+        Question::Pull { domain, map, .. } => Ok(Some(status_text(alloc, domain, map, stat)?)),
+        Question::Make { domain, map } => Ok(Some(status_text(alloc, domain, map, stat)?)),
+        _ => Ok(None),
     }
 }
 

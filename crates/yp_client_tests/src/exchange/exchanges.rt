@@ -82,6 +82,10 @@ const PULL_NODOM_CALL: &str =
     00000000 00000000 00000002 6e6f0000 00000004 62617265 00000000 00000002 6d390000 \
     00000000 00000000 00000000";
 
+/// A call of the make program's procedure 2.
+const MAKE_CALL: &str = "00000001 00000000 00000002 20004e49 00000001 00000002 00000000 00000000 \
+    00000000 00000000 00000003 6c616200 0000000c 686f7374 732e6279 6e616d65";
+
 // ---- questions
 
 const CAT: Fixed = Question::Cat {
@@ -152,6 +156,11 @@ const PULL_NODOM: Fixed = Question::Pull {
     source: b"m9",
 };
 
+const MAKE: Fixed = Question::Make {
+    domain: b"lab",
+    map: b"hosts.byname",
+};
+
 const ANYBODY: Fixed = Question::Innetgr {
     domain: b"lab",
     group: b"a",
@@ -215,7 +224,7 @@ fn records<R: Abort>(rt: &R, alloc: Global, case: &Case) -> Vec<u8> {
     stream
 }
 
-static CASES: [Case; 17] = [
+static CASES: [Case; 18] = [
     Case {
         row: "values",
         question: CAT,
@@ -341,7 +350,7 @@ static CASES: [Case; 17] = [
         calls: &[&[PULL_CALL]],
         newer: &[],
         replies: "80000020 00000001 00000001 00000000 00000000 00000000 00000000 00000000 fffffff2",
-        result: Err(QueryFault::NotTaken(XfrStat::Refused)),
+        result: Err(QueryFault::NotDone(XfrStat::Refused)),
         printed: b"lab/hosts.byname -14 REFUSED\n",
     },
     Case {
@@ -368,7 +377,7 @@ static CASES: [Case; 17] = [
         calls: &[&[PULL_NONE_CALL]],
         newer: &[],
         replies: "80000020 00000001 00000001 00000000 00000000 00000000 00000000 00000000 ffffffff",
-        result: Err(QueryFault::NotTaken(XfrStat::Nomap)),
+        result: Err(QueryFault::NotDone(XfrStat::Nomap)),
         printed: b"lab/none -1 NOMAP\n",
     },
     Case {
@@ -377,8 +386,17 @@ static CASES: [Case; 17] = [
         calls: &[&[PULL_NODOM_CALL]],
         newer: &[],
         replies: "80000020 00000001 00000001 00000000 00000000 00000000 00000000 00000000 fffffffe",
-        result: Err(QueryFault::NotTaken(XfrStat::Nodom)),
+        result: Err(QueryFault::NotDone(XfrStat::Nodom)),
         printed: b"no/bare -2 NODOM\n",
+    },
+    Case {
+        row: "a map that is made for its own host alone",
+        question: MAKE,
+        calls: &[&[MAKE_CALL]],
+        newer: &[],
+        replies: "8000001c 00000001 00000001 00000000 00000000 00000000 00000000 fffffff2",
+        result: Err(QueryFault::NotDone(XfrStat::Refused)),
+        printed: b"lab/hosts.byname -14 REFUSED\n",
     },
 ];
 

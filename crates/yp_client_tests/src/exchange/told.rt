@@ -6,6 +6,7 @@ ghost use Rattle.yp_io.specs.declared.stream.Peer.{Peer as Caller};
 ghost use Rattle.yp_io.specs.Counts.{HasRisen};
 ghost use Rattle.yp_rpc.specs.inside.Laws.{IsWord};
 ghost use Rattle.yp_messages.specs.Numbers.{name_max, key_max};
+ghost use Rattle.yp_messages.specs.declared.transfer.XfrStat.{XfrStat};
 ghost use Rattle.yp_board.specs.Catalogues.{Catalogue, serves};
 ghost use Rattle.yp_board.specs.Logs.{Log};
 ghost use Rattle.yp_client.specs.Questions.{bytes_of};
@@ -222,10 +223,11 @@ pub fn query_told<A: Dial, K: Sink>(
     sink: &mut K,
 ) -> Result<(), QueryFault>
     requires { QuestionIsWithin (bytes_of question.now) }
-    ensures told { (first second : Maps) (caller : Caller) (stream : List ℕ) → AreServed first → AreServed second
-        → GivesReplies first second caller (bytes_of question.now) stream
+    ensures told { (first second : Maps) (caller : Caller) (made : XfrStat) (stream : List ℕ)
+        → AreServed first → AreServed second
+        → GivesReplies first second caller made (bytes_of question.now) stream
         → HasCome to stream (A.past dial.old) (A.past dial.new)
-        → PrintsTold (bytes_of question.now) (text_told first second caller (bytes_of question.now)) result
+        → PrintsTold (bytes_of question.now) (text_told first second caller made (bytes_of question.now)) result
         (K.output sink.old) (K.output sink.new) }
     ensures run { (catalogue : Catalogue) (caller : Caller) (replies : List (List ℕ)) (rest : List ℕ)
         (before after : Log)
@@ -234,9 +236,9 @@ pub fn query_told<A: Dial, K: Sink>(
         → HasCome to (sent_all replies ++ rest) (A.past dial.old) (A.past dial.new)
         → PrintsOnLogs catalogue caller (bytes_of question.now) before after result
         (K.output sink.old) (K.output sink.new) }
-    ensures answered { (first second : Maps) (caller : Caller) (stream : List ℕ)
-        → AreServed first → AreServed second → GivesReplies first second caller (bytes_of question.now) stream
-        → HasText (text_told first second caller (bytes_of question.now))
+    ensures answered { (first second : Maps) (caller : Caller) (made : XfrStat) (stream : List ℕ)
+        → AreServed first → AreServed second → GivesReplies first second caller made (bytes_of question.now) stream
+        → HasText (text_told first second caller made (bytes_of question.now))
         → HasCome to stream (A.past dial.old) (A.past dial.new)
         → ¬ HasRisen (A.faults dial.old) (A.faults dial.new) → ¬ HasRisen (K.faults sink.old) (K.faults sink.new)
         → QueryIsAnswered result }

@@ -2,8 +2,10 @@
 use Rattle.std.specs.Prelude.{◌≡◌, ℕ, ◌≤◌, ◌<◌, true, IsSome, ⊤}
 use Rattle.std.specs.Prelude.{List, [], ◌∷◌, All, length, map}
 use Rattle.std.specs.Prelude.{Option, Some, None, Vec, Result, Ok, Err}
+use Rattle.std.specs.Borrow.{Bor}
 use Rattle.std.specs.declared.alloc.Global.{Global}
 use Rattle.std.specs.declared.alloc.AllocError.{AllocError}
+use Rattle.yp_io.specs.declared.stream.Peer.{Peer}
 use Rattle.yp_binding.specs.Kept.{servers_max}
 use Rattle.yp_board.specs.declared.catalog.MapName.{MapName}
 use Rattle.yp_board.specs.Catalogues.{Name, name_max, maps_max, name_view}
@@ -16,7 +18,7 @@ use Rattle.yp_command.specs.declared.words.ParseFault.{ParseFault}
 use Rattle.yp_command.specs.declared.words.ParseFault.TheVariants.{Usage, NoMemory}
 use Rattle.yp_command.specs.Forms.{Host, kind_of, is_reverse}
 use Rattle.yp_command.specs.Words.{Meaning, word, host_view, meaning, TakesMemory, Once, Session, Serve, Check, Dump}
-use Rattle.yp_command.specs.Words.{Build, Load, Xfr, Walk, Revnet, Sample, Push, Bind, Portmap, Getport, Ask}
+use Rattle.yp_command.specs.Words.{Build, Load, Xfr, Walk, Revnet, Sample, Push, Bind, Portmap, Getport, Ask, Orders}
 
 -- ---- what is read
 
@@ -45,6 +47,7 @@ port_of (Bind port policy turns domain hosts) = Some port
 port_of (Portmap port turns) = Some port
 port_of (Getport port turns peer prog vers prot) = Some port
 port_of (Ask peer question) = None
+port_of (Orders first others domain) = None
 
 -- how many connections a command accepts
 abbrev pub connections_of : Meaning → ℕ
@@ -85,6 +88,7 @@ HasNames (Bind port policy turns domain hosts) = (length domain ≤ name_max) ×
 HasNames (Portmap port turns) = ⊤
 HasNames (Getport port turns peer prog vers prot) = ⊤
 HasNames (Ask peer question) = QuestionIsWithin question
+HasNames (Orders first others domain) = length domain ≤ name_max
 
 -- ---- refusals
 
@@ -119,3 +123,10 @@ abbrev pub AreServed : Result (List Name × List Host) ℕ
 AreServed expected (Ok made) = (stores : List Name) × (hosts : List Host) × (expected ≡ Ok (stores, hosts))
     × Holds name_view made.0 stores × Holds host_view made.1 hosts
 AreServed expected (Err at) = expected ≡ Err at
+
+-- servers, and the domain of whose maps they are asked
+abbrev pub AreCompared : Result (List Peer × List ℕ) ℕ
+    → Result (Result (Vec Peer Global) AllocError × Bor (List ℕ)) ℕ → Type 0
+AreCompared expected (Ok made) = (peers : List Peer) × (expected ≡ Ok (peers, made.1.now))
+    × Holds (λ peer. peer) made.0 peers
+AreCompared expected (Err at) = expected ≡ Err at

@@ -2,7 +2,6 @@
 use Rattle.std.proofs.Common.{◌≡◌, ℕ, List, Option, length, ap, ◌∙◌, subst}
 use Rattle.std.proofs.lemmas.List.{length-map}
 use Rattle.yp_io.specs.Disk.{History}
-use Rattle.yp_io.specs.declared.texts.TextFile.{TextFile}
 use Rattle.yp_board.specs.Catalogues.{Catalogue}
 use Rattle.yp_board.specs.Logs.{Log}
 use Rattle.yp_board.specs.Views.{Seen, IsFront, Refreshes}
@@ -19,10 +18,10 @@ use Rattle.yp_command_serve.specs.serve.Hosting.{ServerTells, IsAccounted, IsSer
 
 module _ {D : Type 0} (history : D → Option History) (faults : D → ℕ) (maps : List (StoredMap D)) (hosted : Hosted)
     (old new was now : ServerTells) (disks : List D) (log : Log) (turns : ℕ) (served catalogue : Catalogue)
-    (text there : TextFile → Option (List ℕ)) (hosts known : HostList) (first : PublisherState) (most : ℕ)
+    (text there : List ℕ → Option (List ℕ)) (hosts known : HostList) (first : PublisherState) (most : ℕ)
     (of_old : was ≡ old) (of_new : now ≡ new) (of_maps : catalogue ≡ served) (of_text : there ≡ text)
     (of_hosts : known ≡ hosts) (begins : first ≡ first_of maps) (of_most : most ≡ CALLS_MAX) where
-  abbrev Given : Catalogue → (TextFile → Option (List ℕ)) → HostList → PublisherState → ℕ → ServerTells → ServerTells → Type 0
+  abbrev Given : Catalogue → (List ℕ → Option (List ℕ)) → HostList → PublisherState → ℕ → ServerTells → ServerTells → Type 0
   Given c t h f m o n =
       IsFront f.log log
       × IsListenerState o.door n.door hosted.tally.connections hosted.tally.listen_fault 0 1
@@ -35,7 +34,7 @@ module _ {D : Type 0} (history : D → Option History) (faults : D → ℕ) (map
       subst (λ (p : ServerTells). Given served text hosts (first_of maps) CALLS_MAX old p) of_new
       (subst (λ (p : ServerTells). Given served text hosts (first_of maps) CALLS_MAX p now) of_old
       (subst (λ (c : Catalogue). Given c text hosts (first_of maps) CALLS_MAX was now) of_maps
-      (subst (λ (t : TextFile → Option (List ℕ)). Given catalogue t hosts (first_of maps) CALLS_MAX was now) of_text
+      (subst (λ (t : List ℕ → Option (List ℕ)). Given catalogue t hosts (first_of maps) CALLS_MAX was now) of_text
       (subst (λ (h : HostList). Given catalogue there h (first_of maps) CALLS_MAX was now) of_hosts
       (subst (λ (f : PublisherState). Given catalogue there known f CALLS_MAX was now) begins
       (subst (λ (m : ℕ). Given catalogue there known first m was now) of_most all))))))

@@ -4,7 +4,6 @@ use Rattle.std.specs.Prelude.{IfOk, IfErr, OnErr}
 use Rattle.std.specs.List.{AllZip}
 use Rattle.yp_io.specs.Counts.{HasRisen, capped}
 use Rattle.yp_io.specs.Disk.{History}
-use Rattle.yp_io.specs.declared.texts.TextFile.{TextFile}
 use Rattle.yp_map_file.specs.declared.fault.SlotFault.{SlotFault}
 use Rattle.yp_map_file.specs.declared.fault.SlotFault.TheVariants as fault
 use Rattle.yp_board.specs.Catalogues.{Name}
@@ -304,7 +303,7 @@ pub all_done : {S K D C A I T : Type 0} (seen : Seeing S K D C A I T) (job : Job
     → IfOk hosted (λ h. h.inbox_fault ≡ true → InboxFails seen old new)
     → (status ≡ WriteFault → WriteFails seen old new) → names_of new.disks.items ≡ names_of old.disks.items
     → moment seen new ≡ moment seen old
-    → ((file : TextFile) → seen.texts.text new.texts file ≡ seen.texts.text old.texts file)
+    → ((file : List ℕ) → seen.texts.text new.texts file ≡ seen.texts.text old.texts file)
     → new.wire.source ≡ old.wire.source → ServeDoes seen job status old new door door'
 all_done {D = D} seen job status old new door door' hosted apart back a b is un shut tells inbox write names told texts
     source =

@@ -3,7 +3,6 @@ use Rattle.std.specs.Prelude.{ℕ, List, map, Option}
 use Rattle.std.specs.List.{AllZip}
 use Rattle.yp_io.specs.Disk.{History}
 use Rattle.yp_io.specs.Dials.{DialTells}
-use Rattle.yp_io.specs.declared.texts.TextFile.{TextFile}
 use Rattle.yp_board.specs.Catalogues.{Catalogue}
 use Rattle.yp_board.specs.Logs.{Log, starts}
 use Rattle.yp_board.specs.Views.{Seen, IsFront, Refreshes}
@@ -31,11 +30,11 @@ use Rattle.yp_command_serve.specs.declared.serve.tally.Hosted.{Hosted}
 -- there are at the datagrams
 pub record ServeSetup : Type 0 where
   pub catalogue : Catalogue
-  pub text : TextFile → Option (List ℕ)
+  pub text : List ℕ → Option (List ℕ)
   pub hosts : HostList
   pub turns : ℕ
 
-abbrev pub setup_of : Catalogue → (TextFile → Option (List ℕ)) → HostList → ℕ → ServeSetup
+abbrev pub setup_of : Catalogue → (List ℕ → Option (List ℕ)) → HostList → ℕ → ServeSetup
 setup_of served text hosts turns = record { catalogue = served; text = text; hosts = hosts; turns = turns }
 
 -- how often texts have failed, and what a dial tells

@@ -7,7 +7,6 @@ use Rattle.yp_io.specs.Counts.{HasRisen, capped}
 use Rattle.yp_io.specs.Disk.{History}
 use Rattle.yp_io.specs.Dials.{dial_tells}
 use Rattle.yp_io.specs.Streams.{AppendsFront}
-use Rattle.yp_io.specs.declared.texts.TextFile.{TextFile}
 use Rattle.yp_map_file.specs.declared.fault.SlotFault.{SlotFault}
 use Rattle.yp_map_file.specs.declared.fault.SlotFault.TheVariants as fault
 use Rattle.yp_map_file.specs.Slots.{IsSound}
@@ -172,5 +171,5 @@ pub record ServeDoes {S K D C A I T : Type 0} (seen : Seeing S K D C A I T) (job
   pub causes : HasServeCauses seen status old new door door'
   pub names : names_of new.disks.items ≡ names_of old.disks.items
   pub told : moment seen new ≡ moment seen old
-  pub texts : (file : TextFile) → seen.texts.text new.texts file ≡ seen.texts.text old.texts file
+  pub texts : (file : List ℕ) → seen.texts.text new.texts file ≡ seen.texts.text old.texts file
   pub source : new.wire.source ≡ old.wire.source

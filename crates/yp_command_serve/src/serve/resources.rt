@@ -1,10 +1,9 @@
 //! Maps that are served from their disks, from the loading of their files to the handing back of all.
 
-ghost use Rattle.std.specs.Prelude.{◌≡◌, ◌≤◌, length, map, option_map, true, IfOk, IfErr, OnErr};
+ghost use Rattle.std.specs.Prelude.{◌≡◌, ℕ, ◌≤◌, List, length, map, option_map, true, IfOk, IfErr, OnErr};
 ghost use Rattle.std.specs.Arc.{arc_value};
 ghost use Rattle.std.specs.List.{All};
 ghost use Rattle.yp_io.specs.Counts.{HasRisen};
-ghost use Rattle.yp_io.specs.declared.texts.TextFile.{TextFile};
 ghost use Rattle.yp_board.specs.Logs.{starts};
 ghost use Rattle.yp_board.specs.readers.Boards.{workers_max};
 ghost use Rattle.yp_publisher.specs.Standing.{Level, versions};
@@ -161,7 +160,7 @@ where
     ensures untouched { OnErr result.0 (result.1 ≡ record resources { disks = result.1.disks }) }
     ensures inbox_fault { IfOk result.0 (λ hosted. hosted.inbox_fault ≡ true
         → HasRisen (I.faults resources.inbox) (I.faults result.1.inbox)) }
-    ensures texts { (file : TextFile) → T.text result.1.desk.texts file ≡ T.text resources.desk.texts file }
+    ensures texts { (file : List ℕ) → T.text result.1.desk.texts file ≡ T.text resources.desk.texts file }
     ensures moment { C.moment result.1.desk.clock ≡ C.moment resources.desk.clock }
     ensures count { length result.1.disks.items ≡ length resources.disks.items }
 {
@@ -229,7 +228,7 @@ where
         ((result.1.desk ≡ desk) × (result.1.listen ≡ listen) × (result.1.inbox ≡ inbox)) }
     ensures inbox_fault { IfOk result.0 (λ hosted. hosted.inbox_fault ≡ true
         → HasRisen (I.faults inbox) (I.faults result.1.inbox)) }
-    ensures texts { (file : TextFile) → T.text result.1.desk.texts file ≡ T.text desk.texts file }
+    ensures texts { (file : List ℕ) → T.text result.1.desk.texts file ≡ T.text desk.texts file }
     ensures moment { C.moment result.1.desk.clock ≡ C.moment desk.clock }
     ensures count { length result.1.disks.items ≡ length loaded }
 {
@@ -299,7 +298,7 @@ where
         ((result.1.desk ≡ desk) × (result.1.listen ≡ listen) × (result.1.inbox ≡ inbox)) }
     ensures inbox_fault { IfOk result.0 (λ hosted. hosted.inbox_fault ≡ true
         → HasRisen (I.faults inbox) (I.faults result.1.inbox)) }
-    ensures texts { (file : TextFile) → T.text result.1.desk.texts file ≡ T.text desk.texts file }
+    ensures texts { (file : List ℕ) → T.text result.1.desk.texts file ≡ T.text desk.texts file }
     ensures moment { C.moment result.1.desk.clock ≡ C.moment desk.clock }
     ensures count { length result.1.disks.items ≡ length loaded }
 {

@@ -92,7 +92,7 @@ static WRONG: [Wrong; 42] = [
 ];
 
 /// The same of sentences with addresses and hosts.
-static WRONG_ADDRESSES: [Wrong; 35] = [
+static WRONG_ADDRESSES: [Wrong; 50] = [
     (&["match", "127.0.0.1:700"], 2),
     (&["match", "127.0.0.1:700", "lab", "hosts.byname"], 4),
     (&["match", "127.0.0.1:0", "lab", "hosts.byname", "a"], 1),
@@ -120,6 +120,21 @@ static WRONG_ADDRESSES: [Wrong; 35] = [
         &["pull", "127.0.0.1:7", "lab", "hosts.byname", "m1", "x"],
         5,
     ),
+    (&["make"], 1),
+    (&["make", "m1", "lab", "hosts.byname"], 1),
+    (&["make", "127.0.0.1:7", "", "hosts.byname"], 2),
+    (&["make", "127.0.0.1:7", "lab"], 3),
+    (&["make", "127.0.0.1:7", "lab", TOO_LONG], 3),
+    (&["make", "127.0.0.1:7", "lab", "hosts.byname", "x"], 4),
+    (&["orders"], 1),
+    (&["orders", "lab"], 1),
+    (&["orders", "127.0.0.1:7"], 2),
+    (&["orders", "127.0.0.1:7", ""], 2),
+    (&["orders", "127.0.0.1:7", TOO_LONG], 2),
+    (&["orders", "127.0.0.1:7", "lab", "127.0.0.2:7"], 3),
+    (&["orders", "127.0.0.1:7", "127.0.0.2:0", "lab"], 3),
+    (&["orders", "127.0.0.1:7", "127.0.0.2:7", ""], 3),
+    (&["orders", "127.0.0.1:7", "127.0.0.2:7", "lab", "x"], 4),
     (&["innetgr", "127.0.0.1:7", TOO_LONG, "a", "*", "*", "*"], 2),
     (&["innetgr", "127.0.0.1:7", "lab", "a", "*", "*"], 6),
     (
@@ -527,6 +542,7 @@ fn asked(addr: Peer, question: &Question<Vec<u8>>) -> Asked<'_> {
             map,
             source,
         } => ("pull", addr, [domain, map, source]),
+        Question::Make { domain, map } => ("make", addr, [domain, map, b""]),
         Question::Innetgr { domain, group, .. } => ("innetgr", addr, [domain, group, b""]),
     }
 }
@@ -541,7 +557,7 @@ fn question_of(command: &Command) -> Option<Asked<'_>> {
 
 const HOSTS: [&[u8]; 3] = [b"lab", b"hosts.byname", b""];
 
-static QUESTIONS: [(&[&str], Asked); 8] = [
+static QUESTIONS: [(&[&str], Asked); 10] = [
     (
         &["cat", "127.0.0.1:700", "lab", "hosts.byname"],
         ("cat", PEER, HOSTS),
@@ -574,6 +590,14 @@ static QUESTIONS: [(&[&str], Asked); 8] = [
         &["pull", "127.0.0.1:700", "lab", "a/b", LONGEST],
         ("pull", PEER, [b"lab", b"a/b", LONGEST_BYTES]),
     ),
+    (
+        &["make", "127.0.0.1:700", "lab", "hosts.byname"],
+        ("make", PEER, HOSTS),
+    ),
+    (
+        &["make", "127.0.0.1:700", "lab", LONGEST],
+        ("make", PEER, [b"lab", LONGEST_BYTES, b""]),
+    ),
 ];
 
 fn check_question(rt: &impl Abort, alloc: Global, words: &[&str], question: Asked) {
@@ -586,6 +610,64 @@ fn check_question(rt: &impl Abort, alloc: Global, words: &[&str], question: Aske
 fn questions_parsed(rt: HostRuntime) {
     for (words, question) in &QUESTIONS {
         check_question(&rt, rt.alloc(), *words, *question);
+    }
+}
+
+const OTHER_PEER: Peer = Peer {
+    addr: [10, 0, 0, 2],
+    port: 65_535,
+};
+
+/// The servers that are compared, and the domain.
+type Servers<'a> = (Peer, &'a [Peer], &'a [u8]);
+
+fn compared(command: &Command) -> Option<Servers<'_>> {
+    match command {
+        Command::Orders {
+            first,
+            others,
+            domain,
+        } => Some((*first, others, domain)),
+        _ => None,
+    }
+}
+
+/// Words of `orders`, and what they ask: the last word is the domain, also where it looks like an address.
+static COMPARED: [(&[&str], Servers); 5] = [
+    (&["orders", "127.0.0.1:700", "lab"], (PEER, &[], b"lab")),
+    (
+        &["orders", "127.0.0.1:700", "10.0.0.2:65535"],
+        (PEER, &[], b"10.0.0.2:65535"),
+    ),
+    (
+        &["orders", "127.0.0.1:700", "10.0.0.2:65535", "lab"],
+        (PEER, &[OTHER_PEER], b"lab"),
+    ),
+    (
+        &[
+            "orders",
+            "10.0.0.2:65535",
+            "127.0.0.1:700",
+            "10.0.0.2:65535",
+            LONGEST,
+        ],
+        (OTHER_PEER, &[PEER, OTHER_PEER], LONGEST_BYTES),
+    ),
+    (
+        &["orders", "127.0.0.1:700", "10.0.0.2:65535", "127.0.0.1:700"],
+        (PEER, &[OTHER_PEER], b"127.0.0.1:700"),
+    ),
+];
+
+fn check_compared(rt: &impl Abort, alloc: Global, words: &[&str], wanted: Servers) {
+    let command = parsed(rt, alloc, words);
+    assert_same(rt, &compared(&command), &Some(wanted), "orders");
+}
+
+#[test]
+fn orders_parsed(rt: HostRuntime) {
+    for (words, wanted) in &COMPARED {
+        check_compared(&rt, rt.alloc(), *words, *wanted);
     }
 }
 
@@ -706,7 +788,7 @@ fn two_of(names: &[MapName]) -> Option<(Names<'_>, Names<'_>)> {
 }
 
 /// Words, and the map whose file their command reads or writes.
-static NAMED: [(&[&str], Option<(&[u8], &[u8])>); 16] = [
+static NAMED: [(&[&str], Option<(&[u8], &[u8])>); 17] = [
     (&[], None),
     (&["frob"], None),
     (&["check", "lab"], None),
@@ -733,6 +815,7 @@ static NAMED: [(&[&str], Option<(&[u8], &[u8])>); 16] = [
     ),
     (&["once", "lab/hosts.byname", "a=b"], None),
     (&["cat", "127.0.0.1:700", "lab", "hosts.byname"], None),
+    (&["orders", "127.0.0.1:700", "127.0.0.1:701", "lab"], None),
     (&["session", "m1", "127.0.0.1:700"], None),
     (
         &["session", "m1", "127.0.0.1:700", "m2@127.0.0.1:7", "lab/a"],

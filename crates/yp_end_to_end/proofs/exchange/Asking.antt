@@ -1,5 +1,5 @@
 -- The laws of the queries.
-use Rattle.std.proofs.Common.{◌≡◌, ℕ, ◌+◌, ◌%◌, ◌^◌, ◌≤◌, Bool, true, false, cond, List, [], ◌∷◌, ◌++◌, length, Option, Some, None, Result, Ok, Err, refl, sym, ap, ◌∙◌, subst, arith, inl, inr, ◌⊎◌}
+use Rattle.std.proofs.Common.{◌≡◌, ℕ, ℤ, ◌+◌, ◌%◌, ◌^◌, ◌≤◌, Bool, true, false, cond, List, [], ◌∷◌, ◌++◌, length, Option, Some, None, Result, Ok, Err, refl, sym, ap, ◌∙◌, subst, arith, inl, inr, ◌⊎◌}
 use Rattle.std.specs.Prelude.{⊤, IsOk, IfOk}
 use Rattle.std.specs.Borrow.{Bor}
 use Rattle.std.proofs.lemmas.List.{length-append}
@@ -17,32 +17,36 @@ use Rattle.yp_client.specs.Limits.{reply_max, all_max}
 use Rattle.yp_client.specs.States.{ClientState, IsFirst}
 use Rattle.yp_messages.specs.declared.transfer.XfrStat.{XfrStat}
 use Rattle.yp_messages.specs.Transfers.{xfr_number}
-use Rattle.yp_client.specs.Results.{Says, SaysInMemory, value_of, master_of, order_of, maps_of, taken_of}
+use Rattle.yp_client.specs.Results.{Says, SaysInMemory, value_of, master_of, order_of, maps_of, taken_of, made_of}
 use Rattle.yp_client.specs.Said.{SaysNumber, SaysBytes, SaysNames, SaysStat}
 use Rattle.yp_client.specs.All.{AllSaid, all_said, IsSaid, SaysAll}
-use Rattle.yp_client.specs.Asked.{all_call, match_call, master_call, order_call, maplist_call, pull_request, pull_call}
+use Rattle.yp_client.specs.Asked.{all_call, match_call, master_call, order_call, maplist_call, pull_request, pull_call, make_named_call}
 use Rattle.yp_client.specs.Calls.{Calls}
 use Rattle.yp_client.specs.declared.query.fault.QueryFault.TheVariants.{Dial}
 use Rattle.yp_client.specs.declared.question.Question.TheVariants.{Cat, Catk, Match, Which, Poll, Maps as MapsOf}
-use Rattle.yp_client.specs.declared.question.Question.TheVariants.{Innetgr, Pull}
+use Rattle.yp_client.specs.declared.question.Question.TheVariants.{Innetgr, Pull, Make}
 use Rattle.yp_client.specs.query.Lines.{line, lines, standing_text}
 use Rattle.yp_client.specs.query.Faults.{query_fault, match_fault}
 use Rattle.yp_client.specs.query.Asked.{QueryOutcome, told_by, no_rows, TakesRows, MakesMaster, MakesCalls}
-use Rattle.yp_client.specs.query.Asked.{rows_told, membership_told, netgroup, transfer_told}
+use Rattle.yp_client.specs.query.Asked.{rows_told, membership_told, netgroup, transfer_told, making_told}
 use Rattle.yp_client.specs.Questions.{ByteQuestion}
 use Rattle.yp_client.specs.inside.Questions.{QuestionIsWithin}
 use Rattle.yp_client.specs.query.Complete.{HasCome}
+use Rattle.yp_client.specs.query.Asked.{Converses}
 use Rattle.yp_client.specs.query.Scenes.{Exchanges}
 use Rattle.yp_answer.specs.Maps.{Maps, map_check, row_check}
 use Rattle.yp_answer.specs.Transfer.{xfr_check}
+use Rattle.yp_answer.specs.declared.make.MakeJob.{MakeJob}
+use Rattle.yp_answer.specs.Make.{make_check}
+use Rattle.yp_answer.specs.Reply.{Response, make_reply, make_response}
 use Rattle.yp_answer.specs.Served.{AreServed}
-use Rattle.yp_end_to_end.specs.exchange.Told.{told, of_version, value_in, all_in, master_in, order_in, names_in, stat_told}
+use Rattle.yp_end_to_end.specs.exchange.Told.{told, of_version, value_in, all_in, master_in, order_in, names_in, stat_told, made_told}
 use Rattle.yp_end_to_end.specs.inside.exchange.Told.{all_told}
-use Rattle.yp_end_to_end.specs.inside.exchange.Served.{DraftHasRoom}
+use Rattle.yp_end_to_end.specs.inside.exchange.Served.{DraftHasRoom, reply_made, MakesReply}
 use Rattle.yp_end_to_end.specs.exchange.Answered.{standing_told, text_told, IsOutcomeOf}
 use Rattle.yp_end_to_end.specs.inside.exchange.Answered.{GivesReply, GivesStanding, GivesReplies}
 use Rattle.yp_end_to_end.specs.inside.exchange.Laws.{MatchTells, AllTells, RoomForVersion, MasterTells, OrderTells}
-use Rattle.yp_end_to_end.specs.inside.exchange.Laws.{MaplistTells, PullTells}
+use Rattle.yp_end_to_end.specs.inside.exchange.Laws.{MaplistTells, PullTells, MakeHasResponse, MakeTells}
 use Rattle.yp_end_to_end.specs.inside.exchange.QueryLaws.{CallsAreTold, QueryPrintsTold}
 use Rattle.yp_end_to_end.proofs.exchange.Sound.{IsSound, row_sound}
 use Rattle.yp_end_to_end.proofs.exchange.Hearing.{Records, Heard, IsWireFault, call_heard}
@@ -58,6 +62,8 @@ pub record Replies : Type 0 where
   pub order : OrderTells
   pub names : MaplistTells
   pub pull : PullTells
+  pub make : MakeHasResponse
+  pub made : MakeTells
 
 -- and the laws of rows and records
 pub record Laws : Type 0 where
@@ -77,14 +83,34 @@ bytes_said : (said : ℕ → List ℕ → Result (List ℕ) ClientFault) (xid : 
 bytes_said said xid message answer says = says_in_memory (λ (bytes : Bor (List ℕ)). bytes.now) (said xid message) answer says
 
 -- nor does a status
-stat_said : (xid : ℕ) (message : List ℕ) (answer : Result XfrStat ClientFault) → SaysStat taken_of xid message answer → SaysInMemory xfr_number (taken_of xid message) answer
-stat_said xid message answer says = says_in_memory xfr_number (taken_of xid message) answer says
+says_stat : (said : ℕ → List ℕ → Result ℤ ClientFault) (xid : ℕ) (message : List ℕ) (answer : Result XfrStat ClientFault) → SaysStat said xid message answer → SaysInMemory xfr_number (said xid message) answer
+says_stat said xid message answer says = says_in_memory xfr_number (said xid message) answer says
 
 -- the status with a number is what is told
 stat_meant : (domain map : List ℕ) (stat : XfrStat) (answer : Result XfrStat ClientFault) → viewed xfr_number answer ≡ Ok (xfr_number stat)
     → told_by query_fault (transfer_told domain map) answer ≡ transfer_told domain map stat
 stat_meant domain map stat (Ok other) is = let same : xfr_number other ≡ xfr_number stat = cc in ap (transfer_told domain map) (one_stat other stat same)
 stat_meant domain map stat (Err fault) is = absurd cc
+
+-- the same of a map that was made
+made_meant : (domain map : List ℕ) (stat : XfrStat) (answer : Result XfrStat ClientFault) → viewed xfr_number answer ≡ Ok (xfr_number stat)
+    → told_by query_fault (making_told domain map) answer ≡ making_told domain map stat
+made_meant domain map stat (Ok other) is = let same : xfr_number other ≡ xfr_number stat = cc in ap (making_told domain map) (one_stat other stat same)
+made_meant domain map stat (Err fault) is = absurd cc
+
+-- the reply to a call that makes a map has the status that is told
+pub response_made : (xid : ℕ) (made : XfrStat) (check : Result MakeJob XfrStat) → reply_made made (make_response xid check) ≡ Some (make_reply xid (made_told made check))
+response_made xid made (Ok job) = refl
+response_made xid made (Err stat) = refl
+
+-- and says it
+pub made_tells : Replies → (maps : Maps) (peer : Peer) (made : XfrStat) (domain map bytes : List ℕ) → AreServed maps → length domain ≤ 64 → length map ≤ 64
+    → MakesReply maps peer made (make_named_call domain map 1) bytes → made_of 1 bytes ≡ Ok (xfr_number (made_told made (make_check maps.catalogue peer domain (Some map))))
+made_tells laws maps peer made domain map bytes served d m replied =
+    let check = make_check maps.catalogue peer domain (Some map) in
+    let is = ap (reply_made made) (laws.make maps peer 1 domain served (omega arith) d map m) ∙ response_made 1 made check in
+    let same : bytes ≡ make_reply 1 (made_told made check) = let e : Some bytes ≡ Some (make_reply 1 (made_told made check)) = sym replied ∙ is in cc in
+    ap (made_of 1) same ∙ (laws.made 1 (made_told made check) (omega arith)).says
 
 -- ---- rows
 
@@ -208,8 +234,8 @@ module _ (laws : Laws) (first second : Maps) (peer : Peer) (domain map stream : 
 
 -- ---- each question
 
-module _ (laws : Laws) (first second : Maps) (peer : Peer) (stream : List ℕ) (outcome : QueryOutcome) (old new : ClientState) (one : AreServed first) (other : AreServed second) (begins : IsFirst old) (told_input : old.wire.input ≡ Some stream) where
-  calls_come : (question : ByteQuestion) → QuestionIsWithin question → GivesReplies first second peer question stream → MakesCalls question outcome old new → IsOutcomeOf (text_told first second peer question) outcome
+module _ (laws : Laws) (first second : Maps) (peer : Peer) (made : XfrStat) (stream : List ℕ) (outcome : QueryOutcome) (old new : ClientState) (one : AreServed first) (other : AreServed second) (begins : IsFirst old) (told_input : old.wire.input ≡ Some stream) where
+  calls_come : (question : ByteQuestion) → QuestionIsWithin question → GivesReplies first second peer made question stream → MakesCalls question outcome old new → IsOutcomeOf (text_told first second peer made question) outcome
   calls_come (Cat domain map) within good makes = rows_come laws first peer (rows_told false) domain map stream outcome old new one within.0 within.1 good begins told_input makes
   calls_come (Catk domain map) within good makes = rows_come laws first peer (rows_told true) domain map stream outcome old new one within.0 within.1 good begins told_input makes
   calls_come (Innetgr domain group host user user_domain) within good makes =
@@ -237,15 +263,20 @@ module _ (laws : Laws) (first second : Maps) (peer : Peer) (stream : List ℕ) (
   calls_come (Pull domain map source) within good makes =
       let stat = stat_told (xfr_check first (pull_request domain map source)) in
       call_means laws.records reply_max 1 stream _ good (pull_call domain map source) xfr_number taken_of (SaysStat taken_of) query_fault (transfer_told domain map) (Ok (xfr_number stat)) (transfer_told domain map stat) outcome old new
-      stat_said fault_passes (stat_meant domain map stat) makes told_input begins.spent begins.xid
+      (says_stat taken_of) fault_passes (stat_meant domain map stat) makes told_input begins.spent begins.xid
       (tells_at_once first peer reply_max (pull_call domain map source 1) (taken_of 1) (Ok (xfr_number stat)) good.reply
       (laws.replies.pull first peer 1 domain one (omega arith) within.0 map within.1 source within.2) good.good.0)
+  calls_come (Make domain map) within good makes =
+      let stat = made_told made (make_check first.catalogue peer domain (Some map)) in
+      call_means laws.records reply_max 1 stream _ good (make_named_call domain map) xfr_number made_of (SaysStat made_of) query_fault (making_told domain map) (Ok (xfr_number stat)) (making_told domain map stat) outcome old new
+      (says_stat made_of) fault_passes (made_meant domain map stat) makes told_input begins.spent begins.xid
+      (made_tells laws.replies first peer made domain map good.reply one within.0 within.1 good.good)
 
 pub calls_are_told : Laws → CallsAreTold
-calls_are_told laws first second peer question stream outcome old new one other within good begins told_input (inl makes) =
-    calls_come laws first second peer stream outcome old new one other begins told_input question within good makes
-calls_are_told laws first second peer question stream outcome old new one other within good begins told_input (inr none) =
-    subst (IsOutcomeOf (text_told first second peer question)) (sym none.0) tt
+calls_are_told laws first second peer made question stream outcome old new one other within good begins told_input (inl makes) =
+    calls_come laws first second peer made stream outcome old new one other begins told_input question within good makes
+calls_are_told laws first second peer made question stream outcome old new one other within good begins told_input (inr none) =
+    subst (IsOutcomeOf (text_told first second peer made question)) (sym none.0) tt
 
 -- ---- the wire that came
 
@@ -270,18 +301,18 @@ none_came peer stream old new came same =
     let both : came.after ≡ came.before = cc in
     omega (arith, ap (λ (w : Wires). length w.came) both, ap length came.came, length-append came.before.came (connected peer (Some stream) came.sent ∷ []))
 
-exchange_told : CallsAreTold → (first second : Maps) (server caller : Peer) (question : ByteQuestion) (stream : List ℕ) (outcome : QueryOutcome) (old new : Dialing) → AreServed first → AreServed second
-    → QuestionIsWithin question → GivesReplies first second caller question stream → HasCome server stream old.past new.past → Exchanges server question outcome old new → IsOutcomeOf (text_told first second caller question) outcome
-exchange_told laws first second server caller question stream outcome old new one other within good came did =
+exchange_told : CallsAreTold → (first second : Maps) (server caller : Peer) (made : XfrStat) (question : ByteQuestion) (stream : List ℕ) (outcome : QueryOutcome) (old new : Dialing) → AreServed first → AreServed second
+    → QuestionIsWithin question → GivesReplies first second caller made question stream → HasCome server stream old.past new.past → Exchanges server (Converses question) outcome old new → IsOutcomeOf (text_told first second caller made question) outcome
+exchange_told laws first second server caller made question stream outcome old new one other within good came did =
     let wire : Connected = connected server did.first.wire.input did.first.wire.output in
     let comes : WireComes wire (Some came.before) did.dialed.middle = subst (λ (w : Option Wires). WireComes wire w did.dialed.middle) came.was did.dialed.comes in
     let back : GoesBack did.last.wire did.dialed.middle (Some came.after) = subst (λ (w : Option Wires). GoesBack did.last.wire did.dialed.middle w) came.is did.dialed.goes_back in
     let same = wire_is wire (connected server (Some stream) came.sent) did.last.wire did.dialed.middle came.before came.after comes back came.came in
-    laws first second caller question stream outcome did.first did.last one other within good did.dialed.begins (ap (λ (d : Connected). d.input) same) did.converses
+    laws first second caller made question stream outcome did.first did.last one other within good did.dialed.begins (ap (λ (d : Connected). d.input) same) did.converses
 
 pub query_prints_told : CallsAreTold → QueryPrintsTold
-query_prints_told laws first second server caller question stream (Err Dial) old new one other within good came asks = absurd (none_came server stream old.dial.past new.dial.past came asks.0.none)
-query_prints_told laws first second server caller question stream (Err fault) old new one other within good came asks =
-    record { outcome = asks.0; comes_to = exchange_told laws first second server caller question stream asks.0 old.dial new.dial one other within good came asks.1; prints = asks.2 }
-query_prints_told laws first second server caller question stream (Ok done) old new one other within good came asks =
-    record { outcome = asks.0; comes_to = exchange_told laws first second server caller question stream asks.0 old.dial new.dial one other within good came asks.1; prints = asks.2 }
+query_prints_told laws first second server caller made question stream (Err Dial) old new one other within good came asks = absurd (none_came server stream old.dial.past new.dial.past came asks.0.none)
+query_prints_told laws first second server caller made question stream (Err fault) old new one other within good came asks =
+    record { outcome = asks.0; comes_to = exchange_told laws first second server caller made question stream asks.0 old.dial new.dial one other within good came asks.1; prints = asks.2 }
+query_prints_told laws first second server caller made question stream (Ok done) old new one other within good came asks =
+    record { outcome = asks.0; comes_to = exchange_told laws first second server caller made question stream asks.0 old.dial new.dial one other within good came asks.1; prints = asks.2 }

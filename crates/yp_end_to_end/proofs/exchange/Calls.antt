@@ -22,9 +22,12 @@ use Rattle.yp_answer.specs.Maps.{Maps}
 use Rattle.yp_answer.specs.Procedures.{programs_on}
 use Rattle.yp_answer.specs.Reply.{arguments_of, value_read, procedure_reply, judged_reply, reply}
 
--- what the head of a call says
+-- what the head of a call says, and of one of YP
+abbrev pub head_of : ℕ → ℕ → ℕ → ℕ → CallHead
+head_of xid prog vers procedure = record { xid = xid; prog = prog; vers = vers; procedure = procedure; flavor = 0; body = 40 }
+
 abbrev pub call_head : ℕ → ℕ → CallHead
-call_head xid procedure = record { xid = xid; prog = program; vers = version; procedure = procedure; flavor = 0; body = 40 }
+call_head xid procedure = head_of xid program version procedure
 
 -- a caller
 abbrev pub caller_of : Path → ℕ → Peer → Caller
@@ -36,9 +39,9 @@ unfolding opaque fixed
 length-called xid prog vers procedure = refl
 
 -- the call is its head and its arguments
-call_is : (kind : Kind) (xid procedure : ℕ) (arguments : Value kind) → call_of kind xid program version procedure arguments ≡ called xid program version procedure ++ spelling kind arguments
-call_is kind xid procedure arguments =
-    sym (append_assoc (spelling front_kind (front xid)) (spelling procedure_kind (heading program version procedure)) (spelling kind arguments))
+call_is : (kind : Kind) (xid prog vers procedure : ℕ) (arguments : Value kind) → call_of kind xid prog vers procedure arguments ≡ called xid prog vers procedure ++ spelling kind arguments
+call_is kind xid prog vers procedure arguments =
+    sym (append_assoc (spelling front_kind (front xid)) (spelling procedure_kind (heading prog vers procedure)) (spelling kind arguments))
 
 -- its arguments are read behind its head
 pub arguments_again : WrittenIsReadAgain → (kind : Kind) (arguments : Value kind) → Fits kind arguments
@@ -48,13 +51,14 @@ arguments_again law kind arguments fits =
     ∙ ap value_read (law kind arguments (spelling kind arguments) [] 0 (record { fits = fits; spelled = refl }))
 
 -- the reply to a call is that of its procedure to its arguments
-pub reply_to_call : CallIsHeardAgain → (path : Path) (maps : Maps) (peer : Peer) (kind : Kind) (xid number : ℕ) (arguments : Value kind) (procedure : Procedure) → IsWord xid → IsWord number
-    → admitted (programs_on path) (call_head xid number) ≡ Ok procedure
-    → reply path maps peer (call_of kind xid program version number arguments) ≡ procedure_reply maps (caller_of path xid peer) procedure (spelling kind arguments)
-reply_to_call law path maps peer kind xid number arguments procedure x n is =
-    let head = called xid program version number in
+pub reply_to_call : CallIsHeardAgain → (path : Path) (maps : Maps) (peer : Peer) (kind : Kind) (xid prog vers number : ℕ) (arguments : Value kind) (procedure : Procedure)
+    → IsWord xid → IsWord prog → IsWord vers → IsWord number
+    → admitted (programs_on path) (head_of xid prog vers number) ≡ Ok procedure
+    → reply path maps peer (call_of kind xid prog vers number arguments) ≡ procedure_reply maps (caller_of path xid peer) procedure (spelling kind arguments)
+reply_to_call law path maps peer kind xid prog vers number arguments procedure x p v n is =
+    let head = called xid prog vers number in
     let bytes = spelling kind arguments in
-    ap (λ (message : List ℕ). reply path maps peer message) (call_is kind xid number arguments)
-    ∙ ap (λ (h : Heard). judged_reply path maps peer (head ++ bytes) (judged_heard (programs_on path) h)) (law xid program version number bytes x (omega arith) (omega arith) n)
-    ∙ ap (λ (a : Result Procedure ReplyHead). judged_reply path maps peer (head ++ bytes) (judged_call (call_head xid number) a)) is
-    ∙ ap (λ (rest : List ℕ). procedure_reply maps (caller_of path xid peer) procedure rest) (drop_at head bytes 40 (length-called xid program version number))
+    ap (λ (message : List ℕ). reply path maps peer message) (call_is kind xid prog vers number arguments)
+    ∙ ap (λ (h : Heard). judged_reply path maps peer (head ++ bytes) (judged_heard (programs_on path) h)) (law xid prog vers number bytes x p v n)
+    ∙ ap (λ (a : Result Procedure ReplyHead). judged_reply path maps peer (head ++ bytes) (judged_call (head_of xid prog vers number) a)) is
+    ∙ ap (λ (rest : List ℕ). procedure_reply maps (caller_of path xid peer) procedure rest) (drop_at head bytes 40 (length-called xid prog vers number))

@@ -12,11 +12,12 @@ use Rattle.yp_client.specs.declared.fault.ClientFault.TheVariants.{Yp, Rows, NoM
 use Rattle.yp_client.specs.Limits.{reply_max, all_max}
 use Rattle.std.proofs.Common.{ℤ}
 use Rattle.yp_messages.specs.Transfers.{xfr_number}
-use Rattle.yp_client.specs.Results.{value_of, master_of, order_of, maps_of, taken_of}
+use Rattle.yp_client.specs.Results.{value_of, master_of, order_of, maps_of, taken_of, made_of}
+use Rattle.yp_messages.specs.declared.transfer.XfrStat.{XfrStat}
 use Rattle.yp_client.specs.All.{AllSaid, all_said}
 use Rattle.yp_client.specs.Asked.{all_call, match_call, master_call, order_call, maplist_call, pull_request, pull_call}
 use Rattle.yp_client.specs.declared.question.Question.TheVariants.{Cat, Catk, Match, Which, Poll, Maps as MapsOf}
-use Rattle.yp_client.specs.declared.question.Question.TheVariants.{Innetgr, Pull}
+use Rattle.yp_client.specs.declared.question.Question.TheVariants.{Innetgr, Pull, Make}
 use Rattle.yp_client.specs.query.Lines.{line, lines, standing_text}
 use Rattle.yp_client.specs.query.Faults.{query_fault, match_fault}
 use Rattle.yp_version.specs.Rows.{Row}
@@ -33,7 +34,7 @@ use Rattle.yp_end_to_end.specs.exchange.Answered.{standing_told, text_told}
 use Rattle.yp_end_to_end.specs.inside.exchange.Answered.{GivesReply, GivesStanding, GivesReplies, HasText}
 use Rattle.yp_end_to_end.specs.inside.exchange.QueryLaws.{ToldIsAnswered}
 use Rattle.yp_end_to_end.proofs.exchange.Queries.{tells_at_once, tells_of}
-use Rattle.yp_end_to_end.proofs.exchange.Asking.{Replies, no_rows_room}
+use Rattle.yp_end_to_end.proofs.exchange.Asking.{Replies, no_rows_room, made_tells}
 
 -- ---- what has a text
 
@@ -77,7 +78,7 @@ there (Err stat) ok = absurd cc
 given : (limit : ℕ) (stream : List ℕ) (P Q : List ℕ → List ℕ → Type 0) (good : BeginsWithReply limit stream P) → Q good.reply good.rest → BeginsWithReply limit stream Q
 given limit stream P Q good holds = record { reply = good.reply; bytes = good.bytes; rest = good.rest; fragments = good.fragments; whole = good.whole; good = holds }
 
-module _ (laws : Replies) (first second : Maps) (peer : Peer) (stream : List ℕ) (one : AreServed first) (other : AreServed second) where
+module _ (laws : Replies) (first second : Maps) (peer : Peer) (made : XfrStat) (stream : List ℕ) (one : AreServed first) (other : AreServed second) where
   rows_answered : (means : List Row → QueryOutcome) (domain map : List ℕ) → length domain ≤ 64 → length map ≤ 64 → GivesReply first peer all_max (all_call domain map 1) stream (λ rest. ⊤)
       → HasText (told_by query_fault means (told (of_version all_in (row_check first peer.port domain map))))
       → BeginsWithReply all_max stream (λ reply rest. (all_said no_rows 1 reply).end ≡ Ok tt)
@@ -104,7 +105,7 @@ module _ (laws : Replies) (first second : Maps) (peer : Peer) (stream : List ℕ
         given reply_max good.rest _ (λ second end. IsOk (master_of 2 second)) behind (subst (λ (said : Result (List ℕ) ClientFault). IsOk said) (sym then) ok.1),
       )
 
-  answered : (question : ByteQuestion) → QuestionIsWithin question → GivesReplies first second peer question stream → HasText (text_told first second peer question) → HasAnswer question stream
+  answered : (question : ByteQuestion) → QuestionIsWithin question → GivesReplies first second peer made question stream → HasText (text_told first second peer made question) → HasAnswer question stream
   answered (Cat domain map) within good has = rows_answered (rows_told false) domain map within.0 within.1 good has
   answered (Catk domain map) within good has = rows_answered (rows_told true) domain map within.0 within.1 good has
   answered (Innetgr domain group host user user_domain) within good has =
@@ -130,6 +131,9 @@ module _ (laws : Replies) (first second : Maps) (peer : Peer) (stream : List ℕ
       let says = tells_at_once first peer reply_max (pull_call domain map source 1) (taken_of 1) expected good.reply
       (laws.pull first peer 1 domain one (omega arith) within.0 map within.1 source within.2) good.good.0 in
       given reply_max stream _ (λ reply rest. IsOk (taken_of 1 reply)) good (subst (λ (said : Result ℤ ClientFault). IsOk said) (sym says) refl)
+  answered (Make domain map) within good has =
+      let says = made_tells laws first peer made domain map good.reply one within.0 within.1 good.good in
+      given reply_max stream _ (λ reply rest. IsOk (made_of 1 reply)) good (subst (λ (said : Result ℤ ClientFault). IsOk said) (sym says) refl)
 
 pub told_is_answered : Replies → ToldIsAnswered
-told_is_answered laws first second peer question stream one other within good has = answered laws first second peer stream one other question within good has
+told_is_answered laws first second peer made question stream one other within good has = answered laws first second peer made stream one other question within good has

@@ -15,29 +15,30 @@ use Rattle.yp_messages.specs.Numbers.{program, version, domain_procedure, match_
 use Rattle.yp_messages.specs.Messages.{req_domain, req_nokey, req_key, resp_val, key_val, resp_master, resp_order}
 use Rattle.yp_messages.specs.MapLists.{map_list}
 use Rattle.yp_messages.specs.declared.transfer.XfrStat.{XfrStat}
-use Rattle.yp_messages.specs.Transfers.{req_xfr}
-use Rattle.yp_messages.specs.Numbers.{xfr_procedure}
+use Rattle.yp_messages.specs.Transfers.{xfr_number, req_xfr}
+use Rattle.yp_messages.specs.Numbers.{xfr_procedure, make_program, make_version, make_named_procedure}
 use Rattle.yp_board.specs.Catalogues.{serves}
 use Rattle.yp_client.specs.Limits.{reply_max}
 use Rattle.yp_client.specs.Asked.{pull_request}
 use Rattle.yp_answer.specs.declared.procedure.Path.{Path}
 use Rattle.yp_answer.specs.declared.procedure.Path.TheVariants.{Stream}
 use Rattle.yp_answer.specs.declared.procedure.Procedure.{Procedure}
-use Rattle.yp_answer.specs.declared.procedure.Procedure.TheVariants.{Domain, Match, First, Next, Master, Order, Maplist, Xfr}
+use Rattle.yp_answer.specs.declared.procedure.Procedure.TheVariants.{Domain, Match, First, Next, Master, Order, Maplist, Xfr, MakeNamed}
 use Rattle.yp_answer.specs.Maps.{Maps, map_check, row_check}
 use Rattle.yp_answer.specs.Procedures.{programs_on}
 use Rattle.yp_answer.specs.Results.{no_value, no_row, matched, first_row, next_row, mastered, ordered, maps_listed}
 use Rattle.yp_answer.specs.Reply.{Response, Bytes, success, look_up, with_arguments, procedure_reply, arguments_of, reply}
-use Rattle.yp_answer.specs.Reply.{reply_at_once, xfr_reply, xfr_response}
+use Rattle.yp_answer.specs.Reply.{reply_at_once, xfr_reply, xfr_response, make_reply, make_response}
+use Rattle.yp_answer.specs.Make.{make_check}
 use Rattle.yp_answer.specs.Transfer.{XfrRequest, asked_transid, xfr_check}
 use Rattle.yp_end_to_end.specs.exchange.Told.{stat_told}
 use Rattle.yp_end_to_end.specs.inside.exchange.Laws.{DomainTells, MatchTells, FirstTells, NextTells, MasterTells}
-use Rattle.yp_end_to_end.specs.inside.exchange.Laws.{OrderTells, MaplistTells, PullTells}
+use Rattle.yp_end_to_end.specs.inside.exchange.Laws.{OrderTells, MaplistTells, PullTells, MakeHasResponse, MakeTells}
 use Rattle.yp_end_to_end.proofs.exchange.Sound.{map_sound, row_sound}
-use Rattle.yp_end_to_end.proofs.exchange.Calls.{call_head, caller_of, reply_to_call, arguments_again}
+use Rattle.yp_end_to_end.proofs.exchange.Calls.{head_of, call_head, caller_of, reply_to_call, arguments_again}
 use Rattle.yp_end_to_end.proofs.exchange.Found.{matched_said, matched_short, FitsRow, first_said, first_fits, next_said, next_fits, master_said, mastered_short, order_said}
 use Rattle.yp_end_to_end.proofs.exchange.Names.{names_within, names_said, served_said}
-use Rattle.yp_end_to_end.proofs.exchange.Transfers.{taken_said}
+use Rattle.yp_end_to_end.proofs.exchange.Transfers.{taken_said, made_said}
 use Rattle.yp_end_to_end.proofs.exchange.Lengths.{opaque_short, length-success}
 
 -- arguments within their limits
@@ -51,14 +52,22 @@ pub key_fits : (domain map key : List ℕ) → length domain ≤ name_max → le
 key_fits domain map key d m k = (domain_fits domain d, (domain_fits map m, (k, omega (arith, k))))
 
 -- what a procedure makes of arguments that were written is the reply to the call
+replied_by : WrittenIsReadAgain → CallIsHeardAgain → (path : Path) (maps : Maps) (peer : Peer) (kind : Kind) (xid prog vers number : ℕ) (arguments : Value kind) (procedure : Procedure) (reply_to : Value kind → Response)
+    → IsWord xid → IsWord prog → IsWord vers → IsWord number → admitted (programs_on path) (head_of xid prog vers number) ≡ Ok procedure → Fits kind arguments
+    → procedure_reply maps (caller_of path xid peer) procedure (spelling kind arguments) ≡ with_arguments xid (arguments_of kind (spelling kind arguments)) reply_to
+    → reply path maps peer (call_of kind xid prog vers number arguments) ≡ reply_to arguments
+replied_by law calls path maps peer kind xid prog vers number arguments procedure reply_to x p v n is fits by =
+    reply_to_call calls path maps peer kind xid prog vers number arguments procedure x p v n is
+    ∙ by
+    ∙ ap (λ (read : Result (Value kind) XdrFault). with_arguments xid read reply_to) (arguments_again law kind arguments fits)
+
+-- of a procedure of YP
 pub replied_to : WrittenIsReadAgain → CallIsHeardAgain → (path : Path) (maps : Maps) (peer : Peer) (kind : Kind) (xid number : ℕ) (arguments : Value kind) (procedure : Procedure) (reply_to : Value kind → Response)
     → IsWord xid → IsWord number → admitted (programs_on path) (call_head xid number) ≡ Ok procedure → Fits kind arguments
     → procedure_reply maps (caller_of path xid peer) procedure (spelling kind arguments) ≡ with_arguments xid (arguments_of kind (spelling kind arguments)) reply_to
     → reply path maps peer (call_of kind xid program version number arguments) ≡ reply_to arguments
 replied_to law calls path maps peer kind xid number arguments procedure reply_to x n is fits by =
-    reply_to_call calls path maps peer kind xid number arguments procedure x n is
-    ∙ by
-    ∙ ap (λ (read : Result (Value kind) XdrFault). with_arguments xid read reply_to) (arguments_again law kind arguments fits)
+    replied_by law calls path maps peer kind xid program version number arguments procedure reply_to x (omega arith) (omega arith) n is fits by
 
 pub domain_tells : WrittenIsReadAgain → CallIsHeardAgain → DomainTells
 domain_tells law calls maps peer xid domain served x d = record {
@@ -164,3 +173,14 @@ pull_tells law calls maps peer xid domain served x d map m source s =
       within = omega arith;
       says = taken_said law xid stat x;
     }
+
+pub make_has_response : WrittenIsReadAgain → CallIsHeardAgain → MakeHasResponse
+make_has_response law calls maps peer xid domain served x d map m =
+    replied_by law calls Stream maps peer req_nokey xid make_program make_version make_named_procedure (domain, map) MakeNamed
+    (λ asked. make_response xid (make_check maps.catalogue peer asked.0 (Some asked.1))) x (omega arith) (omega arith) (omega arith) refl (map_fits domain map d m) refl
+
+pub make_tells : WrittenIsReadAgain → MakeTells
+make_tells law xid stat x = record {
+  within = omega arith;
+  says = made_said law xid stat x;
+}

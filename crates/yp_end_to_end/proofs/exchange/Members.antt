@@ -22,6 +22,6 @@ by_value false is law = record {
 }
 
 pub membership_is_told : MembershipIsDecided → MembershipIsTold
-membership_is_told law first second caller domain group asked version held =
+membership_is_told law first second caller made domain group asked version held =
     subst (λ (shown : Result MapVersion YpStat). TellsWhether (IsMember version.rows group asked) (told_by query_fault (membership_told group asked) (told (of_version all_in shown))))
     (sym held) (by_value (is_member version.rows group asked) _ (law version.rows group asked))

@@ -1,11 +1,13 @@
 -- The law of a server that answers the calls of a question in turn.
-use Rattle.std.proofs.Common.{◌≡◌, ℕ, ◌≤◌, List, [], ◌∷◌, ◌++◌, length, Some, Result, Ok, Err, refl, sym, ap, ◌∙◌, subst, arith, append_assoc, All}
+use Rattle.std.proofs.Common.{◌≡◌, ℕ, ◌≤◌, List, [], ◌∷◌, ◌++◌, length, Option, Some, Result, Ok, Err, refl, sym, ap, ◌∙◌, subst, arith, append_assoc, All}
 use Rattle.std.specs.Prelude.{⊤, IsOk}
 use Rattle.std.proofs.lemmas.List.{append-nil}
 use Rattle.std.proofs.lemmas.List.Elements.{All-nil, All-cons, All-head, All-tail}
 use Rattle.yp_io.specs.declared.stream.Peer.{Peer}
 use Rattle.yp_rpc.specs.Records.{sent}
 use Rattle.yp_messages.specs.declared.stat.YpStat.{YpStat}
+use Rattle.yp_messages.specs.declared.transfer.XfrStat.{XfrStat}
+use Rattle.yp_messages.specs.declared.transfer.XfrStat.TheVariants.{Succ}
 use Rattle.yp_version.specs.Versions.{MapVersion, IsVersion}
 use Rattle.yp_board.specs.Catalogues.{Catalogue}
 use Rattle.yp_board.specs.Logs.{Log}
@@ -14,26 +16,32 @@ use Rattle.yp_client.specs.declared.fault.ClientFault.{ClientFault}
 use Rattle.yp_client.specs.Limits.{reply_max, all_max}
 use Rattle.yp_client.specs.Results.{value_of, master_of, order_of, maps_of, taken_of}
 use Rattle.yp_client.specs.All.{all_said}
-use Rattle.yp_client.specs.Asked.{all_call, match_call, master_call, order_call, maplist_call, pull_request, pull_call}
+use Rattle.yp_client.specs.Asked.{all_call, match_call, master_call, order_call, maplist_call, pull_request, pull_call, make_named_call}
 use Rattle.yp_messages.specs.Transfers.{xfr_number}
 use Rattle.yp_client.specs.declared.question.Question.TheVariants.{Cat, Catk, Match, Which, Poll, Maps as MapsOf}
-use Rattle.yp_client.specs.declared.question.Question.TheVariants.{Innetgr, Pull}
+use Rattle.yp_client.specs.declared.question.Question.TheVariants.{Innetgr, Pull, Make}
 use Rattle.yp_client.specs.query.Asked.{no_rows, netgroup}
 use Rattle.yp_client.specs.Questions.{ByteQuestion}
 use Rattle.yp_client.specs.inside.Questions.{QuestionIsWithin}
 use Rattle.yp_answer.specs.Maps.{Maps, map_check, row_check}
 use Rattle.yp_answer.specs.Transfer.{xfr_check}
+use Rattle.yp_answer.specs.declared.make.MakeJob.{MakeJob}
+use Rattle.yp_answer.specs.declared.procedure.Path.TheVariants.{Stream}
+use Rattle.yp_answer.specs.Make.{make_check}
+use Rattle.yp_answer.specs.Reply.{Response, Silence, Bytes, Takes, Open, reply, reply_at_once, make_reply, make_response}
+use Rattle.yp_answer.specs.session.LogRuns.{Gets}
 use Rattle.yp_answer.specs.Served.{AreServed, maps_on}
-use Rattle.yp_end_to_end.specs.exchange.Told.{told, of_version, value_in, order_in, master_in, names_in, stat_told}
+use Rattle.yp_end_to_end.specs.exchange.Told.{told, of_version, value_in, order_in, master_in, names_in, stat_told, made_told}
 use Rattle.yp_end_to_end.specs.inside.exchange.Told.{all_told}
-use Rattle.yp_end_to_end.specs.inside.exchange.Served.{ReplyTells, RepliesWith, RepliesTelling}
+use Rattle.yp_end_to_end.specs.inside.exchange.Served.{ReplyTells, RepliesWith, RepliesTelling, reply_made, MakesReply}
+use Rattle.yp_client.specs.query.Complete.{BeginsWithReply}
 use Rattle.yp_end_to_end.specs.inside.exchange.Answered.{GivesReply, GivesReplies}
-use Rattle.yp_end_to_end.specs.exchange.Runs.{sent_all, behind_order, calls_made}
+use Rattle.yp_end_to_end.specs.exchange.Runs.{sent_all, behind_order, calls_made, JobHasCause, MadeHasCause}
 use Rattle.yp_end_to_end.specs.inside.exchange.Runs.{RepliesInTurn}
 use Rattle.yp_end_to_end.specs.inside.exchange.QueryLaws.{QueryPrintsTold, RunIsPrinted}
 use Rattle.yp_end_to_end.proofs.exchange.Sent.{sent_is_whole}
 use Rattle.yp_end_to_end.proofs.exchange.Queries.{at_once, tells_of}
-use Rattle.yp_end_to_end.proofs.exchange.Asking.{Replies, no_rows_room}
+use Rattle.yp_end_to_end.proofs.exchange.Asking.{Replies, no_rows_room, response_made}
 
 -- what the replies to the calls say, and what a question prints
 pub record Laws : Type 0 where
@@ -64,7 +72,21 @@ run_front : (catalogue : Catalogue) (peer : Peer) (calls replies : List (List �
 run_front catalogue peer [] [] old new run = run
 run_front catalogue peer [] (bytes ∷ replies) old new run = absurd run
 run_front catalogue peer (call ∷ calls) [] old new run = absurd run
-run_front catalogue peer (call ∷ calls) (bytes ∷ replies) old new run = front_then old run.0 new run.1 (run_front catalogue peer calls replies run.0 new run.3)
+run_front catalogue peer (call ∷ calls) (bytes ∷ replies) old new run =
+    front_then old run.0 new run.2 (front_then run.0 run.1 new run.3 (run_front catalogue peer calls replies run.1 new run.5))
+
+-- a reply at once is what a record got
+pub gets_bytes : (catalogue : Catalogue) (response : Response) (bytes : List ℕ) (answer : Option (List ℕ)) (log next : Log) → reply_at_once response ≡ Some bytes → Gets catalogue response answer log next → answer ≡ Some bytes
+gets_bytes catalogue Silence bytes answer log next is gets = absurd cc
+gets_bytes catalogue (Bytes reply) bytes answer log next is gets = gets ∙ is
+gets_bytes catalogue (Takes reply taken) bytes answer log next is gets = gets ∙ is
+gets_bytes catalogue (Open xid job) bytes answer log next is gets = absurd cc
+
+-- so it is the reply that went out at once, where there is one
+got_at_once : {V : Type 0} (catalogue : Catalogue) (peer : Peer) (limit : ℕ) (call : List ℕ) (said : List ℕ → V) (expected : V) (bytes : List ℕ) (log next : Log)
+    → RepliesTelling (maps_on catalogue log) peer limit call said expected → Gets catalogue (reply Stream (maps_on catalogue log) peer call) (Some bytes) log next → RepliesWith (maps_on catalogue log) peer call bytes
+got_at_once catalogue peer limit call said expected bytes log next tells got =
+    tells.replied ∙ sym (gets_bytes catalogue (reply Stream (maps_on catalogue log) peer call) tells.bytes (Some bytes) log next tells.replied got)
 
 -- ---- one reply
 
@@ -84,27 +106,33 @@ sent_gives maps peer limit call said expected bytes replies rest P tells replied
 
 -- ---- a question of one call
 
--- the one call was answered on a log between the old one and the new one, and its reply was sent
+-- the one call was answered on a log between the old one and the new one, which then was a next one, and its reply was
+-- sent
 record AnsweredOnce (catalogue : Catalogue) (peer : Peer) (call : List ℕ) (replies : List (List ℕ)) (old new : Log) : Type 0 where
   bytes : List ℕ
   log : Log
+  next : Log
   begins : IsFront old log
+  goes_on : IsFront log next
+  behind : IsFront next new
   ends : IsFront log new
-  replied : RepliesWith (maps_on catalogue log) peer call bytes
+  got : Gets catalogue (reply Stream (maps_on catalogue log) peer call) (Some bytes) log next
   one : replies ≡ bytes ∷ []
 
 answered_once : (catalogue : Catalogue) (peer : Peer) (call : List ℕ) (replies : List (List ℕ)) (old new : Log) → RepliesInTurn catalogue peer (call ∷ []) replies old new
     → AnsweredOnce catalogue peer call replies old new
 answered_once catalogue peer call [] old new run = absurd run
-answered_once catalogue peer call (bytes ∷ []) old new run = record { bytes = bytes; log = run.0; begins = run.1; ends = run.3; replied = run.2; one = refl }
-answered_once catalogue peer call (bytes ∷ other ∷ replies) old new run = absurd run.3
+answered_once catalogue peer call (bytes ∷ []) old new run =
+    record { bytes = bytes; log = run.0; next = run.1; begins = run.2; goes_on = run.3; behind = run.5; ends = front_then run.0 run.1 new run.3 run.5; got = run.4; one = refl }
+answered_once catalogue peer call (bytes ∷ other ∷ replies) old new run = absurd run.5
 
 gives_telling : {V : Type 0} (catalogue : Catalogue) (peer : Peer) (limit : ℕ) (call : List ℕ) (said : List ℕ → V) (expected : V) (replies : List (List ℕ)) (rest : List ℕ) (old new : Log)
     (once : AnsweredOnce catalogue peer call replies old new) → RepliesTelling (maps_on catalogue once.log) peer limit call said expected
     → GivesReply (maps_on catalogue once.log) peer limit call (sent_all replies ++ rest) (λ behind. ⊤)
 gives_telling catalogue peer limit call said expected replies rest old new once tells =
     subst (λ (all : List (List ℕ)). GivesReply (maps_on catalogue once.log) peer limit call (sent_all all ++ rest) (λ behind. ⊤)) (sym once.one)
-    (sent_gives (maps_on catalogue once.log) peer limit call said expected once.bytes [] rest (λ behind. ⊤) tells once.replied tt)
+    (sent_gives (maps_on catalogue once.log) peer limit call said expected once.bytes [] rest (λ behind. ⊤) tells
+    (got_at_once catalogue peer limit call said expected once.bytes once.log once.next tells once.got) tt)
 
 gives_once : {V : Type 0} (catalogue : Catalogue) (peer : Peer) (limit : ℕ) (call : List ℕ) (said : List ℕ → V) (expected : V) (replies : List (List ℕ)) (rest : List ℕ) (old new : Log)
     (once : AnsweredOnce catalogue peer call replies old new) → ReplyTells (maps_on catalogue once.log) peer limit call said expected
@@ -145,20 +173,34 @@ second_given laws catalogue peer domain map held (Err fault) (bytes ∷ replies)
 
 -- ---- each question
 
--- the wire gives the replies, on two logs between these two
+-- the wire gives the replies, on two logs between these two, and of a map that was made between them
 record AnswersBetween (catalogue : Catalogue) (peer : Peer) (question : ByteQuestion) (stream : List ℕ) (old new : Log) : Type 0 where
   first : Log
   second : Log
   begins : IsFront old first
   grows : IsFront first second
   ends : IsFront second new
-  answers : GivesReplies (maps_on catalogue first) (maps_on catalogue second) peer question stream
+  made : XfrStat
+  caused : MadeHasCause catalogue peer question made first second
+  answers : GivesReplies (maps_on catalogue first) (maps_on catalogue second) peer made question stream
 
--- one call is answered on one log
+-- one call that makes no map is answered on one log
 once_between : (catalogue : Catalogue) (peer : Peer) (question : ByteQuestion) (call stream : List ℕ) (replies : List (List ℕ)) (old new : Log) (once : AnsweredOnce catalogue peer call replies old new)
-    → GivesReplies (maps_on catalogue once.log) (maps_on catalogue once.log) peer question stream → AnswersBetween catalogue peer question stream old new
-once_between catalogue peer question call stream replies old new once answers =
-    record { first = once.log; second = once.log; begins = once.begins; grows = front_same once.log; ends = once.ends; answers = answers }
+    → MadeHasCause catalogue peer question Succ once.log once.log → GivesReplies (maps_on catalogue once.log) (maps_on catalogue once.log) peer Succ question stream → AnswersBetween catalogue peer question stream old new
+once_between catalogue peer question call stream replies old new once caused answers =
+    record { first = once.log; second = once.log; begins = once.begins; grows = front_same once.log; ends = once.ends; made = Succ; caused = caused; answers = answers }
+
+-- what a call of the make program got is a reply with the status that refuses it, or with that of the map
+record MadeBy (catalogue : Catalogue) (check : Result MakeJob XfrStat) (bytes : List ℕ) (log next : Log) : Type 0 where
+  made : XfrStat
+  caused : JobHasCause catalogue check made log next
+  is : bytes ≡ make_reply 1 (made_told made check)
+
+made_by : (catalogue : Catalogue) (check : Result MakeJob XfrStat) (bytes : List ℕ) (log next : Log) → Gets catalogue (make_response 1 check) (Some bytes) log next → MadeBy catalogue check bytes log next
+made_by catalogue (Err stat) bytes log next got =
+    record { made = stat; caused = tt; is = let e : Some bytes ≡ Some (make_reply 1 stat) = got in cc }
+made_by catalogue (Ok job) bytes log next got =
+    record { made = got.0; caused = (got.2, got.3); is = let e : Some bytes ≡ Some (make_reply 1 got.0) = got.1 in cc }
 
 module _ (laws : Laws) (catalogue : Catalogue) (peer : Peer) (rest : List ℕ) (old new : Log) (served : AreServed (maps_on catalogue new)) where
   -- the replies to ALL, which `cat` and `catk` ask for
@@ -175,41 +217,65 @@ module _ (laws : Laws) (catalogue : Catalogue) (peer : Peer) (rest : List ℕ) (
       → AnswersBetween catalogue peer question (sent_all replies ++ rest) old new
   run_answers (Cat domain map) replies within run =
       let once = answered_once catalogue peer (all_call domain map 1) replies old new run in
-      once_between catalogue peer (Cat domain map) (all_call domain map 1) _ replies old new once (all_given domain map replies within.0 within.1 once)
+      once_between catalogue peer (Cat domain map) (all_call domain map 1) _ replies old new once tt (all_given domain map replies within.0 within.1 once)
   run_answers (Catk domain map) replies within run =
       let once = answered_once catalogue peer (all_call domain map 1) replies old new run in
-      once_between catalogue peer (Catk domain map) (all_call domain map 1) _ replies old new once (all_given domain map replies within.0 within.1 once)
+      once_between catalogue peer (Catk domain map) (all_call domain map 1) _ replies old new once tt (all_given domain map replies within.0 within.1 once)
   run_answers (Innetgr domain group host user user_domain) replies within run =
       let once = answered_once catalogue peer (all_call domain netgroup 1) replies old new run in
-      once_between catalogue peer (Innetgr domain group host user user_domain) (all_call domain netgroup 1) _ replies old new once (all_given domain netgroup replies within (omega arith) once)
+      once_between catalogue peer (Innetgr domain group host user user_domain) (all_call domain netgroup 1) _ replies old new once tt (all_given domain netgroup replies within (omega arith) once)
   run_answers (Match domain map key) replies within run =
       let call = match_call domain map key 1 in
       let once = answered_once catalogue peer call replies old new run in
       let maps = maps_on catalogue once.log in
-      once_between catalogue peer (Match domain map key) call _ replies old new once
+      once_between catalogue peer (Match domain map key) call _ replies old new once tt
       (gives_once catalogue peer reply_max call (value_of 1) (told (of_version (value_in key) (row_check maps peer.port domain map))) replies rest old new once
       (laws.replies.value maps peer 1 domain (served_before catalogue once.log new once.ends served) (omega arith) within.0 map within.1 key within.2))
   run_answers (Which domain map) replies within run =
       let call = master_call domain map 1 in
       let once = answered_once catalogue peer call replies old new run in
       let maps = maps_on catalogue once.log in
-      once_between catalogue peer (Which domain map) call _ replies old new once
+      once_between catalogue peer (Which domain map) call _ replies old new once tt
       (gives_once catalogue peer reply_max call (master_of 1) (told (of_version master_in (map_check maps domain map))) replies rest old new once
       (laws.replies.master maps peer 1 domain (served_before catalogue once.log new once.ends served) (omega arith) within.0 map within.1))
   run_answers (MapsOf domain) replies within run =
       let call = maplist_call domain 1 in
       let once = answered_once catalogue peer call replies old new run in
       let maps = maps_on catalogue once.log in
-      once_between catalogue peer (MapsOf domain) call _ replies old new once
+      once_between catalogue peer (MapsOf domain) call _ replies old new once tt
       (gives_once catalogue peer reply_max call (maps_of 1) (told (names_in maps domain)) replies rest old new once
       (laws.replies.names maps peer 1 domain (served_before catalogue once.log new once.ends served) (omega arith) within))
   run_answers (Pull domain map source) replies within run =
       let call = pull_call domain map source 1 in
       let once = answered_once catalogue peer call replies old new run in
       let maps = maps_on catalogue once.log in
-      once_between catalogue peer (Pull domain map source) call _ replies old new once
+      once_between catalogue peer (Pull domain map source) call _ replies old new once tt
       (gives_telling catalogue peer reply_max call (taken_of 1) (Ok (xfr_number (stat_told (xfr_check maps (pull_request domain map source))))) replies rest old new once
       (laws.replies.pull maps peer 1 domain (served_before catalogue once.log new once.ends served) (omega arith) within.0 map within.1 source within.2))
+  run_answers (Make domain map) replies within run =
+      let call = make_named_call domain map 1 in
+      let once = answered_once catalogue peer call replies old new run in
+      let maps = maps_on catalogue once.log in
+      let check = make_check catalogue peer domain (Some map) in
+      let is : reply Stream maps peer call ≡ make_response 1 check = laws.replies.make maps peer 1 domain (served_before catalogue once.log new once.ends served) (omega arith) within.0 map within.1 in
+      let by = made_by catalogue check once.bytes once.log once.next (subst (λ (r : Response). Gets catalogue r (Some once.bytes) once.log once.next) is once.got) in
+      record {
+        first = once.log;
+        second = once.next;
+        begins = once.begins;
+        grows = once.goes_on;
+        ends = once.behind;
+        made = by.made;
+        caused = by.caused;
+        answers = subst (λ (all : List (List ℕ)). BeginsWithReply reply_max (sent_all all ++ rest) (λ bytes behind. MakesReply maps peer by.made call bytes)) (sym once.one) (record {
+          reply = once.bytes;
+          bytes = sent once.bytes;
+          rest = sent_all [] ++ rest;
+          fragments = sent_is_whole reply_max once.bytes (subst (λ (b : List ℕ). length b ≤ reply_max) (sym by.is) (laws.replies.made 1 (made_told by.made check) (omega arith)).within);
+          whole = append_assoc (sent once.bytes) (sent_all []) rest;
+          good = ap (reply_made by.made) is ∙ response_made 1 by.made check ∙ ap (λ (b : List ℕ). Some b) (sym by.is);
+        });
+      }
   run_answers (Poll domain map) [] within run = absurd run
   run_answers (Poll domain map) (bytes ∷ replies) within run =
       let call = order_call domain map 1 in
@@ -217,19 +283,23 @@ module _ (laws : Laws) (catalogue : Catalogue) (peer : Peer) (rest : List ℕ) (
       let maps = maps_on catalogue mid in
       let held = map_check maps domain map in
       let told_order = told (of_version order_in held) in
-      let middle = run_front catalogue peer (behind_order (master_call domain map 2) (order_of 1 bytes)) replies mid new run.3 in
+      let next = run.1 in
+      let middle = front_then mid next new run.3 (run_front catalogue peer (behind_order (master_call domain map 2) (order_of 1 bytes)) replies next new run.5) in
       let tells = laws.replies.order maps peer 1 domain (served_before catalogue mid new middle served) (omega arith) within.0 map within.1 in
-      let says : order_of 1 bytes ≡ told_order = tells_of maps peer reply_max call (order_of 1) told_order bytes tells run.2 in
-      let second = second_given laws catalogue peer domain map held (order_of 1 bytes) replies rest mid new served within.0 within.1 says run.3 in
+      let replied = got_at_once catalogue peer reply_max call (order_of 1) told_order bytes mid next (at_once maps peer reply_max call (order_of 1) told_order tells) run.4 in
+      let says : order_of 1 bytes ≡ told_order = tells_of maps peer reply_max call (order_of 1) told_order bytes tells replied in
+      let second = second_given laws catalogue peer domain map held (order_of 1 bytes) replies rest next new served within.0 within.1 says run.5 in
       record {
         first = mid;
         second = second.log;
-        begins = run.1;
-        grows = second.begins;
+        begins = run.2;
+        grows = front_then mid next second.log run.3 second.begins;
         ends = second.ends;
+        made = Succ;
+        caused = tt;
         answers = sent_gives maps peer reply_max call (order_of 1) told_order bytes replies rest
             (λ behind. IsOk held → GivesReply (maps_on catalogue second.log) peer reply_max (master_call domain map 2) behind (λ end. ⊤))
-            (at_once maps peer reply_max call (order_of 1) told_order tells) run.2 second.gives;
+            (at_once maps peer reply_max call (order_of 1) told_order tells) replied second.gives;
       }
 
 pub run_is_printed : Laws → RunIsPrinted
@@ -242,6 +312,8 @@ run_is_printed laws catalogue server caller question replies rest before after r
       begins = between.begins;
       grows = between.grows;
       ends = between.ends;
-      printed = laws.prints (maps_on catalogue between.first) (maps_on catalogue between.second) server caller question (sent_all replies ++ rest) result old new
+      made = between.made;
+      caused = between.caused;
+      printed = laws.prints (maps_on catalogue between.first) (maps_on catalogue between.second) server caller between.made question (sent_all replies ++ rest) result old new
           (served_before catalogue between.first after one served) (served_before catalogue between.second after between.ends served) within between.answers came asks;
     }

@@ -1,4 +1,4 @@
--- What a client reads of the reply to XFR.
+-- What a client reads of the reply to XFR, and to a call of the make program.
 use Rattle.std.proofs.Common.{◌≡◌, ℕ, ℤ, pos, negsuc, Result, Ok, refl, sym, ap, ◌∙◌, arith, rules}
 use Rattle.std.specs.Prelude.{if◌then◌else◌}
 use Rattle.std.specs.Ordering.{int_eq}
@@ -11,10 +11,10 @@ use Rattle.yp_messages.specs.declared.transfer.XfrStat.{XfrStat}
 use Rattle.yp_messages.specs.declared.transfer.XfrStat.TheVariants.{Succ, Age, Nomap, Nodom, Rsrc, Rpc, Maddr, Yperr}
 use Rattle.yp_messages.specs.declared.transfer.XfrStat.TheVariants.{Badargs, Dbm, File, Skew, Clear, Force, Xfrerr}
 use Rattle.yp_messages.specs.declared.transfer.XfrStat.TheVariants.{Refused}
-use Rattle.yp_messages.specs.Transfers.{xfr_stat, xfr_number, resp_xfr}
+use Rattle.yp_messages.specs.Transfers.{xfr_stat, xfr_number, resp_xfr, resp_make}
 use Rattle.yp_client.specs.declared.fault.ClientFault.{ClientFault}
-use Rattle.yp_client.specs.Results.{◌>>=◌, item, taken_of}
-use Rattle.yp_answer.specs.Reply.{xfr_reply}
+use Rattle.yp_client.specs.Results.{◌>>=◌, item, taken_of, made_of}
+use Rattle.yp_answer.specs.Reply.{xfr_reply, make_reply}
 use Rattle.yp_end_to_end.proofs.exchange.Heads.{results_again}
 use Rattle.yp_end_to_end.proofs.exchange.Values.{last_again}
 
@@ -43,6 +43,11 @@ taken_said law xid s x =
     let results : Value resp_xfr = (0, xfr_number s) in
     ap (λ (left : Result Remaining ClientFault). left >>= λ l. item resp_xfr l >>= λ taken. Ok taken.0.1) (results_again law resp_xfr xid results x)
     ∙ ap (λ (read : Result (Value resp_xfr × Remaining) ClientFault). read >>= λ taken. Ok taken.0.1) (last_again law resp_xfr results 24 (omega arith, xfr_fits s))
+
+pub made_said : WrittenIsReadAgain → (xid : ℕ) (s : XfrStat) → IsWord xid → made_of xid (make_reply xid s) ≡ Ok (xfr_number s)
+made_said law xid s x =
+    ap (λ (left : Result Remaining ClientFault). left >>= λ l. item resp_make l >>= λ made. Ok made.0) (results_again law resp_make xid (xfr_number s) x)
+    ∙ ap (λ (read : Result (Value resp_make × Remaining) ClientFault). read >>= λ made. Ok made.0) (last_again law resp_make (xfr_number s) 24 (xfr_fits s))
 
 -- ---- a status by its number
 

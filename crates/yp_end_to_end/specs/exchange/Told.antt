@@ -11,6 +11,7 @@ use Rattle.yp_version.specs.Versions.{MapVersion}
 use Rattle.yp_board.specs.Catalogues.{serves}
 use Rattle.yp_answer.specs.Maps.{Maps, map_check, row_check}
 use Rattle.yp_answer.specs.Results.{maps_in}
+use Rattle.yp_answer.specs.declared.make.MakeJob.{MakeJob}
 use Rattle.yp_client.specs.declared.fault.ClientFault.{ClientFault}
 use Rattle.yp_client.specs.declared.fault.ClientFault.TheVariants.{Yp}
 
@@ -62,3 +63,8 @@ names_in maps domain =
 abbrev pub stat_told : Result ℕ XfrStat → XfrStat
 stat_told (Ok map) = Succ
 stat_told (Err stat) = stat
+
+-- the status that a call of the make program has by what is made of it: the one that refuses it, or that of the map
+abbrev pub made_told : XfrStat → Result MakeJob XfrStat → XfrStat
+made_told made (Ok job) = made
+made_told made (Err stat) = stat

@@ -3,7 +3,7 @@
 
 ghost use Rattle.yp_end_to_end.specs.inside.exchange.Laws.{DomainTells, MatchTells, FirstTells, NextTells, AllTells};
 ghost use Rattle.yp_end_to_end.specs.inside.exchange.Laws.{RoomForVersion, MasterTells, OrderTells, MaplistTells};
-ghost use Rattle.yp_end_to_end.specs.inside.exchange.Laws.{PullTells};
+ghost use Rattle.yp_end_to_end.specs.inside.exchange.Laws.{PullTells, MakeHasResponse, MakeTells};
 ghost use Rattle.yp_end_to_end.specs.inside.exchange.Mail.{OrderMailTells, MasterMailTells, FirstMailTells};
 ghost use Rattle.yp_end_to_end.specs.inside.exchange.Mail.{NextMailTells};
 ghost use Rattle.yp_end_to_end.specs.inside.exchange.CallLaws.{NumberIsTold, TruthIsTold, BytesAreTold, RowIsTold};
@@ -87,6 +87,16 @@ pub fn pull_tells()
     call_is_heard_again();
 }
 
+/// The make program refuses to make a map by its name with a status, or makes it first and replies with its status, and
+/// the reply says that.
+pub fn make_tells()
+    ensures response { MakeHasResponse }
+    ensures says { MakeTells }
+{
+    written_is_read_again();
+    call_is_heard_again();
+}
+
 /// The reply to ALL says all its rows, onto a builder that has room for them.
 pub fn all_tells()
     ensures { AllTells }
@@ -138,6 +148,7 @@ pub fn calls_are_told()
     order_tells();
     maplist_tells();
     pull_tells();
+    make_tells();
     rising_stays();
     first_is_one();
     rest_is_not_whole();
@@ -162,6 +173,7 @@ pub fn run_is_printed()
     order_tells();
     maplist_tells();
     pull_tells();
+    make_tells();
 }
 
 /// Each call of a client that asks for what the maps have gets one reply of a server, at once: it isn't met by silence,
@@ -189,7 +201,7 @@ pub fn calls_have_replies()
     pull_tells();
 }
 
-/// A run on logs over records that get replies at once answered them in turn, on the states of fronts of one log, each
+/// A run on logs over records that get replies answered them in turn, on the states of fronts of one log, each
 /// of which begins with the one before.
 pub fn run_is_in_turn()
     ensures { RunIsInTurn }
@@ -206,12 +218,13 @@ pub fn log_run_is_printed()
     ensures { LogRunIsPrinted }
 {
     calls_have_replies();
+    make_tells();
     run_is_in_turn();
     run_is_printed();
 }
 
-/// Where the maps tell a text, or that there is no such key, or refuse a transfer, a server's replies answer the calls of
-/// a question.
+/// Where the maps tell a text, or that there is no such key, or that no map is fetched or made, a server's replies
+/// answer the calls of a question.
 pub fn told_is_answered()
     ensures { ToldIsAnswered }
 {
@@ -222,6 +235,7 @@ pub fn told_is_answered()
     order_tells();
     maplist_tells();
     pull_tells();
+    make_tells();
 }
 
 /// Of a member of a group a question is told yes, and of others no, by one version of the groups.

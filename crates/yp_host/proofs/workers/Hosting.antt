@@ -1,6 +1,5 @@
 -- What a host of a worker does, as every host.
 use Rattle.std.proofs.Common.{◌≡◌, ℕ, List, Option, refl, sym, ◌∙◌, ap, subst}
-use Rattle.yp_io.specs.declared.texts.TextFile.{TextFile}
 use Rattle.yp_messages.specs.declared.transfer.XfrStat.{XfrStat}
 use Rattle.yp_messages.specs.declared.transfer.XfrStat.TheVariants.{Succ, Age, Nomap, Nodom, Rsrc, Rpc, Maddr, Yperr, Badargs, Dbm, File, Skew, Clear, Force, Xfrerr, Refused}
 use Rattle.yp_board.specs.Catalogues.{Catalogue}
@@ -35,7 +34,7 @@ counted counts Force = refl
 counted counts Xfrerr = refl
 counted counts Refused = refl
 
-module _ {V : Type 0} (seen : V → Seen) (stepped : V → V → Type 0) (text : TextFile → Option (List ℕ)) (hosts : HostList) where
+module _ {V : Type 0} (seen : V → Seen) (stepped : V → V → Type 0) (text : List ℕ → Option (List ℕ)) (hosts : HostList) where
   abbrev conduct : Conduct (WorkerState V)
   conduct = conduct_of (λ host. seen host.reader) (λ host. texts_alone text) counts_of (Stepped stepped) (WorkerMakesMap seen text)
       (λ taken peer. WorkerTransfersMap seen hosts taken)
@@ -44,7 +43,7 @@ module _ {V : Type 0} (seen : V → Seen) (stepped : V → V → Type 0) (text :
       → Fulfils conduct job stat old new
   fulfilled job stat old new made = record {
     made = made;
-    cause = is_caused (texts_alone text) (seen old.reader).catalogue.own job stat (seen old.reader).known (seen new.reader).known made.made;
+    cause = is_caused (texts_alone text) (seen old.reader).catalogue job stat (seen old.reader).known (seen new.reader).known made.made;
     catalogue = learns_maps (seen old.reader) (seen new.reader) (seen old.reader).catalogue made.learned refl;
     grown = made.learned.grown;
     counted = ap counts_of made.counted ∙ counted (counts_of old) stat;
@@ -53,13 +52,13 @@ module _ {V : Type 0} (seen : V → Seen) (stepped : V → V → Type 0) (text :
   -- the same from a host inside, whose reader learned and whose counts rose
   pub made_from : (job : MakeJob) (stat : XfrStat) (inside old : WorkerState V) (catalogue : Catalogue) (reader : V) (files made : ℕ)
       → inside ≡ old → (seen inside.reader).catalogue ≡ catalogue
-      → IsMadeSo (texts_alone text) catalogue.own job stat (seen inside.reader).known (seen reader).known
+      → IsMadeSo (texts_alone text) catalogue job stat (seen inside.reader).known (seen reader).known
       → Learns (seen inside.reader) (seen reader) → files ≡ files_after inside.files stat → made ≡ made_after inside.made stat
       → Fulfils conduct job stat old (record inside { reader = reader; files = files; made = made })
   made_from job stat inside old catalogue reader files made is maps makes learned counts others =
       subst (λ (o : WorkerState V). Fulfils conduct job stat o (record inside { reader = reader; files = files; made = made })) is
       (fulfilled job stat inside (record inside { reader = reader; files = files; made = made }) record {
-        made = subst (λ (k : Catalogue). IsMadeSo (texts_alone text) k.own job stat (seen inside.reader).known (seen reader).known) (sym maps) makes;
+        made = subst (λ (k : Catalogue). IsMadeSo (texts_alone text) k job stat (seen inside.reader).known (seen reader).known) (sym maps) makes;
         learned = learned;
         counted = ap (λ (n : ℕ). record inside { reader = reader; files = n; made = made }) counts
             ∙ ap (λ (n : ℕ). record inside { reader = reader; files = files_after inside.files stat; made = n }) others;

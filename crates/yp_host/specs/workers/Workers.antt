@@ -1,7 +1,6 @@
 -- A host of a worker, and what its calls do.
 use Rattle.std.specs.Prelude.{◌≡◌, ◌≢◌, ◌⊎◌, ℕ, List, Option, None, IsSome, ⊤}
 use Rattle.yp_io.specs.Counts.{next_count}
-use Rattle.yp_io.specs.declared.texts.TextFile.{TextFile}
 use Rattle.yp_messages.specs.declared.transfer.XfrStat.{XfrStat}
 use Rattle.yp_messages.specs.declared.transfer.XfrStat.TheVariants as stats
 use Rattle.yp_version.specs.Versions.{MapVersion}
@@ -48,10 +47,10 @@ Stepped stepped old new = stepped old.reader new.reader × (new ≡ record old {
 
 -- A map was made, with this status. The reader knows all that it knew and what the status says, and FILE and SUCC are
 -- counted.
-pub record WorkerMakesMap {V : Type 0} (seen : V → Seen) (text : TextFile → Option (List ℕ)) (job : MakeJob)
+pub record WorkerMakesMap {V : Type 0} (seen : V → Seen) (text : List ℕ → Option (List ℕ)) (job : MakeJob)
     (stat : XfrStat)
     (old new : WorkerState V) : Type 0 where
-  pub made : IsMadeSo (texts_alone text) (seen old.reader).catalogue.own job stat
+  pub made : IsMadeSo (texts_alone text) (seen old.reader).catalogue job stat
       (seen old.reader).known (seen new.reader).known
   pub learned : Learns (seen old.reader) (seen new.reader)
   pub counted : new ≡ record old {

@@ -3,9 +3,8 @@
 ghost use Rattle.std.specs.Prelude.{◌≡◌, ℕ, ◌+◌, ◌<◌, ◌≤◌, ◌↔◌, None, length, option_map, IfSome, IfOk, IfErr};
 ghost use Rattle.std.specs.Prelude.{IsNone};
 ghost use Rattle.std.specs.Option.{option_map_or};
-ghost use Rattle.yp_version.specs.Limits.{master_max};
-ghost use Rattle.yp_texts.specs.After.{basis_of, HasLaterOrder};
-ghost use Rattle.yp_answer.specs.Causes.{IsAnew};
+ghost use Rattle.yp_texts.specs.After.{HasLaterOrder};
+ghost use Rattle.yp_answer.specs.Causes.{IsAnew, task_of};
 ghost use Rattle.yp_transfer.specs.inside.Dials.{dial_by};
 ghost use Rattle.yp_messages.specs.Numbers.{name_max};
 ghost use Rattle.yp_transfer.specs.CallBack.{wants_call, CallsBack};
@@ -29,11 +28,11 @@ use std::alloc::Global;
 use std::marker::{Brand, Model, PhantomData};
 use std::random::RandomSource;
 use std::sync::ledger::{Book, Ledger, Share};
-use yp_board::MapName;
+use yp_answer::MakeJob;
+use yp_board::{Catalog, MapName};
 use yp_io::{Clock, Dial, Texts};
 use yp_messages::XfrStat;
 use yp_publisher::sharing::{Accounts, FetchedVersions, Site};
-use yp_texts::Kind;
 use yp_transfer::laws::fetched_is_one;
 use yp_transfer::{Asker, XfrFault, fetch_from, tell_back};
 use yp_version::Version;
@@ -44,12 +43,11 @@ use yp_version::Version;
 pub trait Supplies {
     ghost use Rattle.std.specs.Prelude.{ℕ, List, Option};
     ghost use Rattle.yp_io.specs.declared.stream.Peer.{Peer};
-    ghost use Rattle.yp_io.specs.declared.texts.TextFile.{TextFile};
     ghost use Rattle.yp_io.specs.Dials.{Wires};
     ghost use Rattle.yp_transfer.specs.HostTable.{HostList};
 
     /// The bytes of each text, where they are told.
-    ghost text: { TextFile → Option (List ℕ) };
+    ghost text: { List ℕ → Option (List ℕ) };
 
     /// The addresses of the hosts that maps are fetched from.
     ghost hosts: { HostList };
@@ -232,22 +230,22 @@ impl<S: Site + Accounts + Supplies, A: Dial, T: Texts, C: Clock> SharedDesk<S, A
         &mut self,
         alloc: Global,
         rt: &impl RandomSource,
-        kind: Kind,
-        own: &[u8],
+        catalog: &Catalog,
+        job: MakeJob,
         shown: Option<&Version>,
         charges: &mut Charges<S>,
     ) -> Result<Version, XfrStat>
-        requires { length own.now ≤ master_max }
+        requires { job.map < length catalog.now.maps }
         ensures anew { IfOk result (IsAnew (texts_alone S.text)
-            (basis_of kind own.now None (option_map (λ version. version.now) shown.entry))) }
+            (task_of catalog.now job (option_map (λ version. version.now) shown.entry))) }
         ensures over { IfOk result (HasLaterOrder (option_map (λ version. version.now) shown.entry)) }
         ensures unbuilt { IfErr result (λ stat. IsUnbuilt (telling_texts S.text (telling_by T.Texts C.Clock A.Dial))
-            (basis_of kind own.now None (option_map (λ version. version.now) shown.entry)) stat self.old self.new) }
+            (task_of catalog.now job (option_map (λ version. version.now) shown.entry)) stat self.old self.new) }
         ensures desk { IsUsed (telling_by T.Texts C.Clock A.Dial) self.old self.new }
         ensures dial { LeavesDial (telling_by T.Texts C.Clock A.Dial) self.old self.new }
         ensures charged { charges.new ≡ record charges.old { unread = charges.old.unread + unread_in result } }
     {
-        let built = build_anew(alloc, rt, &mut self.desk, kind, own, shown);
+        let built = build_anew(alloc, rt, &mut self.desk, catalog, job, shown);
         self.unread.add(&mut charges.unread, unread_in(&built));
         built
     }

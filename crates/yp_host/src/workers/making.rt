@@ -2,7 +2,7 @@
 
 ghost use Rattle.std.specs.Prelude.{◌≡◌, ◌<◌, None, length, IfSome};
 ghost use Rattle.std.specs.Option.{option_map_or};
-ghost use Rattle.yp_answer.specs.Make.{IsKindOf};
+ghost use Rattle.yp_answer.specs.inside.Make.{IsReadAsNamed};
 ghost use Rattle.yp_publisher.specs.sharing.Shares.{Learns};
 ghost use Rattle.yp_host.specs.workers.Desks.{texts_alone};
 ghost use Rattle.yp_host.specs.workers.Makings.{IsMadeSo};
@@ -44,9 +44,9 @@ where
     R: RandomSource + Wait,
     requires builds { SiteBuilds S.text S.catalogue S.built }
     requires map { job.map < length S.catalogue.maps }
-    requires kind { IsKindOf S.catalogue job.map job.kind }
+    requires read { IsReadAsNamed S.catalogue job }
     requires catalogue { (B.Reader.seen reader.old).catalogue ≡ S.catalogue }
-    ensures made { IsMadeSo (texts_alone S.text) S.catalogue.own job result
+    ensures made { IsMadeSo (texts_alone S.text) S.catalogue job result
         (B.Reader.seen reader.old).known (B.Reader.seen reader.new).known }
     ensures learned { Learns (B.Reader.seen reader.old) (B.Reader.seen reader.new) }
     ensures charged { ChargesMore (cost_of_make result) charges.old charges.new }
@@ -82,17 +82,17 @@ where
     R: RandomSource + Wait,
     requires builds { SiteBuilds S.text S.catalogue S.built }
     requires map { job.map < length S.catalogue.maps }
-    requires kind { IsKindOf S.catalogue job.map job.kind }
+    requires read { IsReadAsNamed S.catalogue job }
     requires catalogue { (B.Reader.seen reader.old).catalogue ≡ S.catalogue }
-    ensures made { IfSome result (λ stat. IsMadeSo (texts_alone S.text) S.catalogue.own job stat
+    ensures made { IfSome result (λ stat. IsMadeSo (texts_alone S.text) S.catalogue job stat
         (B.Reader.seen reader.old).known (B.Reader.seen reader.new).known) }
     ensures overtaken { result ≡ None → IsOvertaken job.map
         (B.Reader.seen reader.old).known (B.Reader.seen reader.new).known }
     ensures learned { Learns (B.Reader.seen reader.old) (B.Reader.seen reader.new) }
     ensures charged { ChargesMore (option_map_or cost_of_make result no_cost) charges.old charges.new }
 {
-    let own = reader.catalog().own();
-    let version = match desk.build(alloc, rt, job.kind, own, reader.held(job.map), charges) {
+    let shown = reader.held(job.map);
+    let version = match desk.build(alloc, rt, reader.catalog(), job, shown, charges) {
         Ok(version) => version,
         Err(stat) => return Some(stat),
     };

@@ -3,7 +3,6 @@ use Rattle.std.specs.Prelude.{ℕ, ◌<◌, Bool, List, length, Result, Ok, Err,
 use Rattle.yp_io.specs.Counts.{next_count}
 use Rattle.yp_io.specs.Texts.{text_max}
 use Rattle.yp_io.specs.inside.Texts.{text_of}
-use Rattle.yp_io.specs.declared.texts.TextFile.{TextFile}
 use Rattle.yp_io.specs.declared.texts.TextFault.{TextFault}
 use Rattle.yp_io.specs.declared.texts.TextFault.TheVariants.{Failed, NoMemory}
 
@@ -26,14 +25,14 @@ pub record Drain : Type 0 where
 
 -- texts: each with its name, and which calls fail
 pub record Shelf : Type 0 where
-  pub texts : List (TextFile × List ℕ)
+  pub texts : List (List ℕ × List ℕ)
   pub failing : List ℕ
   pub calls : ℕ
   pub faults : ℕ
 
 -- a text is missing, or over the limit
-abbrev pub LacksText : TextFile → List (TextFile × List ℕ) → Type 0
-LacksText which texts = MatchOption (text_of which texts) ⊤ (λ bytes. text_max < length bytes)
+abbrev pub LacksText : List ℕ → List (List ℕ × List ℕ) → Type 0
+LacksText name texts = MatchOption (text_of name texts) ⊤ (λ bytes. text_max < length bytes)
 
 -- the count of faults after a text was read: want of memory is none
 abbrev pub text_faults_after : {T : Type 0} → ℕ → Result T TextFault → ℕ

@@ -20,9 +20,9 @@ const OTHER_HOST: [u8; 4] = [10, 0, 0, 9];
 //
 // MATCH is of `alpha` in passwd.byname of `d`, and MATCHED the head of its replies with results: the values `alpha:1`
 // and `alpha:2`, behind the status TRUE, or YPERR without a value. NONACK is DOMAIN_NONACK of `d`, and of `e`, which
-// isn't served. ALL and MAKE are of passwd.byname of `d`. MAKE has replies with RSRC, the status of a host that makes
-// no map, and with REFUSED. XFR is of hosts.byname of `d` from the host `m2`, with the transaction 9, and its reply has
-// SUCC.
+// isn't served. ALL and MAKE are of passwd.byname of `d`, and NAMED makes the same map by its name. These have replies
+// with RSRC, the status of a host that makes no map, and with REFUSED. XFR is of hosts.byname of `d` from the host
+// `m2`, with the transaction 9, and its reply has SUCC.
 static NAMES: &str = "\
 NULL = 00000007 00000000 00000002 000186a4 00000002 00000000 00000000 00000000 00000000 00000000
 NULL_REPLY = 00000007 00000001 00000000 00000000 00000000 00000000
@@ -43,6 +43,8 @@ ALL = 00000004 00000000 00000002 000186a4 00000002 00000008 00000000 00000000 00
 UNKNOWN = 00000004 00000001 00000000 00000000 00000000 00000003
 MAKE = 00000002 00000000 00000002 20004e49 00000001 00000001 00000000 00000000 00000000 00000000 \
     00000001 64000000 00000001
+NAMED = 00000002 00000000 00000002 20004e49 00000001 00000002 00000000 00000000 00000000 00000000 \
+    00000001 64000000 0000000d 70617373 77642e62 796e616d 65000000
 NOT_MADE = 00000002 00000001 00000000 00000000 00000000 00000000 fffffffd
 REFUSED = 00000002 00000001 00000000 00000000 00000000 00000000 fffffff2
 XFR = 00000005 00000000 00000002 000186a4 00000002 00000006 00000000 00000000 00000000 00000000 \
@@ -170,7 +172,7 @@ fn try_row<R: RandomSource + Abort>(rt: &R, alloc: Global, row: &Row) {
 // Datagrams, and what is sent for them in two turns.
 type Replies = (&'static str, &'static [Mail], &'static str);
 
-static REPLIES: [Replies; 10] = [
+static REPLIES: [Replies; 12] = [
     ("NULL", &[(OWN_HOST, 700, "NULL", 0)], "TO_700 NULL_REPLY"),
     (
         "MATCH",
@@ -181,6 +183,12 @@ static REPLIES: [Replies; 10] = [
     (
         "MAKE of another host",
         &[(OTHER_HOST, 700, "MAKE", 0)],
+        "TO_OTHER REFUSED",
+    ),
+    ("by name", &[(OWN_HOST, 700, "NAMED", 0)], "TO_700 NOT_MADE"),
+    (
+        "by name, of another host",
+        &[(OTHER_HOST, 700, "NAMED", 0)],
         "TO_OTHER REFUSED",
     ),
     (

@@ -31,7 +31,6 @@ use yp_messages::XfrStat;
 use yp_publisher::sharing::{
     Accounts, BuiltVersions, Debits, FailedFiles, FetchedVersions, Locked, Site,
 };
-use yp_texts::Kind;
 use yp_worker::{CatchUp, HandsOver};
 
 /// The locks of a map and its desk.
@@ -81,11 +80,11 @@ fn done_by<
     }
     let stat = match act {
         Act::Make => {
-            let kind = Kind::HostsByname;
-            match host.catalog().find(b"lab", kind.name()) {
-                Some(map) => Some(host.make(MakeJob { map, kind })),
-                None => return (None, None),
-            }
+            let Some(map) = host.catalog().find(b"lab", b"hosts.byname") else {
+                return (None, None);
+            };
+            let job = MakeJob::of_map(host.catalog(), map);
+            Some(host.make(job))
         }
         Act::Transfer => {
             let job = TransferJob {

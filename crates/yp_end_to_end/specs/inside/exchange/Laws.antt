@@ -1,5 +1,5 @@
 -- What a client is told is what the maps of the server have, for each procedure.
-use Rattle.std.specs.Prelude.{ℕ, ◌≤◌, List, [], length, Ok, IfOk}
+use Rattle.std.specs.Prelude.{◌≡◌, ℕ, ◌≤◌, List, [], length, Some, Ok, IfOk}
 use Rattle.yp_io.specs.declared.stream.Peer.{Peer}
 use Rattle.yp_rpc.specs.inside.Laws.{IsWord}
 use Rattle.yp_messages.specs.Numbers.{name_max, key_max}
@@ -8,19 +8,23 @@ use Rattle.yp_board.specs.Catalogues.{serves}
 use Rattle.yp_answer.specs.Maps.{Maps, row_check}
 use Rattle.yp_answer.specs.Served.{AreServed}
 use Rattle.yp_client.specs.Limits.{reply_max, all_max}
-use Rattle.yp_client.specs.Results.{value_of, row_of, master_of, order_of, maps_of, taken_of}
+use Rattle.yp_client.specs.Results.{value_of, row_of, master_of, order_of, maps_of, taken_of, made_of}
 use Rattle.yp_client.specs.inside.Results.{served_of}
 use Rattle.yp_client.specs.All.{all_said}
 use Rattle.yp_client.specs.Asked.{match_call, first_call, next_call, all_call, master_call, order_call}
 use Rattle.yp_client.specs.inside.Asked.{domain_call}
-use Rattle.yp_client.specs.Asked.{maplist_call, pull_request, pull_call}
+use Rattle.yp_client.specs.Asked.{maplist_call, pull_request, pull_call, make_named_call}
 use Rattle.yp_end_to_end.specs.exchange.Told.{told, rows_tell, map_tells, value_in}
 use Rattle.yp_end_to_end.specs.inside.exchange.Told.{first_in, next_in}
 use Rattle.yp_end_to_end.specs.exchange.Told.{master_in, order_in, names_in, stat_told}
 use Rattle.yp_end_to_end.specs.inside.exchange.Told.{all_told}
 use Rattle.yp_end_to_end.specs.inside.exchange.Served.{ReplyTells, RepliesTelling, DraftHasRoom}
 use Rattle.yp_messages.specs.Transfers.{xfr_number}
+use Rattle.yp_messages.specs.declared.transfer.XfrStat.{XfrStat}
+use Rattle.yp_answer.specs.declared.procedure.Path.TheVariants.{Stream}
+use Rattle.yp_answer.specs.Reply.{reply, make_reply, make_response}
 use Rattle.yp_answer.specs.Transfer.{xfr_check}
+use Rattle.yp_answer.specs.Make.{make_check}
 
 -- a call about a domain, about a map, and about a key, whose parts are within their limits
 abbrev pub ForDomain : (Maps → Peer → ℕ → List ℕ → Type 0) → Type 0
@@ -85,6 +89,21 @@ abbrev pub PullTells : Type 0
 PullTells = ForMap (λ maps peer xid domain map. (source : List ℕ) → length source ≤ name_max →
     RepliesTelling maps peer reply_max (pull_call domain map source xid) (taken_of xid)
     (Ok (xfr_number (stat_told (xfr_check maps (pull_request domain map source))))))
+
+-- the make program: the status that refuses to make a map by its name, or the map is made first, and the reply has its
+-- status
+abbrev pub MakeHasResponse : Type 0
+MakeHasResponse = ForMap (λ maps peer xid domain map.
+    reply Stream maps peer (make_named_call domain map xid)
+    ≡ make_response xid (make_check maps.catalogue peer domain (Some map)))
+
+-- and such a reply says the number of that status
+pub record SaysMade (xid : ℕ) (stat : XfrStat) : Type 0 where
+  pub within : length (make_reply xid stat) ≤ reply_max
+  pub says : made_of xid (make_reply xid stat) ≡ Ok (xfr_number stat)
+
+abbrev pub MakeTells : Type 0
+MakeTells = (xid : ℕ) (stat : XfrStat) → IsWord xid → SaysMade xid stat
 
 -- ALL finds room: a builder without rows, whose master isn't longer than that of the version, has room for its rows
 abbrev pub RoomForVersion : Type 0

@@ -1,6 +1,7 @@
 -- What a question about a member comes to at a server.
 use Rattle.std.specs.Prelude.{◌≡◌, ◌↔◌, true, List, ℕ, Ok, Err}
 use Rattle.yp_io.specs.declared.stream.Peer.{Peer}
+use Rattle.yp_messages.specs.declared.transfer.XfrStat.{XfrStat}
 use Rattle.yp_version.specs.Versions.{MapVersion}
 use Rattle.yp_netgroup.specs.Reach.{SoughtMember}
 use Rattle.yp_netgroup.specs.inside.Reach.{IsMember}
@@ -20,7 +21,8 @@ pub record TellsWhether (is : Type 0) (told : QueryOutcome) : Type 0 where
 -- fits.
 abbrev pub MembershipIsTold : Type 0
 MembershipIsTold =
-    (first second : Maps) (caller : Peer) (domain group : List ℕ) (asked : SoughtMember) (version : MapVersion)
+    (first second : Maps) (caller : Peer) (made : XfrStat) (domain group : List ℕ) (asked : SoughtMember)
+    (version : MapVersion)
     → row_check first caller.port domain netgroup ≡ Ok version
     → TellsWhether (IsMember version.rows group asked)
-    (text_told first second caller (Innetgr domain group asked.host asked.user asked.domain))
+    (text_told first second caller made (Innetgr domain group asked.host asked.user asked.domain))

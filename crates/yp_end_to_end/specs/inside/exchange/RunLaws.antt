@@ -20,7 +20,7 @@ use Rattle.yp_end_to_end.specs.inside.exchange.Laws.{ForDomain, ForMap, ForKey}
 use Rattle.yp_end_to_end.specs.exchange.Runs.{sent_all, PrintsOnLogs}
 use Rattle.yp_end_to_end.specs.inside.exchange.Runs.{RepliesInTurn, RepliesOn}
 use Rattle.yp_end_to_end.specs.exchange.LogRuns.{records_of, replies_of, AnsweredOn}
-use Rattle.yp_end_to_end.specs.inside.exchange.LogRuns.{RepliesAtOnce, GetsReply, IsRepliedTo}
+use Rattle.yp_end_to_end.specs.inside.exchange.LogRuns.{RepliesAtOnce, GetsReply, IsRepliedTo, IsAnswered}
 use Rattle.yp_end_to_end.specs.exchange.LogRuns.{AnswersCalls}
 
 -- each call of a client that asks for what the maps have gets one reply, at once
@@ -53,17 +53,17 @@ abbrev pub PullHasReply : Type 0
 PullHasReply = ForMap (λ maps peer xid domain map. (source : List ℕ) → length source ≤ name_max
     → GetsReply maps peer (pull_call domain map source xid))
 
--- Where each record of a run is one that gets a reply at once, the run answered them one after the other, each on the
--- state of a log that begins with the one before.
+-- Where each record of a run is one that gets a reply, the run answered them one after the other, each on the state of
+-- a log that begins with the one before.
 abbrev pub RunIsInTurn : Type 0
 RunIsInTurn =
     (catalogue : Catalogue) (peer : Peer) (turns : List Turn) (before after : Log)
     → AreServed (maps_on catalogue after)
     → LogRun catalogue Stream peer turns before after
-    → All (IsRepliedTo peer) (records_of turns)
+    → All (IsAnswered peer) (records_of turns)
     → RepliesInTurn catalogue peer (records_of turns) (replies_of turns) before after
 
--- The replies of a run are those to its records in turn, on the logs of the run.
+-- Where each gets its reply at once, the replies of a run are those to its records in turn, on the logs of the run.
 abbrev pub RunIsOnLogs : Type 0
 RunIsOnLogs =
     (catalogue : Catalogue) (peer : Peer) (turns : List Turn) (logs : List Log) (before after : Log)

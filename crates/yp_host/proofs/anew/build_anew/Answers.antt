@@ -1,7 +1,8 @@
 use Rattle.std.proofs.Common.{Err, None, ap, ◌∙◌, rules}
-use Rattle.yp_texts.specs.After.{material_of, basis_of}
+use Rattle.yp_texts.specs.After.{material_of}
 use Rattle.yp_texts.specs.declared.after.AfterFault.TheVariants.{Build}
-use Rattle.yp_answer.specs.Causes.{BasisIsTold}
+use Rattle.yp_answer.specs.Make.{text_for}
+use Rattle.yp_answer.specs.Causes.{MaterialIsTold}
 use Rattle.yp_host.specs.Locals.{told_by}
 use Rattle.yp_host.specs.inside.Locals.{telling_by}
 use Rattle.yp_host.proofs.Building.{unbuilt}
@@ -10,14 +11,14 @@ use Rattle.yp_host.proofs.anew.build_anew.Goals as goal
 pub returns-in-Ok-clause-anew : goal.returns-in-Ok-clause-anew
 returns-in-Ok-clause-anew g c = record {
   material = material_of c.in_ok-text.text.items c.now-now.result;
-  of_told = record { text = c.in_ok-text.ensures.text; moment = c.now-now.ensures.told };
+  of_told = record { text = rw c.text.ensures at c.in_ok-text.ensures.text; moment = c.now-now.ensures.told };
   built = search rules;
 }
 
 pub returns-in-Err-Build-clause-unbuilt : goal.returns-in-Err-Build-clause-unbuilt
 returns-in-Err-Build-clause-unbuilt g c =
     let material = material_of c.in_ok-text.text.items c.now-now.result in
-    let told : BasisIsTold (told_by g.T.Texts g.C.Clock c.args.desk.now) (basis_of c.args.kind c.args.own.now None _) material
-    = record { text = c.in_ok-text.ensures.text; moment = c.now-now.ensures.told } in
+    let told : MaterialIsTold (told_by g.T.Texts g.C.Clock c.args.desk.now) (text_for c.args.catalog.now c.args.job) material
+    = record { text = rw c.text.ensures at c.in_ok-text.ensures.text; moment = c.now-now.ensures.told } in
     rw c.build_stat.ensures (unbuilt (telling_by g.T.Texts g.C.Clock g.A.Dial) _ material c.in-Err-Build.fault _ _ (search rules) told (search rules)
     (λ e. c.in-Err-Build.ensures.spent (ap Err (c.in-Err-Build.field-0-is ∙ ap Build e))))

@@ -1,7 +1,6 @@
 -- What a site says of its builds, and an order that was overtaken.
 use Rattle.std.specs.Prelude.{◌<◌, ◌≤◌, ◌+◌, ℕ, List, Option}
 use Rattle.std.specs.Option.{option_map_or}
-use Rattle.yp_io.specs.declared.texts.TextFile.{TextFile}
 use Rattle.yp_version.specs.Versions.{MapVersion}
 use Rattle.yp_board.specs.Catalogues.{Catalogue}
 use Rattle.yp_board.specs.Logs.{Log, shown}
@@ -10,7 +9,7 @@ use Rattle.yp_publisher.specs.sharing.Sources.{Building}
 use Rattle.yp_host.specs.workers.Makings.{IsBuiltOfText}
 
 -- Each version that was built so is what a site says of it.
-abbrev pub SiteBuilds : (TextFile → Option (List ℕ)) → Catalogue → Building → Type 0
+abbrev pub SiteBuilds : (List ℕ → Option (List ℕ)) → Catalogue → Building → Type 0
 SiteBuilds text served Is =
     (number : ℕ) (last : Option MapVersion) (version : MapVersion) → IsBuiltOfText text served number last version
     → Is number last version

@@ -1,14 +1,15 @@
-use Rattle.std.proofs.Common.{◌∙◌, List, map, ap, sym, refl}
+use Rattle.std.proofs.Common.{◌∙◌, ℕ, List, map, ap, sym, refl}
+use Rattle.yp_io.specs.declared.stream.Peer.{Peer}
 use Rattle.yp_board.specs.Catalogues.{name_view}
 use Rattle.yp_client.specs.Questions.{bytes_of}
 use Rattle.yp_command.specs.declared.command.KeyValue.{KeyValue}
 use Rattle.yp_command.specs.Words.{Once, Session, Check, Dump, Build, Load, Xfr, Walk, Sample, Push, Bind}
-use Rattle.yp_command.specs.Words.{Portmap, Getport, Ask, meaning, row_view, host_view, Revnet}
+use Rattle.yp_command.specs.Words.{Portmap, Getport, Ask, Orders, meaning, row_view, host_view, Revnet}
 use Rattle.yp_command.specs.office.Seeing.{seeing}
 use Rattle.yp_program.specs.Commands.{AloneDoes, may_end}
 use Rattle.yp_program.proofs.Dispatch.{same_does, same_passed, same_end}
 use Rattle.yp_program.proofs.program.obey.Goals.{in-Once, in-Sample, in-Check, in-Build, in-Xfr, in-Ask, in-Bind, in-Portmap, in-Getport}
-use Rattle.yp_program.proofs.program.obey.Goals.{in-Revnet, in-Walk, in-Dump, in-Load}
+use Rattle.yp_program.proofs.program.obey.Goals.{in-Revnet, in-Walk, in-Dump, in-Load, in-Orders}
 use Rattle.yp_program.proofs.program.obey.Goals as goal
 
 pub returns-in-Session-clause-does : goal.returns-in-Session-clause-does
@@ -90,6 +91,9 @@ returns-clause-does g c =
       | in-Ask w ↦
           by (Ask w.in-Ask.addr (bytes_of w.in-Ask.question)) c.match-command.status w.ask-status.result c.match-command.office w.ask-status.new.office (wires c.match-command.witness) (wires c.args.witness.now)
           (ap meaning w.in-Ask.is) w.status-is w.office-is (ap wires w.witness-is) (w.ask-status.ensures.does, refl)
+      | in-Orders w ↦
+          by (Orders w.in-Orders.first w.deref-in-Orders.result.now w.deref-in-Orders-2.result.now) c.match-command.status w.compare-status.result c.match-command.office w.compare-status.new.office (wires c.match-command.witness) (wires c.args.witness.now)
+          (ap meaning w.in-Orders.is ∙ ap (λ (l : List Peer). Orders w.in-Orders.first l w.in-Orders.domain.items) (sym w.deref-in-Orders.ensures.value) ∙ ap (λ (l : List ℕ). Orders w.in-Orders.first w.deref-in-Orders.result.now l) (sym w.deref-in-Orders-2.ensures.value)) w.status-is w.office-is (ap wires w.witness-is) (w.compare-status.ensures.does, refl)
     ]
 
 pub returns-clause-may_end : goal.returns-clause-may_end
@@ -109,6 +113,7 @@ returns-clause-may_end g c =
       | in-Portmap w ↦ same_end (meaning c.args.command) (Portmap w.in-Portmap.port w.in-Portmap.turns) c.match-command.status w.serve_ports-status.result (ap meaning w.in-Portmap.is) w.status-is w.serve_ports-status.ensures.may_end
       | in-Getport w ↦ same_end (meaning c.args.command) (Getport w.in-Getport.port w.in-Getport.turns w.in-Getport.addr w.in-Getport.prog w.in-Getport.vers w.in-Getport.prot) c.match-command.status w.ask_mapper-status.result (ap meaning w.in-Getport.is) w.status-is w.ask_mapper-status.ensures.may_end
       | in-Ask w ↦ same_end (meaning c.args.command) (Ask w.in-Ask.addr (bytes_of w.in-Ask.question)) c.match-command.status w.ask-status.result (ap meaning w.in-Ask.is) w.status-is w.ask-status.ensures.may_end
+      | in-Orders w ↦ same_end (meaning c.args.command) (Orders w.in-Orders.first w.in-Orders.others.items w.in-Orders.domain.items) c.match-command.status w.compare-status.result (ap meaning w.in-Orders.is) w.status-is w.compare-status.ensures.may_end
     ]
 
 pub returns-clause-passed_on : goal.returns-clause-passed_on
@@ -128,4 +133,5 @@ returns-clause-passed_on g c =
       | in-Portmap w ↦ by c.match-command.status w.serve_ports-status.result c.match-command.office w.serve_ports-status.new.office w.status-is w.office-is w.serve_ports-status.ensures.passed_on
       | in-Getport w ↦ by c.match-command.status w.ask_mapper-status.result c.match-command.office w.ask_mapper-status.new.office w.status-is w.office-is w.ask_mapper-status.ensures.passed_on
       | in-Ask w ↦ by c.match-command.status w.ask-status.result c.match-command.office w.ask-status.new.office w.status-is w.office-is w.ask-status.ensures.passed_on
+      | in-Orders w ↦ by c.match-command.status w.compare-status.result c.match-command.office w.compare-status.new.office w.status-is w.office-is w.compare-status.ensures.passed_on
     ]

@@ -22,6 +22,10 @@ returns-in-Silent-clause-put g c =
       puts_none (g.K.Sink.output c.args.sink.now),
     )
 
+pub returns-in-Silent-clause-sees : goal.returns-in-Silent-clause-sees
+returns-in-Silent-clause-sees g c =
+    steps_see g.H.View.stepped g.H.View.seen (asks Stream c.args.message.now) _ _ c.in-Silent.ensures.step
+
 pub returns-in-Reply-clause-put : goal.returns-in-Reply-clause-put
 returns-in-Reply-clause-put g c =
     let conduct = conduct_of g.H.View.seen g.H.Host.told g.H.Host.counts g.H.View.stepped g.H.Host.made g.H.Host.carried in
@@ -53,6 +57,10 @@ returns-in-Transfer-clause-put g c =
           c.answer.new.view c.answer.new.view c.in-Transfer.ensures.step c.in-Transfer.ensures.reply.takes refl,
       puts_sent bytes c.send-in-Transfer.result _ _ c.send-in-Transfer.ensures.sent c.send-in-Transfer.ensures.prefix,
     )
+
+pub returns-in-Transfer-clause-sees : goal.returns-in-Transfer-clause-sees
+returns-in-Transfer-clause-sees g c =
+    steps_see g.H.View.stepped g.H.View.seen (asks Stream c.args.message.now) _ _ c.in-Transfer.ensures.step
 
 pub returns-in-Stream-clause-put : goal.returns-in-Stream-clause-put
 returns-in-Stream-clause-put g c =

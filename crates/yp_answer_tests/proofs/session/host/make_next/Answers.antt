@@ -8,13 +8,13 @@ use Rattle.yp_answer_tests.proofs.session.host.make_next.Goals.{in-Ok-show, in-E
 
 pub returns-clause-caused : goal.returns-clause-caused
 returns-clause-caused c =
-    let own = c.args.board.now.catalogue.own in
+    let served = c.args.board.now.catalogue in
     let old = c.args.board.now.known in
     let new = c.show.new.self.known in
     let job = c.args.job in
     elim c.match-show.branch [
       | in-Ok-show w ↦
-          subst (λ (stat : XfrStat). IsCaused (record { text = λ file. None; moment = None }) own job stat old new) (sym w.result-is)
-          (shown_anew own job old c.in-Ok.version new c.in-Ok.ensures.built (w.in-Ok-show.ensures.log ∙ ap (λ (version : MapVersion). old ++ (job.map, version) ∷ []) c.in-Ok-new.ensures.ok))
-      | in-Err-show w ↦ subst (λ (stat : XfrStat). IsCaused (record { text = λ file. None; moment = None }) own job stat old new) (sym w.result-is) tt
+          subst (λ (stat : XfrStat). IsCaused (record { text = λ file. None; moment = None }) served job stat old new) (sym w.result-is)
+          (shown_anew served job old c.in-Ok.version new c.in-Ok.ensures.built (w.in-Ok-show.ensures.log ∙ ap (λ (version : MapVersion). old ++ (job.map, version) ∷ []) c.in-Ok-new.ensures.ok))
+      | in-Err-show w ↦ subst (λ (stat : XfrStat). IsCaused (record { text = λ file. None; moment = None }) served job stat old new) (sym w.result-is) tt
     ]

@@ -11,6 +11,8 @@ returns c = calls_are_told (record {
     order = c.order_tells.ensures;
     names = c.maplist_tells.ensures;
     pull = c.pull_tells.ensures;
+    make = c.make_tells.ensures.response;
+    made = c.make_tells.ensures.says;
   };
   stays = c.rising_stays.ensures;
   records = record { first = c.first_is_one.ensures; rest = c.rest_is_not_whole.ensures };

@@ -11,6 +11,8 @@ returns c = run_is_printed (record {
     order = c.order_tells.ensures;
     names = c.maplist_tells.ensures;
     pull = c.pull_tells.ensures;
+    make = c.make_tells.ensures.response;
+    made = c.make_tells.ensures.says;
   };
   prints = c.query_prints_told.ensures;
 })

@@ -10,4 +10,6 @@ returns c = told_is_answered (record {
   order = c.order_tells.ensures;
   names = c.maplist_tells.ensures;
   pull = c.pull_tells.ensures;
+  make = c.make_tells.ensures.response;
+  made = c.make_tells.ensures.says;
 })

@@ -1,5 +1,4 @@
-use Rattle.std.proofs.Common.{◌≤◌, arith, ◌∙◌, ap}
-use Rattle.yp_board.specs.Catalogues.{Catalogue}
+use Rattle.std.proofs.Common.{◌≤◌, arith, ◌∙◌}
 use Rattle.yp_board.specs.Logs.{shown}
 use Rattle.yp_texts.specs.Builds.{order_max}
 use Rattle.yp_host.specs.workers.Desks.{texts_alone}
@@ -10,30 +9,30 @@ use Rattle.yp_host.proofs.workers.making.make_behind.Goals as goal
 
 pub returns-in-Err-clause-made : goal.returns-in-Err-clause-made
 returns-in-Err-clause-made g c =
-    let own = c.own-own.ensures.own ∙ ap (λ (k : Catalogue). k.own) (c.catalog.ensures ∙ c.requires.catalogue) in
+    let served = c.catalog.ensures ∙ c.requires.catalogue in
     unmade g.S.Supplies.text (telling_by g.T.Texts g.C.Clock g.A.Dial) _ c.args.job _ c.in-Err.stat _ _
-    (rw (own, c.held.ensures) at c.in-Err.ensures.unbuilt)
+    (rw (served, c.held-shown.ensures) at c.in-Err.ensures.unbuilt)
 
 pub install_shared-requires-clause-built : goal.install_shared-requires-clause-built
 install_shared-requires-clause-built g c =
-    let own = c.own-own.ensures.own ∙ ap (λ (k : Catalogue). k.own) (c.catalog.ensures ∙ c.requires.catalogue) in
+    let served = c.catalog.ensures ∙ c.requires.catalogue in
     let below = c.order-order.ensures.version.order in
     let most : c.in-Ok.version.order ≤ order_max = omega (arith, below) in
     built_there c.built_is_built_behind.ensures g.S.Supplies.text g.S.Site.catalogue c.args.job
     (shown c.args.job.map (g.B.Reader.View.seen c.args.reader.now).known) c.in-Ok.version
-    (rw (own, c.held.ensures) at c.in-Ok.ensures.anew) most c.requires.kind g.S.Accounts.built c.requires.builds
+    (rw (served, c.held-shown.ensures) at c.in-Ok.ensures.anew) most c.requires.read g.S.Accounts.built c.requires.builds
 
 pub returns-in-Ok-install_shared-clause-made : goal.returns-in-Ok-install_shared-clause-made
 returns-in-Ok-install_shared-clause-made g c =
-    let own = c.own-own.ensures.own ∙ ap (λ (k : Catalogue). k.own) (c.catalog.ensures ∙ c.requires.catalogue) in
+    let served = c.catalog.ensures ∙ c.requires.catalogue in
     let below = c.order-order.ensures.version.order in
     let most : c.in-Ok.version.order ≤ order_max = omega (arith, below) in
-    shown_last c.built_is_built_behind.ensures g.S.Supplies.text g.S.Site.catalogue.own c.args.job c.in-Ok.version _ _
-    (rw (own, c.held.ensures) at c.in-Ok.ensures.anew) most c.in-Ok-install_shared.ensures.shown
+    shown_last c.built_is_built_behind.ensures g.S.Supplies.text g.S.Site.catalogue c.args.job c.in-Ok.version _ _
+    (rw (served, c.held-shown.ensures) at c.in-Ok.ensures.anew) most c.in-Ok-install_shared.ensures.shown
 
 pub returns : goal.returns
 returns g c = record {
-  made = rw c.shared_stat.ensures (unfit (texts_alone g.S.Supplies.text) g.S.Site.catalogue.own c.args.job c.in-Ok.version
+  made = rw c.shared_stat.ensures (unfit (texts_alone g.S.Supplies.text) g.S.Site.catalogue c.args.job c.in-Ok.version
       c.in-Err-install_shared.fault _ _ c.in-Err-install_shared.ensures.reason (λ e. c.in_default.not-Age (c.shared_stat.ensures ∙ e)));
   overtaken = λ e. absurd (cc);
   learned = c.install_shared.ensures.learned;

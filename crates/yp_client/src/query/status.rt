@@ -1,9 +1,9 @@
-//! The line of a transfer that a server was asked for.
+//! The line of a map that a server was asked to fetch or to make.
 
 ghost use Rattle.std.specs.Prelude.{◌≡◌, ◌++◌, codes, IfOk, OnOk};
 ghost use Rattle.std.specs.Fmt.{signed_decimal};
 ghost use Rattle.yp_messages.specs.Transfers.{xfr_number};
-ghost use Rattle.yp_client.specs.query.Lines.{stat_name, transfer_text};
+ghost use Rattle.yp_client.specs.query.Lines.{stat_name, status_text, made_text};
 
 use std::alloc::{AllocError, Global};
 use yp_io::NoMemory;
@@ -43,33 +43,59 @@ fn add_stat(text: &mut Vec<u8>, stat: XfrStat) -> Result<(), AllocError>
     text.extend_from_slice(stat_name(stat))
 }
 
-/// Adds the name of a map, and the status of its transfer.
-fn add_transfer(
+/// Adds the name of a map.
+fn add_map(text: &mut Vec<u8>, domain: &[u8], map: &[u8]) -> Result<(), AllocError>
+    ensures { OnOk result (text.new.items ≡ text.old.items ++ domain.now ++ codes "/" ++ map.now) }
+{
+    text.extend_from_slice(domain)?;
+    text.extend_from_slice(b"/")?;
+    text.extend_from_slice(map)
+}
+
+/// Adds the name of a map, and a status.
+fn add_outcome(
     text: &mut Vec<u8>,
     domain: &[u8],
     map: &[u8],
     stat: XfrStat,
 ) -> Result<(), AllocError>
-    ensures { OnOk result (text.new.items ≡ text.old.items ++ transfer_text domain.now map.now stat) }
+    ensures { OnOk result (text.new.items ≡ text.old.items ++ status_text domain.now map.now stat) }
 {
-    text.extend_from_slice(domain)?;
-    text.extend_from_slice(b"/")?;
-    text.extend_from_slice(map)?;
+    add_map(text, domain, map)?;
     text.extend_from_slice(b" ")?;
     add_stat(text, stat)
 }
 
-/// The line of a transfer, without its line feed.
-pub fn transfer_text(
+/// The line of a status, without its line feed.
+pub fn status_text(
     alloc: Global,
     domain: &[u8],
     map: &[u8],
     stat: XfrStat,
 ) -> Result<Vec<u8>, NoMemory>
-    ensures { IfOk result (λ text. text.items ≡ transfer_text domain.now map.now stat) }
+    ensures { IfOk result (λ text. text.items ≡ status_text domain.now map.now stat) }
 {
     let mut text = Vec::new(alloc);
-    match add_transfer(&mut text, domain, map, stat) {
+    match add_outcome(&mut text, domain, map, stat) {
+        Ok(()) => Ok(text),
+        Err(_) => Err(NoMemory),
+    }
+}
+
+/// Adds that a map was made.
+fn add_made(text: &mut Vec<u8>, domain: &[u8], map: &[u8]) -> Result<(), AllocError>
+    ensures { OnOk result (text.new.items ≡ text.old.items ++ made_text domain.now map.now) }
+{
+    add_map(text, domain, map)?;
+    text.extend_from_slice(b" made")
+}
+
+/// The line of a map that was made, without its line feed.
+pub fn made_text(alloc: Global, domain: &[u8], map: &[u8]) -> Result<Vec<u8>, NoMemory>
+    ensures { IfOk result (λ text. text.items ≡ made_text domain.now map.now) }
+{
+    let mut text = Vec::new(alloc);
+    match add_made(&mut text, domain, map) {
         Ok(()) => Ok(text),
         Err(_) => Err(NoMemory),
     }
