@@ -416,7 +416,7 @@ fn try_status<R: RandomSource + Abort>(
     alloc: Global,
     question: &Fixed,
     call: &str,
-    reply: &str,
+    reply: &'static str,
     taken: &Taken,
 ) {
     let (stat, wanted, line) = taken;
