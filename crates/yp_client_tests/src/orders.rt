@@ -1,4 +1,5 @@
-//! Servers whose orders are compared over wires in memory: calls and replies written out by hand, from RFC 5531 and yp.x.
+//! Servers whose orders are compared over wires in memory: calls and replies written out by hand, from RFC 5531 and
+//! yp.x.
 
 use crate::asked::{SERVER, list, text};
 use crate::given::{assert_same, bytes};

@@ -1,5 +1,5 @@
-//! `orders` over wires in memory: what servers say is written out by hand, from RFC 5531 and yp.x; and each call outside
-//! that fails in turn.
+//! `orders` over wires in memory: what servers say is written out by hand, from RFC 5531 and yp.x; and each call
+//! outside that fails in turn.
 
 use crate::given::try_rows;
 use std::alloc::Global;

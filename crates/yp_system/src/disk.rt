@@ -144,8 +144,8 @@ where
         Ok(())
     }
 
-    // Keeps those away who have the map for themselves, and, if it is to be alone, all who may write. It answers whether
-    // the map may be written.
+    // Keeps those away who have the map for themselves, and, if it is to be alone, all who may write. It answers
+    // whether the map may be written.
     fn claim(&mut self, is_alone: bool) -> io::Result<bool> {
         self.make_claim()?;
         let Claim::Made(lock) = &mut self.claim else {

@@ -44,7 +44,8 @@ AreWires (peer ∷ peers) (stream ∷ streams) (wire ∷ wires) =
     (wire.peer ≡ peer) × (wire.input ≡ Some stream) × AreWires peers streams wires
 AreWires peers streams wires = ⊥
 
--- Wires to these peers came of the dial, in turn, where no more had gone back than came. These streams are their inputs.
+-- Wires to these peers came of the dial, in turn, where no more had gone back than came. These streams are their
+-- inputs.
 pub record HaveCome (peers : List Peer) (streams : List (List ℕ)) (old new : Option Wires) : Type 0 where
   pub before : Wires
   pub after : Wires
