@@ -4,7 +4,7 @@
 . "$(dirname -- "$(readlink -f -- "$0")")/room.sh"
 rounds=${1:-7}
 workers=8
-life=4294967295
+life=forever
 maps=(lab/hosts.byname lab/hosts.byaddr)
 
 "$top/yp" once lab/hosts.byname </dev/null # builds it

@@ -18,7 +18,7 @@
 #
 # It has `try_commands`, which runs them and prints a line for each, and leaves 1 in `failed` where one did what it may
 # not. What it makes lies in a folder of its own, which goes with its servers at the end.
-life=4294967295
+life=forever
 failed=0
 "$top/yp" once domain/map </dev/null || exit 1 # builds it
 room=$(mktemp -d) || exit 1

@@ -55,6 +55,10 @@ def is_address(word):
     return shaped and all(map(number(0, 255), parts[:4])) and number(1, 65535)(parts[4])
 
 
+def is_most(word):
+    return word == "forever" or number(0, 4294967295)(word)
+
+
 def is_pair(word):
     key, mark, value = word.partition("=")
     return mark == "=" and text(1, 65536)(key) and text(0, 65536)(value)
@@ -76,6 +80,7 @@ FORMS = {
     "ReverseStore": (shape(NAME + r"/netgroup\.by(user|host)"), "lab/netgroup.byuser", ["lab/netgroup"]),
     "Pair": (is_pair, "k=v", ["k", "=v", "k=" + "v" * 65537]),
     "Number": (number(0, 4294967295), "0", ["01", "+1", "4294967295", "4294967296"]),
+    "Most": (is_most, "0", ["forever", "for ever", "01", "4294967295", "4294967296"]),
     "Port": (number(1, 65535), "1", ["0", "65535", "65536"]),
     "Window": (number(1, 4096), "1", ["0", "4096", "4097"]),
     "Workers": (number(1, 8), "1", ["0", "8", "9"]),
@@ -91,7 +96,7 @@ FORMS = {
 # The form of each word of the documents, and of those that have another one behind some commands.
 WORDS = {"STORE": "Store", "NAME": "Name", "PORT": "Port", "WORKERS": "Workers", "WINDOW": "Window", "ADDR": "Address"}
 WORDS |= {"FLAG": "Flag", "MODE": "Mode", "POLICY": "Policy", "HOST": "Host", "DOMAIN": "Text", "MAP": "Text"}
-WORDS |= dict.fromkeys(["CONNECTIONS", "TURNS", "START", "N", "PROG", "VERS", "PROT"], "Number")
+WORDS |= dict.fromkeys(["START", "N", "PROG", "VERS", "PROT"], "Number") | {"CONNECTIONS": "Most", "TURNS": "Most"}
 WORDS |= dict.fromkeys(["KEY", "GROUP", "USER", "NISDOMAIN"], "Key")
 BEHIND = {("build", "STORE"): "KindStore", ("revnet", "STORE"): "ReverseStore", ("innetgr", "HOST"): "Key"}
 BEHIND |= {("pull", "NAME"): "Text"}
@@ -100,7 +105,7 @@ FURTHER = {"[KEY=VALUE]*": "Each(Pair)", "[HOST]*": "Each(Host)", "[STORE or HOS
 
 # The form that a function of the code reads a word by, and the further words.
 READ = {"name": "Name", "store": "Store", "kind_store": "KindStore", "reverse_store": "ReverseStore", "number": "Number"}
-READ |= {"port": "Port", "window": "Window", "workers": "Workers", "policy": "Policy", "address": "Address"}
+READ |= {"most": "Most", "port": "Port", "window": "Window", "workers": "Workers", "policy": "Policy", "address": "Address"}
 READ |= {"host": "Host", "text": "Text", "key": "Key", "member": "Key", "mode": "Mode"}
 READ_FURTHER = {"each_pair": "Each(Pair)", "each_host": "Each(Host)", "stores_and_hosts": "StoresAndHosts"}
 READ_FURTHER |= {"servers": "Servers", "peers_and_domain": "Compared"}
@@ -373,7 +378,7 @@ def shown(words):
 def probes(sentences, commands):
     """Words that are no sentence. The last one fits nowhere, unless words are missing."""
     # What has one of the forms that are left out is a word of another form, too.
-    every = [good for form, (_, good, _) in FORMS.items() if form not in ("Store", "Number", "Text", "Key")]
+    every = [good for form, (_, good, _) in FORMS.items() if form not in ("Store", "Number", "Most", "Text", "Key")]
     for command in commands:
         yield [command, NO_TEXT]
     for sentence in sentences:

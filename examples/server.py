@@ -11,7 +11,7 @@ import rpc
 TOP = os.path.dirname(os.path.dirname(os.path.realpath(__file__)))
 PROGRAM = os.path.join(TOP, "crates/yp/out/yp")  # as ./yp runs it, so that a signal reaches the program itself
 HOST = "127.0.0.1"
-LIFE = 4294967295  # connections, and turns: as many as there may be
+LIFE = "forever"  # connections, and turns: as many as there may be
 DOMAIN = b"lab"
 KINDS = {b"hosts.byname": 5, b"hosts.byaddr": 6}
 

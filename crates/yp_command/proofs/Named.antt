@@ -373,8 +373,8 @@ serve_named words =
     read (word 1 form.name words) _ λ own own_is.
     read (word 2 form.port words) _ λ port _.
     read (word 3 form.workers words) _ λ workers workers_is.
-    read (word 4 form.number words) _ λ connections _.
-    read (word 5 form.number words) _ λ turns _. read (stores_and_hosts 6 words) _ λ all all_is.
+    read (word 4 form.most words) _ λ connections _.
+    read (word 5 form.most words) _ λ turns _. read (stores_and_hosts 6 words) _ λ all all_is.
     whole (Serve own port workers connections turns all.0 all.1) (
     let some = of_word (λ n. (1 ≤ n) × (n ≤ workers_max)) form.workers 3 words workers (within_said 1 workers_max)
     workers_is in
@@ -431,7 +431,7 @@ walk_named words =
     read (word 3 form.store words) _ λ store store_is.
     read (word 4 form.host words) _ λ host _.
     read (word 5 form.port words) _ λ port _.
-    read (word 6 form.number words) _ λ turns _.
+    read (word 6 form.most words) _ λ turns _.
     read (optional 7 form.flag words) _ λ flag _.
     read (end 8 words) _ λ end _.
     whole (Walk name force store host port turns flag) (one_map name store (name_read 1 words name name_is) (store_read 3 words store store_is))
@@ -460,7 +460,7 @@ push_named words =
     read (word 1 form.name words) _ λ name name_is.
     read (word 2 form.port words) _ λ port _.
     read (word 3 form.window words) _ λ window window_is.
-    read (word 4 form.number words) _ λ turns _.
+    read (word 4 form.most words) _ λ turns _.
     read (word 5 form.store words) _ λ store store_is. read (each form.host 6 [] (drop 6 words)) _ λ hosts _.
     whole (Push name port window turns store hosts) (
     let some = of_word (λ n. (1 ≤ n) × (n ≤ window_max)) form.window 3 words window (within_said 1 window_max)
@@ -475,7 +475,7 @@ unfolding bind IsSaid
 bind_named words =
     read (word 1 form.port words) _ λ port _.
     read (word 2 form.policy words) _ λ policy _.
-    read (word 3 form.number words) _ λ turns _.
+    read (word 3 form.most words) _ λ turns _.
     read (word 4 form.name words) _ λ domain domain_is.
     read (word 5 form.host words) _ λ first _.
     read (servers 6 (first ∷ []) (drop 6 words)) _ λ hosts hosts_is.
@@ -488,7 +488,7 @@ portmap_named : (words : List (List ℕ)) → Named (portmap words)
 unfolding portmap
 portmap_named words =
     read (word 1 form.port words) _ λ port _.
-    read (word 2 form.number words) _ λ turns _.
+    read (word 2 form.most words) _ λ turns _.
     read (end 3 words) _ λ end _.
     whole (Portmap port turns) tt
 
@@ -496,7 +496,7 @@ getport_named : (words : List (List ℕ)) → Named (getport words)
 unfolding getport
 getport_named words =
     read (word 1 form.port words) _ λ port _.
-    read (word 2 form.number words) _ λ turns _.
+    read (word 2 form.most words) _ λ turns _.
     read (word 3 form.address words) _ λ peer _.
     read (word 4 form.number words) _ λ prog _.
     read (word 5 form.number words) _ λ vers _.

@@ -4,6 +4,7 @@ use Rattle.std.specs.Prelude.{◌∷◌, length, slice_index_or, Option, Some, N
 use Rattle.std.specs.List.{list_all, find, before_first, after_first}
 use Rattle.std.specs.Str.{bytes_eq}
 use Rattle.std.specs.Str.Parse.{digits_value}
+use Rattle.yp_io.specs.Counts.{last_count}
 use Rattle.yp_io.specs.declared.stream.Peer.{Peer}
 use Rattle.yp_version.specs.Limits.{key_max, value_max}
 use Rattle.yp_version.specs.Rows.{Row}
@@ -90,6 +91,10 @@ is_number word = nat_lt (digits_value 10 word) (2 ^ 32) && bytes_eq (decimal (di
 
 abbrev pub number : List ℕ → Option ℕ
 number word = when (is_number word) (digits_value 10 word)
+
+-- how many there are at most: a number, or all that can be counted
+abbrev pub most : List ℕ → Option ℕ
+most word = if bytes_eq word (codes "forever") then Some last_count else number word
 
 -- such a number from a least one to a most
 abbrev pub within : ℕ → ℕ → List ℕ → Option ℕ

@@ -152,8 +152,8 @@ serve words = do
   own ← word 1 form.name words
   port ← word 2 form.port words
   workers ← word 3 form.workers words
-  connections ← word 4 form.number words
-  turns ← word 5 form.number words
+  connections ← word 4 form.most words
+  turns ← word 5 form.most words
   (stores, hosts) ← stores_and_hosts 6 words
   Ok (Serve own port workers connections turns stores hosts)
 
@@ -202,7 +202,7 @@ walk words = do
   store ← word 3 form.store words
   host ← word 4 form.host words
   port ← word 5 form.port words
-  turns ← word 6 form.number words
+  turns ← word 6 form.most words
   flag ← optional 7 form.flag words
   _ ← end 8 words
   Ok (Walk name force store host port turns flag)
@@ -226,7 +226,7 @@ push words = do
   name ← word 1 form.name words
   port ← word 2 form.port words
   window ← word 3 form.window words
-  turns ← word 4 form.number words
+  turns ← word 4 form.most words
   store ← word 5 form.store words
   hosts ← each form.host 6 [] (drop 6 words)
   Ok (Push name port window turns store hosts)
@@ -235,7 +235,7 @@ unfoldable pub bind : Sentence
 bind words = do
   port ← word 1 form.port words
   policy ← word 2 form.policy words
-  turns ← word 3 form.number words
+  turns ← word 3 form.most words
   domain ← word 4 form.name words
   first ← word 5 form.host words
   hosts ← servers 6 (first ∷ []) (drop 6 words)
@@ -244,14 +244,14 @@ bind words = do
 unfoldable pub portmap : Sentence
 portmap words = do
   port ← word 1 form.port words
-  turns ← word 2 form.number words
+  turns ← word 2 form.most words
   _ ← end 3 words
   Ok (Portmap port turns)
 
 unfoldable pub getport : Sentence
 getport words = do
   port ← word 1 form.port words
-  turns ← word 2 form.number words
+  turns ← word 2 form.most words
   peer ← word 3 form.address words
   prog ← word 4 form.number words
   vers ← word 5 form.number words

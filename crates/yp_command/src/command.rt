@@ -42,7 +42,7 @@ pub struct WalkJob {
     /// The port at which datagrams are received.
     pub port: u16,
     /// The most turns.
-    pub turns: u32,
+    pub turns: u64,
 }
 
 /// Maps that are served to many callers.
@@ -55,9 +55,9 @@ pub struct ServeJob {
     /// How many workers serve connections, from 1 to 8.
     pub workers: u32,
     /// How many connections are accepted.
-    pub connections: u32,
+    pub connections: u64,
     /// The most turns at the datagrams.
-    pub turns: u32,
+    pub turns: u64,
     /// The maps.
     pub stores: Vec<MapName>,
     /// The hosts that it knows.
@@ -74,7 +74,7 @@ pub struct PushJob {
     /// How many slaves may be outstanding.
     pub window: u32,
     /// How many turns are taken at most.
-    pub turns: u32,
+    pub turns: u64,
     /// The map.
     pub store: MapName,
     /// The addresses of slaves.
@@ -142,20 +142,20 @@ pub enum Command {
     Bind {
         port: u16,
         policy: Policy,
-        turns: u32,
+        turns: u64,
         domain: Vec<u8>,
         hosts: Vec<HostWord>,
     },
     /// Answers the calls of the port mapper at `port`, in so many turns.
     Portmap {
         port: u16,
-        turns: u32,
+        turns: u64,
     },
     /// Asks the port mapper at `addr`, from `port` and in at most so many turns, for the port of version `vers` of
     /// program `prog` over protocol `prot`.
     Getport {
         port: u16,
-        turns: u32,
+        turns: u64,
         addr: Peer,
         prog: u32,
         vers: u32,

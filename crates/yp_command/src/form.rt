@@ -3,7 +3,7 @@
 ghost use Rattle.std.specs.Prelude.{◌≡◌, ◌<◌, option_map};
 ghost use Rattle.std.specs.List.{list_all};
 ghost use Rattle.yp_command.specs.Forms.{is_name_byte, is_name, name, store, kind_store, reverse_store, pair, number};
-ghost use Rattle.yp_command.specs.Forms.{within, octet, port, window, workers, address, host, text, key, member};
+ghost use Rattle.yp_command.specs.Forms.{most, within, octet, port, window, workers, address, host, text, key, member};
 ghost use Rattle.yp_command.specs.Forms.{before, after, flag, mode, policy};
 
 use yp_binding::Policy;
@@ -17,6 +17,9 @@ use yp_version::{KEY_MAX, VALUE_MAX};
 pub const BY_USER: &str = "netgroup.byuser";
 
 const BY_HOST: &str = "netgroup.byhost";
+
+/// The word for as many as can be counted.
+const FOREVER: &str = "forever";
 
 /// The most slaves of a push that may be outstanding.
 const WINDOW_MAX: u32 = 4_096;
@@ -94,6 +97,16 @@ pub fn number(word: &str) -> Option<u32>
         Ok(number) if itoa::Buffer::new().format(number) == word => Some(number),
         _ => None,
     }
+}
+
+/// How many there are at most: such a number, or, for `forever`, all that can be counted, 2^64 - 1.
+pub fn most(word: &str) -> Option<u64>
+    ensures { result ≡ most word.now }
+{
+    if word == FOREVER {
+        return Some(u64::MAX);
+    }
+    Some(u64::from(number(word)?))
 }
 
 /// Such a number from a least one to a most.

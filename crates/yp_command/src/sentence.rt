@@ -84,6 +84,13 @@ impl<'a> Words<'a> {
         form::number(self.word(at)?).ok_or(at)
     }
 
+    /// How many there are at most, by the word with this number.
+    pub fn most(self, at: usize) -> Result<u64, usize>
+        ensures { result ≡ word at forms.most (texts self.entry.words.now) }
+    {
+        form::most(self.word(at)?).ok_or(at)
+    }
+
     /// The port that the word says.
     pub fn port(self, at: usize) -> Result<u16, usize>
         ensures { result ≡ word at forms.port (texts self.entry.words.now) }

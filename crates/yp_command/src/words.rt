@@ -130,8 +130,8 @@ fn serve(alloc: Global, words: Words) -> Result<Command, ParseFault>
     let name = words.name(1)?;
     let port = words.port(2)?;
     let workers = words.workers(3)?;
-    let connections = words.number(4)?;
-    let turns = words.number(5)?;
+    let connections = words.most(4)?;
+    let turns = words.most(5)?;
     let (stores, hosts) = stores_and_hosts(alloc, words, 6)?;
     Ok(Command::Serve(ServeJob {
         name: bytes(alloc, name)?,
@@ -224,7 +224,7 @@ fn walk(alloc: Global, words: Words) -> Result<Command, ParseFault>
     let store = words.store(3)?;
     let host = words.host(4)?;
     let port = words.port(5)?;
-    let turns = words.number(6)?;
+    let turns = words.most(6)?;
     let flag = words.flag_if_any(7)?;
     words.end(8)?;
     Ok(Command::Walk(WalkJob {
@@ -270,7 +270,7 @@ fn push(alloc: Global, words: Words) -> Result<Command, ParseFault>
     let name = words.name(1)?;
     let port = words.port(2)?;
     let window = words.window(3)?;
-    let turns = words.number(4)?;
+    let turns = words.most(4)?;
     let store = words.store(5)?;
     let hosts = each_host(alloc, words, 6)?;
     Ok(Command::Push(PushJob {
@@ -289,7 +289,7 @@ fn bind(alloc: Global, words: Words) -> Result<Command, ParseFault>
 {
     let port = words.port(1)?;
     let policy = words.policy(2)?;
-    let turns = words.number(3)?;
+    let turns = words.most(3)?;
     let domain = words.name(4)?;
     let first = words.host(5)?;
     let hosts = servers(alloc, words, 6, first)?;
@@ -307,7 +307,7 @@ fn portmap(words: Words) -> Result<Command, ParseFault>
     ensures { Answers (portmap (texts words.entry.words.now)) result }
 {
     let port = words.port(1)?;
-    let turns = words.number(2)?;
+    let turns = words.most(2)?;
     words.end(3)?;
     Ok(Command::Portmap { port, turns })
 }
@@ -317,7 +317,7 @@ fn getport(words: Words) -> Result<Command, ParseFault>
     ensures { Answers (getport (texts words.entry.words.now)) result }
 {
     let port = words.port(1)?;
-    let turns = words.number(2)?;
+    let turns = words.most(2)?;
     let addr = words.address(3)?;
     let prog = words.number(4)?;
     let vers = words.number(5)?;
@@ -586,7 +586,7 @@ pub fn port_of(command: &Command) -> Option<u16>
 }
 
 /// How many connections a command accepts.
-pub fn connections_of(command: &Command) -> u32
+pub fn connections_of(command: &Command) -> u64
     ensures { result ≡ connections_of (meaning command.now) }
 {
     match command {

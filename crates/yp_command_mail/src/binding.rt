@@ -232,7 +232,7 @@ fn servers_of(alloc: Global, hosts: &[HostWord]) -> Result<Vec<Peer>, AllocError
 pub fn bind_domain<S: Source, K: Sink, D: Disk, C: Clock, A: Dial, I: Inbox, T: Texts>(
     alloc: Global,
     policy: Policy,
-    turns: u32,
+    turns: u64,
     domain: Vec<u8>,
     hosts: Vec<HostWord>,
     office: &mut Office<S, K, D, C, A, I, T>,

@@ -105,7 +105,7 @@ fn port_status(port: u32) -> Status
 /// Tells the port of an answer, or why there is none.
 fn tell_answer<K: Sink>(
     sink: &mut K,
-    turns: u32,
+    turns: u64,
     answer: Option<Result<PortReply, XdrFault>>,
 ) -> Status
     ensures tells { TellsText (answer_text answer) (answer_status turns answer) result
@@ -132,7 +132,7 @@ fn tell_answer<K: Sink>(
 /// so many turns, and tells it.
 pub fn ask_mapper<S: Source, K: Sink, D: Disk, C: Clock, A: Dial, I: Inbox, T: Texts>(
     alloc: Global,
-    turns: u32,
+    turns: u64,
     mapper: Peer,
     prog: u32,
     vers: u32,

@@ -92,7 +92,7 @@ fn tell_ports<K: Sink>(alloc: Global, sink: &mut K, registry: &Registry) -> Stat
 /// Answers the calls of a port mapper in so many turns, and tells the mappings that stand at the end.
 pub fn serve_ports<S: Source, K: Sink, D: Disk, C: Clock, A: Dial, I: Inbox, T: Texts>(
     alloc: Global,
-    turns: u32,
+    turns: u64,
     office: &mut Office<S, K, D, C, A, I, T>,
 ) -> Status
     ensures does { PortmapDoes (seeing S.Source K.Sink D.Disk C.Clock A.Dial I.Inbox T.Texts)

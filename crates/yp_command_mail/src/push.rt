@@ -155,7 +155,7 @@ fn tell_slaves<K: Sink, A>(alloc: Global, sink: &mut K, pusher: &Pusher<A>) -> S
 /// Asks the slaves in their turns, tells what came of each, and hands the dial back.
 fn take<K: Sink, A: Dial, I: Inbox>(
     alloc: Global,
-    turns: u32,
+    turns: u64,
     room: &mut Room,
     pusher: Pusher<A>,
     inbox: &mut I,
@@ -182,7 +182,7 @@ fn take<K: Sink, A: Dial, I: Inbox>(
 /// Pushes what is planned, in at most so many turns.
 fn push_plan<S: Source, K: Sink, D: Disk, C: Clock, A: Dial, I: Inbox, T: Texts>(
     alloc: Global,
-    turns: u32,
+    turns: u64,
     plan: PushPlan,
     office: Office<S, K, D, C, A, I, T>,
 ) -> (Status, Office<S, K, D, C, A, I, T>)

@@ -105,14 +105,13 @@ fn take_turn<I: Inbox, E: Handler>(
     }
 }
 
-/// Takes turns of an inbox for a handler, at most so many. It ends where the handler is done, where all turns are
-/// taken,
+/// Takes turns of an inbox for a handler, at most so many. It ends where the handler is done, where all turns are taken,
 /// or where the inbox fails.
 pub fn take_turns<I: Inbox, E: Handler>(
     inbox: &mut I,
     handler: &mut E,
     room: &mut Room,
-    most: u32,
+    most: u64,
 ) -> Result<Ended, Failed>
     ensures takes { TakesTurns (ways_by E.Handler) most result handler.old handler.new
         (box_by I.Inbox inbox.old) (box_by I.Inbox inbox.new) }

@@ -17,7 +17,7 @@ use yp_worker::{CatchUp, HandsOver};
 #[derive(Drop)]
 pub(crate) struct DatagramResources<I, V> {
     pub(crate) inbox: I,
-    pub(crate) turns: u32,
+    pub(crate) turns: u64,
     pub(crate) reader: V,
     pub(crate) room: Room,
 }
@@ -35,13 +35,13 @@ pub(crate) struct DatagramWorker<I, H: CatchUp> {
     inbox: I,
     server: MailServer<H>,
     room: Room,
-    turns: u32,
+    turns: u64,
     fault: bool,
 }
 
 impl<I: Inbox, H: CatchUp> DatagramWorker<I, H> {
     /// A worker with this host, which has taken no turn yet.
-    pub(crate) fn new(inbox: I, host: H, room: Room, turns: u32) -> DatagramWorker<I, H>
+    pub(crate) fn new(inbox: I, host: H, room: Room, turns: u64) -> DatagramWorker<I, H>
         ensures { result ≡ record {
           inbox = inbox;
           server = at_rest host;

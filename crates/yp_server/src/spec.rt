@@ -12,7 +12,7 @@ pub struct ServeSpec {
     /// The most records that are answered on one connection.
     pub most: u64,
     /// The most turns of the inbox.
-    pub turns: u32,
+    pub turns: u64,
 }
 
 /// What comes back once all workers have ended.

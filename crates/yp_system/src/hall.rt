@@ -63,8 +63,8 @@ pub struct TcpHall<R> {
     system: R,
     port: u16,
     door: Option<Arc<Door>>,
-    most: u32,
-    accepted: u32,
+    most: u64,
+    accepted: u64,
     returned: u64,
     faults: u64,
     let_go: u64,
@@ -74,7 +74,7 @@ pub struct TcpHall<R> {
 
 impl<R: Net + Clock + Copy + Drop> TcpHall<R> {
     /// What accepts so many connections at a port. Nothing is opened yet.
-    pub fn new(alloc: Global, system: R, port: u16, most: u32) -> TcpHall<R>
+    pub fn new(alloc: Global, system: R, port: u16, most: u64) -> TcpHall<R>
         ensures accepted { ⟦<TcpHall<R> as Hall>⟧.accepted result ≡ 0 }
         ensures most { ⟦<TcpHall<R> as Hall>⟧.most result ≡ most }
         ensures returned { ⟦<TcpHall<R> as Hall>⟧.returned result ≡ 0 }
@@ -91,7 +91,7 @@ impl<R: Net + Clock + Copy + Drop> TcpHall<R> {
     }
 
     /// A hall with these limits for its callers.
-    pub fn with_limits(alloc: Global, system: R, port: u16, most: u32, limits: Limits) -> TcpHall<R>
+    pub fn with_limits(alloc: Global, system: R, port: u16, most: u64, limits: Limits) -> TcpHall<R>
         ensures accepted { ⟦<TcpHall<R> as Hall>⟧.accepted result ≡ 0 }
         ensures most { ⟦<TcpHall<R> as Hall>⟧.most result ≡ most }
         ensures returned { ⟦<TcpHall<R> as Hall>⟧.returned result ≡ 0 }

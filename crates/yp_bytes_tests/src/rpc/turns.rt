@@ -30,7 +30,7 @@ struct Row {
     name: &'static str,
     brings: &'static [Brings],
     failing: &'static [u64],
-    most: u32,
+    most: u64,
     outcome: Outcome,
 }
 
@@ -117,7 +117,7 @@ fn room_of<R: Abort>(rt: &R, alloc: Global) -> Room {
 }
 
 // Takes the turns of a row.
-fn take(room: &mut Room, inbox: &mut MemInbox, most: u32) -> Outcome {
+fn take(room: &mut Room, inbox: &mut MemInbox, most: u64) -> Outcome {
     let mut asker = Asker {
         peer: PEER,
         is_due: true,

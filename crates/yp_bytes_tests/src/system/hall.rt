@@ -47,7 +47,7 @@ struct Worker<R> {
 
 impl<R: Net<Stream = TcpStream, Listener = TcpListener> + Clock + Copy + Drop + Abort> Worker<R> {
     // One whose hall accepts so many connections, at a free port.
-    fn new(rt: R, alloc: Global, most: u32, limits: Limits) -> Worker<R> {
+    fn new(rt: R, alloc: Global, most: u64, limits: Limits) -> Worker<R> {
         let (_, port) = listener(&rt);
         let mut hall = TcpHall::with_limits(alloc, rt, port, most, limits);
         let watch = hall.watch().expect(&rt, "a watch");

@@ -72,7 +72,7 @@ pub enum Status {
     /// As many calls were read as a session may have.
     Enough,
     /// No answer came in so many turns.
-    Unanswered { turns: u32 },
+    Unanswered { turns: u64 },
 }
 
 impl Status {
@@ -250,12 +250,12 @@ fn ruled(row: u32, rule: u8) -> Line
 }
 
 /// The line of turns that brought no answer.
-fn unanswered(turns: u32) -> Line
+fn unanswered(turns: u64) -> Line
     ensures { result.items ≡ note_line (codes "unanswered after " ++ decimal turns ++ codes " turns") }
 {
     let mut note = Line::new();
     add(&mut note, b"yp: unanswered after ");
-    add_number(&mut note, u64::from(turns));
+    add_number(&mut note, turns);
     add(&mut note, b" turns");
     add(&mut note, b"\n");
     note

@@ -165,7 +165,7 @@ fn walk_on<D: Disk, I: Inbox, R: RandomSource>(
 /// Tells what was stored, or what stopped the walk.
 fn tell_walk<K: Sink>(
     sink: &mut K,
-    turns: u32,
+    turns: u64,
     store: MapName,
     done: Result<Installed, WalkStop>,
 ) -> Status

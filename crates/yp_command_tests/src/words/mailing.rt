@@ -9,13 +9,14 @@ use yp_command::{Command, HostWord, port_of};
 use yp_io::Peer;
 
 /// Words that are no sentence, and the word that is wrong.
-static WRONG: [Wrong; 21] = [
+static WRONG: [Wrong; 22] = [
     (&["portmap"], 1),
     (&["portmap", "0", "3"], 1),
     (&["portmap", "65536", "3"], 1),
     (&["portmap", "0111", "3"], 1),
     (&["portmap", "111"], 2),
     (&["portmap", "111", "4294967296"], 2),
+    (&["portmap", "111", "forever "], 2),
     (&["portmap", "111", "3", "x"], 3),
     (
         &["getport", "7112", "2", "127.0.0.1", "100004", "2", "6"],
@@ -90,7 +91,7 @@ const MAPPER: Peer = Peer {
 };
 
 /// The turns, the port mapper, and the three numbers that it is asked for.
-type Asked = (u32, Peer, [u32; 3]);
+type Asked = (u64, Peer, [u32; 3]);
 
 fn asked(command: &Command) -> Option<Asked> {
     match command {
@@ -129,7 +130,7 @@ fn getport_parsed(rt: HostRuntime) {
     assert_same(&rt, &came, &wanted, "getport");
 }
 
-fn mapped(command: &Command) -> Option<u32> {
+fn mapped(command: &Command) -> Option<u64> {
     match command {
         Command::Portmap { turns, .. } => Some(*turns),
         _ => None,
@@ -138,9 +139,9 @@ fn mapped(command: &Command) -> Option<u32> {
 
 #[test]
 fn portmap_parsed(rt: HostRuntime) {
-    let command = parsed(&rt, rt.alloc(), &["portmap", "1", "0"]);
+    let command = parsed(&rt, rt.alloc(), &["portmap", "1", "forever"]);
     let came = (port_of(&command), mapped(&command));
-    assert_same(&rt, &came, &(Some(1), Some(0)), "portmap");
+    assert_same(&rt, &came, &(Some(1), Some(u64::MAX)), "portmap");
 }
 
 fn host_of(host: &HostWord) -> (&[u8], Peer) {
@@ -148,7 +149,7 @@ fn host_of(host: &HostWord) -> (&[u8], Peer) {
 }
 
 /// The policy, the turns, the domain and two hosts.
-type Bound<'a> = (Policy, u32, &'a [u8], [(&'a [u8], Peer); 2]);
+type Bound<'a> = (Policy, u64, &'a [u8], [(&'a [u8], Peer); 2]);
 
 fn bound(command: &Command) -> Option<Bound<'_>> {
     match command {
@@ -267,7 +268,7 @@ fn wrong_push_words(rt: HostRuntime) {
 type Pushed<'a> = (
     &'a [u8],
     u32,
-    u32,
+    u64,
     (&'a [u8], &'a [u8]),
     Option<(&'a [u8], Peer)>,
 );

@@ -6,7 +6,7 @@ use yp_command::{Command, ServeJob, port_of};
 use yp_io::Peer;
 
 /// Words that are no sentence, and the word that is wrong: those up to the numbers.
-static WRONG_NUMBERS: [Wrong; 8] = [
+static WRONG_NUMBERS: [Wrong; 9] = [
     (&["serve"], 1),
     (&["serve", "m@1", "7001", "1", "0", "0", "lab/a"], 1),
     (&["serve", "m1", "0", "1", "0", "0", "lab/a"], 2),
@@ -14,6 +14,7 @@ static WRONG_NUMBERS: [Wrong; 8] = [
     (&["serve", "m1", "7001", "0", "0", "0", "lab/a"], 3),
     (&["serve", "m1", "7001", "9", "0", "0", "lab/a"], 3),
     (&["serve", "m1", "7001", "1", "4294967296", "0", "lab/a"], 4),
+    (&["serve", "m1", "7001", "1", "Forever", "0", "lab/a"], 4),
     (&["serve", "m1", "7001", "1", "0", "00", "lab/a"], 5),
 ];
 
@@ -52,7 +53,7 @@ fn wrong_served_maps(rt: HostRuntime) {
 type Serving<'a> = (
     &'a [u8],
     Option<u16>,
-    (u32, u32, u32),
+    (u32, u64, u64),
     [Names<'a>; 2],
     (&'a [u8], Peer),
 );
@@ -83,7 +84,7 @@ static WORDS: [&str; 9] = [
     "7001",
     "8",
     "4294967295",
-    "0",
+    "forever",
     "lab/a",
     "m2@127.0.0.1:7001",
     "dom/a",
@@ -100,7 +101,7 @@ fn serve_parsed(rt: HostRuntime) {
     let wanted: Serving = (
         b"m1",
         Some(7_001),
-        (8, 4_294_967_295, 0),
+        (8, 4_294_967_295, 18_446_744_073_709_551_615),
         [(b"lab", b"a"), (b"dom", b"a")],
         (b"m2", HOST),
     );

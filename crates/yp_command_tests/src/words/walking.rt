@@ -42,7 +42,7 @@ fn wrong_walking_words(rt: HostRuntime) {
 }
 
 /// The port, the turns and the transfer of a walk.
-type Walk<'a> = (Option<u16>, u32, Transfer<'a>);
+type Walk<'a> = (Option<u16>, u64, Transfer<'a>);
 
 fn walked(command: &Command) -> Option<Walk<'_>> {
     match command {

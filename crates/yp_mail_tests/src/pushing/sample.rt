@@ -46,7 +46,7 @@ CALL = 80000058 00000001 00000000 00000002 000186a4 00000002 00000006 00000000 0
 pub struct Row {
     pub name: &'static str,
     pub window: u32,
-    pub most: u32,
+    pub most: u64,
     pub known: (bool, bool, bool),
     pub wires: (&'static str, &'static str, &'static str),
     pub dials: u64,

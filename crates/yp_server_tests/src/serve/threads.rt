@@ -36,7 +36,7 @@ struct Case {
     failing: u64,
     unread: u64,
     mail: &'static [&'static str],
-    turns: u32,
+    turns: u64,
     until: Option<Mark>,
     unmailed: u64,
     tally: Tally,

@@ -70,7 +70,7 @@ struct Row {
     shown: &'static [&'static [u8]],
     mail: &'static [Mail],
     failing: u64,
-    most: u32,
+    most: u64,
     ended: Result<Ended, Failed>,
     turns: u64,
     transfers: u64,
@@ -125,7 +125,7 @@ fn serve_turns(
     alloc: Global,
     inbox: &mut MemInbox,
     server: &mut MailServer<TestHost>,
-    most: u32,
+    most: u64,
 ) -> Result<Ended, Failed> {
     let mut room = Room::new(alloc).expect(rt, "memory for turns");
     serve_mail(inbox, server, &mut room, most)
@@ -138,7 +138,7 @@ fn take_turns(
     host: TestHost,
     mail: Vec<Option<Letter>>,
     failing: u64,
-    most: u32,
+    most: u64,
 ) -> Came {
     let failing = vec![in alloc; failing].expect(rt, "memory for a number");
     let mut inbox = MemInbox::new(alloc, mail, failing);
@@ -155,7 +155,7 @@ fn served<R: RandomSource + Abort>(
     shown: &[&[u8]],
     mail: &[Mail],
     failing: u64,
-    most: u32,
+    most: u64,
 ) -> Came {
     let host = host_of(rt, alloc, shown);
     let mail = mail_of(rt, alloc, mail);

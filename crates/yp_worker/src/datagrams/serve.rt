@@ -16,7 +16,7 @@ pub fn serve_mail<I: Inbox, H: CatchUp>(
     inbox: &mut I,
     server: &mut MailServer<H>,
     room: &mut Room,
-    turns: u32,
+    turns: u64,
 ) -> Result<Ended, Failed>
     ensures serves { ServesMail (conduct_by H.Host) H.counted turns result server.old server.new
         (box_by I.Inbox inbox.old) (box_by I.Inbox inbox.new) }
