@@ -1,5 +1,6 @@
 -- What is told of the wires and the letters of a dial.
-use Rattle.std.specs.Prelude.{◌≡◌, ℕ, ◌≤◌, Bool, List, [], ◌∷◌, ◌++◌, length, Option, None, Some, IfSome, ⊤}
+use Rattle.std.specs.Prelude.{◌≡◌, ℕ, ◌≤◌, Bool, List, [], ◌∷◌, ◌++◌, length, take, Option, None, Some, IfSome, ⊤}
+use Rattle.std.specs.Prelude.{option_map}
 use Rattle.yp_io.specs.declared.stream.Peer.{Peer}
 
 -- what a wire tells: what is left of its input, what it has taken, and whether it was flushed since
@@ -34,14 +35,22 @@ pub record Dialing : Type 0 where
 abbrev pub dialing_of : {A : Type 0} → (A → Option Wires) → (A → ℕ) → A → Dialing
 dialing_of past faults dial = record { past = past dial; faults = faults dial }
 
--- what a dial tells: the wires that came and went back, the datagrams that it sent, and how often it has failed
+-- what a dial sends to a peer: a datagram that is posted, or one that asks, with what came back of there, if anything
+pub data Sending : Type 0 where
+  Posted : Peer → List ℕ → Sending
+  Asked : Peer → List ℕ → Option (List ℕ) → Sending
+
+-- what came, where so many bytes of it are in a buffer
+abbrev pub came_in : List ℕ → Option ℕ → Option (List ℕ)
+came_in buf came = option_map (λ len. take len buf) came
+
+-- what a dial tells: the wires that came and went back, what it sent, and how often it has failed
 pub record DialTells : Type 0 where
   pub past : Option Wires
-  pub letters : Option (List (Peer × List ℕ))
+  pub letters : Option (List Sending)
   pub faults : ℕ
 
-abbrev pub dial_tells : {A : Type 0} → (A → Option Wires) → (A → Option (List (Peer × List ℕ))) → (A → ℕ) → A
-    → DialTells
+abbrev pub dial_tells : {A : Type 0} → (A → Option Wires) → (A → Option (List Sending)) → (A → ℕ) → A → DialTells
 dial_tells past letters faults dial = record { past = past dial; letters = letters dial; faults = faults dial }
 
 -- what that tells of its wires

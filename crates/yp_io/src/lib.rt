@@ -1,8 +1,8 @@
 //! What the program reaches outside itself, as traits, with forms in memory for tests.
 //!
 //! A source gives bytes and a sink takes them, and those that are never waited for say where nothing can go on now; a
-//! disk keeps bytes through a crash; texts and a clock are read; a dial opens wires and sends datagrams; an inbox
-//! receives datagrams at a port, and sends them from there; a hall hands out the connections that come, each with its
+//! disk keeps bytes through a crash; texts and a clock are read; a dial opens wires, sends datagrams and asks by them; an
+//! inbox receives datagrams at a port, and sends them from there; a hall hands out the connections that come, each with its
 //! caller, up to a number that is stated, closers, by which they are closed, and watches, which tell a worker by hints
 //! alone which of its connections may go on. Each says what it holds, has taken or shows where that can be known: a
 //! disk what a crash may leave of it at each moment, a dial which wires came, an inbox what arrived and was sent in one
@@ -37,7 +37,7 @@ mod whole;
 
 pub use called::{CallOrigin, Called};
 pub use clock::{Clock, SetClock};
-pub use dial::{Dial, Letter};
+pub use dial::{Dial, Letter, Sending};
 pub use disk::Disk;
 pub use hall::{Awaited, Coming, Hall, Notice, Watch};
 pub use inbox::{Inbox, Mail};

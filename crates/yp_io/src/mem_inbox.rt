@@ -110,7 +110,7 @@ fn brought(mail: &[Option<Letter>], at: usize) -> Option<&Letter>
 }
 
 // Puts the front of a datagram into a buffer, and gives how many bytes that is.
-fn fill(buf: &mut [u8], bytes: &[u8]) -> usize
+pub(crate) fn fill(buf: &mut [u8], bytes: &[u8]) -> usize
     ensures { HoldsFront bytes.now result buf.new }
 {
     let len = bytes.len().min(buf.len());
