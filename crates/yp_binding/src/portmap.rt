@@ -12,6 +12,6 @@ pub mod protocol;
 mod registry;
 mod request;
 
-pub use asking::{PortReply, ask_port, read_port};
+pub use asking::{CALL_LEN, PortReply, ask_port, read_port};
 pub use mapping::Mapping;
 pub use registry::Registry;

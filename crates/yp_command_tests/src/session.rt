@@ -548,8 +548,59 @@ const UNFETCHED: Row = Row {
     ..FETCHED
 };
 
-static TRANSFERS: [Row; 4] = [
+/// GETPORT of program 0x40000000, version 1, over UDP, with the number of the transaction, to the caller's port mapper.
+const QUESTION: Datagram = Datagram {
+    peer: Peer {
+        addr: [127, 0, 0, 1],
+        port: 111,
+    },
+    bytes: &[
+        "00000009 00000000 00000002 000186a0 00000002 00000003 00000000 00000000 00000000 00000000",
+        "40000000 00000001 00000011 00000000",
+    ],
+};
+
+/// The same XFR with port 0, and no answer of the port mapper.
+const UNNAMED: Row = Row {
+    name: "port 0, and a silent port mapper",
+    input: &[
+        "80000058 00000002 00000000 00000002 000186a4 00000002 00000006",
+        "00000000 00000000 00000000 00000000 00000003 6c616200 0000000c 686f7374 732e6279 6e616d65",
+        "00000000 00000002 6d310000 00000009 40000000 00000000",
+        "8000004c 00000003",
+        MATCH,
+    ],
+    asks: &[QUESTION],
+    posts: &[],
+    ..FETCHED
+};
+
+static TRANSFERS: [Row; 8] = [
     FETCHED,
+    UNNAMED,
+    Row {
+        name: "port 0, and a port mapper that tells 834",
+        answers: &[&["00000009 00000001 00000000 00000000 00000000 00000000 00000342"]],
+        posts: &[Datagram {
+            peer: Peer {
+                addr: [127, 0, 0, 1],
+                port: 834,
+            },
+            bytes: &[LETTER, "00000001"],
+        }],
+        ..UNNAMED
+    },
+    Row {
+        name: "port 0, and a port mapper without the program",
+        answers: &[&["00000009 00000001 00000000 00000000 00000000 00000000 00000000"]],
+        ..UNNAMED
+    },
+    Row {
+        name: "no question to the port mapper",
+        dials: 1,
+        asks: &[],
+        ..UNNAMED
+    },
     Row {
         name: "no wire",
         dials: 0,

@@ -1,8 +1,7 @@
 -- A host of one thread, and what its parts tell.
 use Rattle.std.specs.Prelude.{◌≡◌, ◌≤◌, ℕ, List, Option, min}
 use Rattle.yp_io.specs.Counts.{last_count}
-use Rattle.yp_io.specs.Dials.{Wires, DialTells, dial_tells}
-use Rattle.yp_io.specs.declared.stream.Peer.{Peer}
+use Rattle.yp_io.specs.Dials.{Wires, DialTells, dial_tells, Sending}
 use Rattle.yp_io.specs.declared.texts.Texts as texts
 use Rattle.yp_io.specs.declared.clock.Clock as clock
 use Rattle.yp_board.specs.Logs.{Log}
@@ -33,7 +32,7 @@ abbrev pub told_by : {A T C : Type 0} → texts.Ghosts T → clock.Ghosts C → 
 told_by texts clock desk = record { text = texts.text desk.texts; moment = clock.moment desk.clock }
 
 abbrev pub telling_of : {A T C : Type 0} → texts.Ghosts T → clock.Ghosts C → (A → Option Wires)
-    → (A → Option (List (Peer × List ℕ))) → (A → ℕ) → Telling (Desk A T C)
+    → (A → Option (List Sending)) → (A → ℕ) → Telling (Desk A T C)
 telling_of texts clock past letters faults = record {
   told = told_by texts clock;
   faults = λ desk. texts.faults desk.texts;

@@ -65,8 +65,8 @@ pub trait Dial {
         ensures cause { CountsFaults (faults self.old) (faults self.new) result };
 
     /// Sends one datagram, and waits for one that comes back from that address and port, two seconds at most. So many
-    /// bytes of it are in the buffer, where it lost what didn't fit; or none came in time, or the port is refused. After
-    /// `Failed` none was sent.
+    /// bytes of it are in the buffer, where it lost what didn't fit; or none came in time, or the port is refused.
+    /// After `Failed` none was sent.
     fn ask(&mut self, to: Peer, piece: &[u8], buf: &mut [u8]) -> Result<Option<usize>, Failed>
         ensures within { IfOk result (λ came. IfSome came (λ len. len ≤ length buf.new)) }
         ensures sent { IfOk result (λ came.

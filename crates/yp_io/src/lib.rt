@@ -1,15 +1,15 @@
 //! What the program reaches outside itself, as traits, with forms in memory for tests.
 //!
 //! A source gives bytes and a sink takes them, and those that are never waited for say where nothing can go on now; a
-//! disk keeps bytes through a crash; texts and a clock are read; a dial opens wires, sends datagrams and asks by them; an
-//! inbox receives datagrams at a port, and sends them from there; a hall hands out the connections that come, each with its
-//! caller, up to a number that is stated, closers, by which they are closed, and watches, which tell a worker by hints
-//! alone which of its connections may go on. Each says what it holds, has taken or shows where that can be known: a
-//! disk what a crash may leave of it at each moment, a dial which wires came, an inbox what arrived and was sent in one
-//! order, and a hall which connections came, of which callers, and which its closers have closed, with what each told
-//! then. All but the clock count their faults, so that a failure always has a cause. These promises stand on the
-//! clauses of [`Source`], [`TrySource`], [`TrySink`], [`Sink`], [`Disk`], [`Texts`], [`Clock`], [`Dial`], [`Inbox`] and
-//! [`Hall`], and on [`write_all`] and [`read_all`].
+//! disk keeps bytes through a crash; texts and a clock are read; a dial opens wires, sends datagrams and asks by them;
+//! an inbox receives datagrams at a port, and sends them from there; a hall hands out the connections that come, each
+//! with its caller, up to a number that is stated, closers, by which they are closed, and watches, which tell a worker
+//! by hints alone which of its connections may go on. Each says what it holds, has taken or shows where that can be
+//! known: a disk what a crash may leave of it at each moment, a dial which wires came, an inbox what arrived and was
+//! sent in one order, and a hall which connections came, of which callers, and which its closers have closed, with what
+//! each told then. All but the clock count their faults, so that a failure always has a cause. These promises stand on
+//! the clauses of [`Source`], [`TrySource`], [`TrySink`], [`Sink`], [`Disk`], [`Texts`], [`Clock`], [`Dial`], [`Inbox`]
+//! and [`Hall`], and on [`write_all`] and [`read_all`].
 #![tactic(auto)]
 
 mod called;

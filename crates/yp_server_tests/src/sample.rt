@@ -9,7 +9,9 @@ use std::process::Abort;
 use std::random::RandomSource;
 use yp_board::{Catalog, MapName};
 use yp_host::Desk;
-use yp_io::{MemDial, MemDisk, MemSink, MemSource, MemTexts, MemWire, Pair, Peer, SetClock};
+use yp_io::{
+    MemDial, MemDisk, MemSink, MemSource, MemTexts, MemWire, Pair, Peer, Sending, SetClock,
+};
 use yp_map_file::Slot;
 use yp_transfer::Hosts;
 
@@ -248,9 +250,11 @@ pub type Posted = Vec<(Peer, Vec<u8>)>;
 
 pub fn posted_by(rt: &impl Abort, alloc: Global, dial: &MemDial) -> Posted {
     let mut posted = Vec::new(alloc);
-    for letter in dial.letters() {
-        let bytes = owned(rt, alloc, &letter.bytes);
-        posted.push((letter.peer, bytes)).expect(rt, "a letter");
+    for sending in dial.letters() {
+        if let Sending::Posted { letter } = sending {
+            let bytes = owned(rt, alloc, &letter.bytes);
+            posted.push((letter.peer, bytes)).expect(rt, "a letter");
+        }
     }
     posted
 }

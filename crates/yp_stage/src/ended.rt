@@ -4,7 +4,7 @@ use crate::outside::{Memory, bytes_of};
 use crate::row::{Datagram, Row, Stands};
 use std::alloc::{AllocError, Global};
 use std::random::RandomSource;
-use yp_io::{HallCall, Letter, MemDial, MemDisk, MemHall, Peer};
+use yp_io::{HallCall, Letter, MemDial, MemDisk, MemHall, Peer, Sending};
 use yp_map_file::Slot;
 use yp_program::{NamedDisk, Status};
 
@@ -86,13 +86,19 @@ pub fn stands_of(alloc: Global, rt: &impl RandomSource, file: &[u8]) -> Result<S
     }
 }
 
-fn put_letters(
-    ended: &mut Ended,
-    alloc: Global,
-    name: &str,
-    letters: &[Letter],
-) -> Result<(), AllocError> {
+fn put_sent(ended: &mut Ended, alloc: Global, letters: &[Letter]) -> Result<(), AllocError> {
     for letter in letters {
+        ended.letter(alloc, "sent", letter.peer, &letter.bytes)?;
+    }
+    Ok(())
+}
+
+fn put_dialed(ended: &mut Ended, alloc: Global, sendings: &[Sending]) -> Result<(), AllocError> {
+    for sending in sendings {
+        let (name, letter) = match sending {
+            Sending::Posted { letter } => ("posted", letter),
+            Sending::Asked { letter, answer: _ } => ("asked", letter),
+        };
         ended.letter(alloc, name, letter.peer, &letter.bytes)?;
     }
     Ok(())
@@ -121,11 +127,11 @@ fn put_came(
 ) -> Result<(), AllocError> {
     ended.bytes(alloc, "output", outside.output.taken())?;
     ended.bytes(alloc, "note", outside.notes.taken())?;
-    put_letters(ended, alloc, "sent", outside.inbox.letters())?;
+    put_sent(ended, alloc, outside.inbox.letters())?;
     ended.number(alloc, "turns", outside.inbox.turns())?;
-    put_letters(ended, alloc, "posted", outside.dial.letters())?;
+    put_dialed(ended, alloc, outside.dial.letters())?;
     ended.number(alloc, "wires", outside.dial.came().len() as u64)?;
-    ended.number(alloc, "asked", asked_of(&outside.dial, row) as u64)?;
+    ended.number(alloc, "taken", asked_of(&outside.dial, row) as u64)?;
     put_closed(ended, alloc, &outside.listen)?;
     let file = first_file(&outside.disks);
     ended.stands(alloc, &stands_of(alloc, rt, file)?)?;
@@ -179,11 +185,14 @@ fn put_wanted(
         put_datagram(ended, alloc, "sent", datagram)?;
     }
     ended.number(alloc, "turns", row.turns)?;
+    for datagram in row.asks {
+        put_datagram(ended, alloc, "asked", datagram)?;
+    }
     for datagram in row.posts {
         put_datagram(ended, alloc, "posted", datagram)?;
     }
     ended.number(alloc, "wires", row.wires as u64)?;
-    ended.number(alloc, "asked", row.asked as u64)?;
+    ended.number(alloc, "taken", row.asked as u64)?;
     for words in row.takes {
         put_words(ended, alloc, "taken", *words)?;
     }

@@ -6,7 +6,7 @@ ghost use Rattle.yp_io.specs.inside.MemHall.{EntryIsNew};
 ghost use Rattle.yp_command.specs.Words.{disk_names, texts};
 ghost use Rattle.yp_command.specs.office.Disks.{names_of};
 
-use crate::row::{Datagram, NEVER, Row};
+use crate::row::{Datagram, NEVER, Row, Words};
 use std::alloc::{AllocError, Global};
 use yp_board::MapName;
 use yp_io::{
@@ -107,10 +107,21 @@ fn wires_of(alloc: Global, row: &Row, wire: &[u8]) -> Result<Vec<MemWire>, Alloc
     Ok(vec![in alloc; first, second]?)
 }
 
+/// What comes back of questions.
+fn answers_of(alloc: Global, answers: &[Words]) -> Result<Vec<Option<Vec<u8>>>, AllocError> {
+    let mut came = Vec::new(alloc);
+    for words in answers {
+        let answer = bytes_of(alloc, *words)?;
+        came.push((!words.is_empty()).then_some(answer))?;
+    }
+    Ok(came)
+}
+
 fn dial_of(alloc: Global, row: &Row, wire: &[u8]) -> Result<MemDial, AllocError> {
     let failing = plan(alloc, row.dials)?;
+    let answers = answers_of(alloc, row.answers)?;
     let wires = wires_of(alloc, row, wire)?;
-    Ok(MemDial::new(alloc, wires, failing))
+    Ok(MemDial::with_answers(alloc, wires, answers, failing))
 }
 
 /// What a turn brings.

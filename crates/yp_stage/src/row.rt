@@ -52,7 +52,9 @@ pub struct Row {
     pub wire_reads: u64,
     pub wire_writes: u64,
     pub second_wire: Words,
-    /// The call of the dial that fails: a dial or a letter.
+    /// What comes back of each question of the dial, in turn; where there are no words, or no more, nothing does. And
+    /// the call of the dial that fails: a dial, a letter or a question.
+    pub answers: &'static [Words],
     pub dials: u64,
     /// What the turns bring, and the call of the inbox that fails: a turn or a letter.
     pub brings: &'static [Datagram],
@@ -78,8 +80,9 @@ pub struct Row {
     /// The letters of the inbox, and how many turns it took.
     pub sends: &'static [Datagram],
     pub turns: u64,
-    /// The letters of the dial, how many wires came, and how many bytes the first one took, which isn't looked at where
-    /// it is 0.
+    /// The questions of the dial, and its letters behind these, how many wires came, and how many bytes the first one
+    /// took, which isn't looked at where it is 0.
+    pub asks: &'static [Datagram],
     pub posts: &'static [Datagram],
     pub wires: usize,
     pub asked: usize,
@@ -114,6 +117,7 @@ pub const FAIR: Row = Row {
     wire_reads: NEVER,
     wire_writes: NEVER,
     second_wire: &[],
+    answers: &[],
     dials: NEVER,
     brings: &[],
     inbox: NEVER,
@@ -131,6 +135,7 @@ pub const FAIR: Row = Row {
     note: "",
     sends: &[],
     turns: 0,
+    asks: &[],
     posts: &[],
     wires: 0,
     asked: 0,

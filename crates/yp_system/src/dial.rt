@@ -1,6 +1,6 @@
-//! Connections and datagrams of the system.
+//! Connections of the system, and datagrams that are posted or ask.
 
-ghost use Rattle.std.specs.Prelude.{◌≡◌, ◌+◌, ◌≤◌, min, None, IfOk};
+ghost use Rattle.std.specs.Prelude.{◌≡◌, ◌+◌, ◌≤◌, length, min, None, IfSome, IfOk};
 ghost use Rattle.std.specs.Net.Addr.{ipv4_octets};
 ghost use Rattle.std.specs.Net.Socket.{v4_ip, v4_port};
 ghost use Rattle.yp_io.specs.Counts.{last_count};
@@ -12,12 +12,15 @@ use std::alloc::Global;
 use std::io;
 use std::io::ErrorKind;
 use std::net::{Ipv4Addr, Net, SocketAddr, SocketAddrV4, TcpStream, UdpSocket};
-use std::time::Duration;
+use std::time::{Clock, Duration, Instant};
 use yp_io::{Dial, Failed, Pair, Peer, Sink, Source, count_fault};
 
 // How long connecting, a read and a write each take at most, in seconds. It is more than a server needs that answers at
 // all, and less than a login waits for.
 const LIMIT_SECONDS: u64 = 30;
+
+// How long an answer by datagram is waited for, in seconds.
+const ANSWER_SECONDS: u64 = 2;
 
 /// A connection by TCP, whose two halves tell nothing of their bytes.
 pub type TcpWire = Pair<BlockReader<TcpStream>, DirectWriter<TcpStream>>;
@@ -31,9 +34,9 @@ pub enum LocalPorts {
     Reserved,
 }
 
-/// What connects by TCP and sends datagrams by UDP, over IPv4. It tells nothing of them.
+/// What connects by TCP, and sends datagrams and asks by UDP, over IPv4. It tells nothing of them.
 #[derive(Drop)]
-pub struct TcpDial<R: Net<Stream = TcpStream> + Drop> {
+pub struct TcpDial<R: Net<Stream = TcpStream> + Clock + Drop> {
     alloc: Global,
     net: R,
     limit: Duration,
@@ -41,7 +44,7 @@ pub struct TcpDial<R: Net<Stream = TcpStream> + Drop> {
     faults: u64,
 }
 
-impl<R: Net<Stream = TcpStream> + Drop> TcpDial<R> {
+impl<R: Net<Stream = TcpStream> + Clock + Drop> TcpDial<R> {
     /// Nothing is opened yet. Its wires come from these ports.
     pub fn new(alloc: Global, net: R, ports: LocalPorts) -> TcpDial<R>
         ensures { ⟦<TcpDial<R> as Dial>⟧.faults result ≡ 0 }
@@ -125,9 +128,13 @@ fn wire_of(alloc: Global, stream: TcpStream, limit: Duration) -> io::Result<TcpW
     })
 }
 
+// A socket at a port that the system picks.
+fn any_socket<R: Net>(net: &R) -> io::Result<UdpSocket> {
+    UdpSocket::bind(net, SocketAddrV4::new(Ipv4Addr::UNSPECIFIED, 0))
+}
+
 // Sends one datagram, and tries again where a signal interrupted that. One is sent whole or not at all.
-fn send<R: Net>(net: &R, to: Peer, piece: &[u8]) -> io::Result<()> {
-    let socket = UdpSocket::bind(net, SocketAddrV4::new(Ipv4Addr::UNSPECIFIED, 0))?;
+fn send(socket: &UdpSocket, to: Peer, piece: &[u8]) -> io::Result<()> {
     for _ in 0..u64::MAX {
         match socket.send_to(piece, address_of(to)) {
             Err(error) if error.kind() == ErrorKind::Interrupted => {}
@@ -137,7 +144,54 @@ fn send<R: Net>(net: &R, to: Peer, piece: &[u8]) -> io::Result<()> {
     Err(ErrorKind::TimedOut.into())
 }
 
-impl<R: Net<Stream = TcpStream> + Drop> Dial for TcpDial<R> {
+// A socket that takes datagrams of this peer alone, from which one was sent there.
+fn asking<R: Net>(net: &R, to: Peer, piece: &[u8]) -> io::Result<UdpSocket> {
+    let socket = any_socket(net)?;
+    socket.connect(address_of(to))?;
+    send(&socket, to, piece)?;
+    Ok(socket)
+}
+
+// How much is left of the time in which an answer may come, if any is. Where the clock can't be read none is.
+fn time_left(clock: &impl Clock, since: Instant) -> Option<Duration> {
+    let gone = since.elapsed(clock).ok()?;
+    let left = Duration::from_secs(ANSWER_SECONDS).checked_sub(gone)?;
+    (!left.is_zero()).then_some(left)
+}
+
+// Waits for a datagram of a peer, until the time is over or the socket fails, as where the peer's port is refused. It
+// tries again where a signal interrupted that, and passes over what a stranger sent before the socket had its peer.
+fn await_answer(
+    clock: &impl Clock,
+    socket: &UdpSocket,
+    from: Peer,
+    since: Instant,
+    buf: &mut [u8],
+) -> Option<usize>
+    ensures { IfSome result (λ len. len ≤ length buf.new) }
+{
+    for _ in 0..u64::MAX {
+        let left = time_left(clock, since)?;
+        socket.set_read_timeout(Some(left)).ok()?;
+        match socket.recv_from(buf) {
+            Ok((len, sender)) if sender == SocketAddr::V4(address_of(from)) => return Some(len),
+            Err(error) if error.kind() != ErrorKind::Interrupted => return None,
+            _ => {}
+        }
+    }
+    None
+}
+
+// Sends one datagram, and waits for its answer. Where it fails none was sent.
+fn ask<R: Net + Clock>(net: &R, to: Peer, piece: &[u8], buf: &mut [u8]) -> io::Result<Option<usize>>
+    ensures { IfOk result (λ came. IfSome came (λ len. len ≤ length buf.new)) }
+{
+    let since = Instant::now(net)?;
+    let socket = asking(net, to, piece)?;
+    Ok(await_answer(net, &socket, to, since, buf))
+}
+
+impl<R: Net<Stream = TcpStream> + Clock + Drop> Dial for TcpDial<R> {
     type In = BlockReader<TcpStream>;
 
     type Out = DirectWriter<TcpStream>;
@@ -158,8 +212,15 @@ impl<R: Net<Stream = TcpStream> + Drop> Dial for TcpDial<R> {
     }
 
     fn post(&mut self, to: Peer, piece: &[u8]) -> Result<(), Failed> {
-        match send(&self.net, to, piece) {
+        match any_socket(&self.net).and_then(|socket| send(&socket, to, piece)) {
             Ok(()) => Ok(()),
+            Err(_) => Err(count_fault(&mut self.faults)),
+        }
+    }
+
+    fn ask(&mut self, to: Peer, piece: &[u8], buf: &mut [u8]) -> Result<Option<usize>, Failed> {
+        match ask(&self.net, to, piece, buf) {
+            Ok(came) => Ok(came),
             Err(_) => Err(count_fault(&mut self.faults)),
         }
     }

@@ -1,6 +1,6 @@
--- A call back that is put into its buffer.
+-- A call that is put into its buffer.
 use Rattle.std.proofs.Common.{◌≡◌, ℕ, ◌+◌, List, [], ◌∷◌, ◌++◌, length, take, drop, refl, ap, ◌∙◌, arith}
-use Rattle.std.proofs.lemmas.List.{length-append, append-nil}
+use Rattle.std.proofs.lemmas.List.{length-append, length-take, take_at, append-nil}
 use Rattle.yp_xdr.specs.inside.Writing.{written}
 use Rattle.yp_xdr.specs.inside.Laws.{WrittenIsJoined}
 
@@ -25,3 +25,12 @@ fills law old half new head more at first place second full =
     joined
     ∙ ap (λ (front : List ℕ). (front ++ all) ++ drop (0 + length all) old) (take_none old)
     ∙ ap (λ (rest : List ℕ). all ++ rest) none ∙ append-nil all
+
+-- what is written at the front of a buffer
+pub front_set : (old new bytes : List ℕ) (len : ℕ) → new ≡ written old 0 bytes → len ≡ 0 + length bytes
+    → take len new ≡ bytes
+front_set old new bytes len there place =
+    ap (take len) there
+    ∙ take_at (take 0 old ++ bytes) (drop (0 + length bytes) old) len
+    (omega (arith, place, length-append (take 0 old) bytes, length-take 0 old))
+    ∙ ap (λ (front : List ℕ). front ++ bytes) (take_none old)

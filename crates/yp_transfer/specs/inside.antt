@@ -1,4 +1,5 @@
 pub mod Begun
+pub mod CallBack
 pub mod Dials
 pub mod Laws
 pub mod walk

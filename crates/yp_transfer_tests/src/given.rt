@@ -31,7 +31,7 @@ pub fn table<R: Abort>(rt: &R, alloc: Global) -> Hosts {
 }
 
 /// The numbers of calls that fail.
-fn list<R: Abort>(rt: &R, alloc: Global, calls: &[u64]) -> Vec<u64> {
+pub fn list<R: Abort>(rt: &R, alloc: Global, calls: &[u64]) -> Vec<u64> {
     Vec::from_slice(alloc, calls).expect(rt, "a list")
 }
 

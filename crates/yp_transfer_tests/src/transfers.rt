@@ -272,11 +272,10 @@ type Caller = (
     Option<(Peer, &'static str)>,
 );
 
-static CALLERS: [Caller; 5] = [
+static CALLERS: [Caller; 4] = [
     ("stored", ASKER, SECOND_REPLY, Some((PORT_834, TOLD_SUCC))),
     ("skewed", ASKER, SKEWED_REPLY, Some((PORT_834, TOLD_SKEW))),
     ("no program", Asker { prog: 0, ..ASKER }, SECOND_REPLY, None),
-    ("port 0", Asker { port: 0, ..ASKER }, SECOND_REPLY, None),
     (
         "port 65536",
         Asker {

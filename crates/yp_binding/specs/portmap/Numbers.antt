@@ -1,6 +1,10 @@
 -- The numbers of the port mapper (RFC 1833 section 3), and the limits of this one.
 use Rattle.std.specs.Prelude.{ℕ}
 
+-- the port at which it is called
+abbrev pub mapper_port : ℕ
+mapper_port = 111
+
 abbrev pub program : ℕ
 program = 100000
 

@@ -1,5 +1,8 @@
 //! Numbers of the port mapper (RFC 1833 section 3), and its limits.
 
+/// The port at which it is called.
+pub const PORT: u16 = 111;
+
 /// The program.
 pub const PROGRAM: u32 = 100_000;
 

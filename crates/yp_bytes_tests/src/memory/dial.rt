@@ -70,9 +70,9 @@ fn two_taken(wires: &[MemWire]) -> Option<(&[u8], &[u8])> {
 }
 
 // The one letter that was sent.
-fn one_letter(letters: &[Letter]) -> Option<(Peer, &[u8])> {
-    match letters {
-        [letter] => Some((letter.peer, &letter.bytes)),
+fn one_letter(sendings: &[Sending]) -> Option<(Peer, &[u8])> {
+    match sendings {
+        [Sending::Posted { letter }] => Some((letter.peer, &letter.bytes)),
         _ => None,
     }
 }
@@ -109,4 +109,69 @@ fn dial_in_memory(rt: HostRuntime) {
     let failing = listed(&rt, rt.alloc(), &[1, 4]);
     let mut dial = sent(MemDial::new(rt.alloc(), wires, failing));
     check_dial(&rt, &mut dial);
+}
+
+// What comes of a question with room for four bytes, and the room then.
+fn ask(dial: &mut MemDial, piece: &[u8]) -> (Result<Option<usize>, Failed>, [u8; 4]) {
+    let mut buf = [0; 4];
+    (dial.ask(PEER, piece, &mut buf), buf)
+}
+
+// A question that was sent, and what was kept of its answer.
+fn asked(sending: Option<&Sending>) -> Option<(Peer, &[u8], Option<&[u8]>)> {
+    match sending {
+        Some(Sending::Asked { letter, answer }) => {
+            Some((letter.peer, &letter.bytes, answer.as_deref()))
+        }
+        _ => None,
+    }
+}
+
+// Compares what comes of five questions to a dial that has a long answer, none, and a short one, and whose second call
+// fails; and the first two that it sent.
+fn check_questions(rt: &impl Abort, dial: &mut MemDial) {
+    let came = [
+        ask(dial, b"first"),
+        ask(dial, b"lost"),
+        ask(dial, b"third"),
+        ask(dial, b"fourth"),
+        ask(dial, b"last"),
+    ];
+    let wanted = [
+        (Ok(Some(4)), *b"long"),
+        (Err(Failed), [0; 4]),
+        (Ok(None), [0; 4]),
+        (Ok(Some(2)), *b"hi\0\0"),
+        (Ok(None), [0; 4]),
+    ];
+    assert_same(rt, &came, &wanted, "what comes of questions");
+    assert_same(rt, &dial.letters().len(), &4, "questions");
+    let first = Some((PEER, b"first".as_slice(), Some(b"long".as_slice())));
+    assert_same(
+        rt,
+        &asked(dial.letters().first()),
+        &first,
+        "the first question",
+    );
+    let third = Some((PEER, b"third".as_slice(), None));
+    assert_same(
+        rt,
+        &asked(dial.letters().get(1)),
+        &third,
+        "the third question",
+    );
+}
+
+#[test]
+fn questions_in_memory(rt: HostRuntime) {
+    let alloc = rt.alloc();
+    let answers = [
+        Some(owned(&rt, alloc, b"longer")),
+        None,
+        Some(owned(&rt, alloc, b"hi")),
+    ];
+    let answers = Vec::from_array(alloc, answers).expect(&rt, "memory for answers");
+    let failing = listed(&rt, alloc, &[1]);
+    let mut dial = MemDial::with_answers(alloc, Vec::new(alloc), answers, failing);
+    check_questions(&rt, &mut dial);
 }

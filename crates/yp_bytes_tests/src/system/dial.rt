@@ -14,7 +14,8 @@ use std::net::{
     Ipv4Addr, Net, Shutdown, SocketAddr, SocketAddrV4, TcpListener, TcpStream, UdpSocket,
 };
 use std::process::Abort;
-use std::time::Duration;
+use std::thread::join;
+use std::time::{Clock, Duration, Instant};
 use yp_io::{Dial, Failed, Pair, Peer, Sink, Source, count_fault};
 use yp_system::{LocalPorts, TcpDial, TcpWire};
 
@@ -49,7 +50,7 @@ fn listener<R: Net<Stream = TcpStream, Listener = TcpListener> + Abort>(
 }
 
 // A wire that a dial opened to a listener, and the peer's end of it. Then nobody listens there.
-fn open<R: Net<Stream = TcpStream, Listener = TcpListener> + Drop + Abort>(
+fn open<R: Net<Stream = TcpStream, Listener = TcpListener> + Clock + Drop + Abort>(
     rt: &R,
     dial: &mut TcpDial<R>,
 ) -> (TcpWire, TcpStream, Peer) {
@@ -89,7 +90,7 @@ fn reply(wire: &mut TcpWire, peer: &mut TcpStream) -> ([bool; 2], [Read3; 3]) {
 // failed.
 type Talked = (Called, ([bool; 2], [Read3; 3]), Option<usize>, u64);
 
-fn talk<R: Net<Stream = TcpStream, Listener = TcpListener> + Drop + Copy + Abort>(
+fn talk<R: Net<Stream = TcpStream, Listener = TcpListener> + Clock + Drop + Copy + Abort>(
     rt: R,
     alloc: Global,
 ) -> Talked {
@@ -124,7 +125,7 @@ fn reset(wire: &mut TcpWire, peer: TcpStream) -> [Result<usize, Failed>; 3] {
 
 // The same with a dial of its own: how often it failed then, whether it reaches nobody once none listens, and how
 // often it failed at the end.
-fn reset_over<R: Net<Stream = TcpStream, Listener = TcpListener> + Drop + Copy + Abort>(
+fn reset_over<R: Net<Stream = TcpStream, Listener = TcpListener> + Clock + Drop + Copy + Abort>(
     rt: R,
     alloc: Global,
 ) -> ([Result<usize, Failed>; 3], u64, bool, u64) {
@@ -145,7 +146,7 @@ fn nobody_listens_and_a_peer_resets(rt: HostRuntime) {
 }
 
 // What a read answers where the peer sends nothing, and how often the dial failed.
-fn wait<R: Net<Stream = TcpStream, Listener = TcpListener> + Drop + Copy + Abort>(
+fn wait<R: Net<Stream = TcpStream, Listener = TcpListener> + Clock + Drop + Copy + Abort>(
     rt: R,
     alloc: Global,
 ) -> (Result<usize, Failed>, u64) {
@@ -164,7 +165,7 @@ fn peer_that_never_answers(rt: HostRuntime) {
 }
 
 // The length of a letter that arrived, and the front of its bytes.
-fn arrived<R: Net<Stream = TcpStream> + Drop>(
+fn arrived<R: Net<Stream = TcpStream> + Clock + Drop>(
     dial: &mut TcpDial<R>,
     inbox: &UdpSocket,
     to: Peer,
@@ -203,7 +204,7 @@ fn may_have_reserved<R: Net>(rt: &R) -> bool {
 }
 
 // The port from which a wire comes, as its peer sees it, where it answers a call.
-fn port_of_wire<R: Net<Stream = TcpStream, Listener = TcpListener> + Drop + Abort>(
+fn port_of_wire<R: Net<Stream = TcpStream, Listener = TcpListener> + Clock + Drop + Abort>(
     rt: &R,
     dial: &mut TcpDial<R>,
 ) -> Option<u16> {
@@ -222,4 +223,69 @@ fn wires_from_reserved_ports(rt: HostRuntime) {
     let came = (first < 1024, second < 1024, first != second, dial.faults());
     let may = may_have_reserved(&rt);
     assert_same(&rt, &came, &(may, may, true, 0), "the ports of two wires");
+}
+
+// ---- questions
+
+// What comes of a question, and as much of the answer as there is room for.
+type Asked = (Result<Option<usize>, Failed>, [u8; 4]);
+
+fn ask<R: Net<Stream = TcpStream> + Clock + Drop>(dial: &mut TcpDial<R>, to: Peer) -> Asked {
+    let mut buf = [0; 4];
+    (dial.ask(to, b"question", &mut buf), buf)
+}
+
+// Answers one question, which a stranger answers before.
+fn answer(socket: &UdpSocket, stranger: &UdpSocket) -> io::Result<()> {
+    let mut buf = [0; 16];
+    let (_, from) = socket.recv_from(&mut buf)?;
+    stranger.send_to(b"bad", from)?;
+    socket.send_to(b"answer", from)?;
+    Ok(())
+}
+
+#[test]
+fn question_that_is_answered(rt: HostRuntime) {
+    let (socket, to) = mailbox(&rt);
+    let (stranger, _) = mailbox(&rt);
+    let mut dial = TcpDial::new(rt.alloc(), rt, LocalPorts::Any);
+    let (came, answered) = join(
+        &rt,
+        || ask(&mut dial, to),
+        || answer(&socket, &stranger).is_ok(),
+    );
+    assert_same(&rt, &came, &(Ok(Some(4)), *b"answ"), "an answer");
+    assert_same(&rt, &(answered, dial.faults()), &(true, 0), "no fault");
+}
+
+// What comes of a question, and how many tenths of a second it took.
+fn timed<R: Net<Stream = TcpStream> + Clock + Drop>(
+    clock: &impl Clock,
+    dial: &mut TcpDial<R>,
+    to: Peer,
+) -> (Asked, Option<u128>) {
+    let since = Instant::now(clock).ok();
+    let came = ask(dial, to);
+    let took = since.and_then(|since| since.elapsed(clock).ok());
+    (came, took.map(|took| took.as_millis() / 100))
+}
+
+#[test]
+fn question_that_is_not_answered(rt: HostRuntime) {
+    let (socket, to) = mailbox(&rt);
+    let mut dial = TcpDial::new(rt.alloc(), rt, LocalPorts::Any);
+    let (came, took) = timed(&rt, &mut dial, to);
+    assert_same(&rt, &came, &(Ok(None), [0; 4]), "silence");
+    assert!(&rt;
+        took.is_some_and(|took| (19..40).contains(&took)),
+        "{took:?} tenths of a second"
+    );
+    drop(socket);
+    let (came, took) = timed(&rt, &mut dial, to);
+    assert_same(&rt, &came, &(Ok(None), [0; 4]), "a port that is closed");
+    assert!(&rt;
+        took.is_some_and(|took| took < 10),
+        "{took:?} tenths of a second"
+    );
+    assert_same(&rt, &dial.faults(), &0, "no fault");
 }

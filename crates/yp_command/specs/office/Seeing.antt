@@ -2,8 +2,7 @@
 use Rattle.std.specs.Prelude.{◌≡◌, ◌≢◌, ℕ, List, Option, IsTrue}
 use Rattle.yp_io.specs.Counts.{HasRisen}
 use Rattle.yp_io.specs.Disk.{History}
-use Rattle.yp_io.specs.Dials.{Wires}
-use Rattle.yp_io.specs.declared.stream.Peer.{Peer}
+use Rattle.yp_io.specs.Dials.{Wires, Sending}
 use Rattle.yp_io.specs.declared.stream.Source as source
 use Rattle.yp_io.specs.declared.stream.Sink as sink
 use Rattle.yp_io.specs.declared.disk.Disk as disk
@@ -17,10 +16,10 @@ use Rattle.yp_command.specs.declared.office.status.Status.{Status}
 use Rattle.yp_command.specs.declared.office.status.Status.TheVariants.{ReadFault, WriteFault, DiskFault, DialFault}
 use Rattle.yp_command.specs.office.Disks.{names_of, history_of, faults_of}
 
--- what a dial tells: its wires, the datagrams that were sent, and how often it has failed
+-- what a dial tells: its wires, what it sent, and how often it has failed
 pub record DialGhosts (A : Type 0) : Type 0 where
   pub past : A → Option Wires
-  pub letters : A → Option (List (Peer × List ℕ))
+  pub letters : A → Option (List Sending)
   pub faults : A → ℕ
 
 -- what its source, sink, disks, clock, dial, inbox and texts tell

@@ -42,8 +42,7 @@ use yp_version::Version;
 /// call of a program that shares a desk picks it.
 pub trait Supplies {
     ghost use Rattle.std.specs.Prelude.{ℕ, List, Option};
-    ghost use Rattle.yp_io.specs.declared.stream.Peer.{Peer};
-    ghost use Rattle.yp_io.specs.Dials.{Wires};
+    ghost use Rattle.yp_io.specs.Dials.{Wires, Sending};
     ghost use Rattle.yp_transfer.specs.HostTable.{HostList};
 
     /// The bytes of each text, where they are told.
@@ -58,8 +57,8 @@ pub trait Supplies {
     /// The wires of its dial, where they were told.
     ghost wires: { Option Wires };
 
-    /// The datagrams that its dial had sent, where they were told.
-    ghost letters: { Option (List (Peer × List ℕ)) };
+    /// What its dial had sent, where that was told.
+    ghost letters: { Option (List Sending) };
 
     /// How often its dial had failed.
     ghost dial_faults: { ℕ };
