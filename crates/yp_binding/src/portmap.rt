@@ -3,7 +3,8 @@
 //! A registry is a list of mappings, and each call changes that list and is replied to exactly by the definitions of
 //! `specs/portmap/Registry.antt` and `Replies.antt`: SET and UNSET for callers on the own host alone. The promise
 //! stands on [`Registry::on_call`], which leaves no two mappings of one version of a program over one protocol, and on
-//! [`laws`]: a repeated call changes nothing. A client asks by [`ask_port`], and reads the reply by [`read_port`].
+//! [`laws`]: a repeated call changes nothing. A client writes a call by [`write_port_call`], and reads the reply by
+//! [`read_answer`]; [`ask_port`] and [`read_port`] are these for GETPORT alone.
 
 mod asking;
 pub mod laws;
@@ -12,6 +13,8 @@ pub mod protocol;
 mod registry;
 mod request;
 
-pub use asking::{CALL_LEN, PortReply, ask_port, read_port};
+pub use asking::{
+    CALL_LEN, PortAnswer, PortCall, PortReply, ask_port, read_answer, read_port, write_port_call,
+};
 pub use mapping::Mapping;
 pub use registry::Registry;

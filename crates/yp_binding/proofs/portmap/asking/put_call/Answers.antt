@@ -4,9 +4,9 @@ use Rattle.yp_xdr.specs.inside.Writing.{Writes}
 use Rattle.yp_rpc.specs.Call.{front_kind, procedure_kind}
 use Rattle.yp_rpc.specs.Called.{front, heading}
 use Rattle.yp_rpc.specs.inside.Called.{called}
-use Rattle.yp_binding.specs.portmap.Registry.{mapping_kind}
+use Rattle.yp_binding.specs.portmap.Registry.{mapping_kind, mapping_view}
 use Rattle.yp_binding.proofs.portmap.Putting.{writes_from_sets}
-use Rattle.yp_binding.proofs.portmap.asking.ask_port.Goals as goal
+use Rattle.yp_binding.proofs.portmap.asking.put_call.Goals as goal
 
 pub returns-then-buf-lt-CALL_LEN : goal.returns-then-buf-lt-CALL_LEN
 unfolding opaque fixed
@@ -24,12 +24,12 @@ returns c =
     let half = c.write_call.new.buf in
     let new = c.set.new.buf in
     let end = c.set.result in
-    let head = called c.args.xid 100000 2 3 in
-    let asked = spelling mapping_kind (c.args.prog, (c.args.vers, (c.args.prot, 0))) in
+    let head = called c.args.xid 100000 2 c.args.procedure in
+    let asked = spelling mapping_kind (mapping_view c.args.asked) in
     let room : 0 + length (head ++ asked) ≤ length old = omega (arith, c.if-buf-lt-CALL_LEN.false) in
     let within : end ≤ length half =
     omega (arith, c.set.ensures.place, c.in-Ok.ensures.len, c.write_call.auto.buf, c.if-buf-lt-CALL_LEN.false) in
     let put = writes_from_sets asked c.in-Ok.at end half new c.set.ensures within in
     subst (λ (bytes : List ℕ). Writes bytes 0 (Ok end) old new)
-    (append_assoc (spelling front_kind (front c.args.xid)) (spelling procedure_kind (heading 100000 2 3)) asked)
+    (append_assoc (spelling front_kind (front c.args.xid)) (spelling procedure_kind (heading 100000 2 c.args.procedure)) asked)
     (c.writers_join.ensures head asked 0 c.in-Ok.at (Ok end) old half new room c.in-Ok.ensures.written put)
