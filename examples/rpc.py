@@ -75,27 +75,13 @@ def results(reply, xid):
     return reply[24:]
 
 
-def take_reserved_port(client):
-    """Gives the socket a port under 1,024, where this program may."""
-    for port in range(1023, 600, -1):
-        try:
-            client.bind(("", port))
-            return
-        except PermissionError:
-            return
-        except OSError:
-            pass
-
-
-def ask(message, to, seconds=20, again=AGAIN, is_reserved=False):
+def ask(message, to, seconds=20, again=AGAIN):
     """Sends a datagram again and again until one with its number comes back, and gives that, or nothing.
 
     A port that isn't open yet refuses, or loses, what is sent there.
     """
     end = time.monotonic() + seconds
     with socket.socket(socket.AF_INET, socket.SOCK_DGRAM) as client:
-        if is_reserved:
-            take_reserved_port(client)
         client.settimeout(again)
         client.connect(to)
         while time.monotonic() < end:

@@ -66,7 +66,7 @@ serves master m0 "$port" lab/hosts.byname lab/hosts.byaddr lab/netgroup
 mkdir far && serves far s1 "$slave_port" lab/hosts.byname "m1@127.0.0.1:$port"
 "$yp" portmap "$mapper_port" "$life" >/dev/null &
 servers+=($!)
-python3 "$top/examples/register.py" "$port" "$mapper_port" || exit 1
+register "$port" "$mapper_port" >/dev/null || exit 1
 
 # fresh FOLDER: what a run begins with, in `at`.
 fresh() {
@@ -314,6 +314,8 @@ try_commands() {
     row bind . lab/hosts.byname /dev/null bind "$own" fixed 1 lab "m0@$server"
     row portmap . lab/hosts.byname /dev/null portmap "$own" 1
     row getport . lab/hosts.byname /dev/null getport "$own" 5 "127.0.0.1:$mapper_port" 100004 2 6
+    row setport . lab/hosts.byname /dev/null setport "$own" 5 "127.0.0.1:$mapper_port" 100004 2 6 "$port"
+    row unsetport . lab/hosts.byname /dev/null unsetport "$own" 5 "127.0.0.1:$mapper_port" 100009 1
     # The first push has the slave fetch the map, and the others find that it has it.
     (cd start && "$yp" push m1 "$own" 1 20 lab/hosts.byname "s1@127.0.0.1:$slave_port" >/dev/null)
     row push . lab/hosts.byname /dev/null push m1 "$own" 1 5 lab/hosts.byname "s1@127.0.0.1:$slave_port"

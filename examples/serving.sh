@@ -7,6 +7,9 @@
 #                       answered, and leaves its process in `server`; what it writes goes to the file NAME.tally
 #     ended NAME PORT   takes the turns that are left by datagrams, waits for the end of `server`, and prints its status
 #                       and what it wrote
+#     register PORT MAPPER
+#                       tells the port mapper at port MAPPER that a server has PORT over TCP and UDP, for YP and for the
+#                       make program, as yp-register.service does
 #     post PORT [AGAIN] sends calls in datagrams, each a line of words, again after AGAIN seconds, and prints replies
 #     may_reserve       whether a program here may have a port under 1,024, as root may
 #     match XID KEY     prints the message of MATCH of a key in lab/hosts.byname, and `make XID` that of MAKE of it
@@ -35,6 +38,18 @@ ended() {
     wait "$server"
     echo "$1 ends with status $?"
     cat "$1.tally"
+}
+
+register() {
+    local own program
+    own=$(free_port)
+    for program in '100004 2' '536890953 1'; do
+        # shellcheck disable=SC2086 # a program and its version are two words
+        "${yp:-yp}" unsetport "$own" 10 "127.0.0.1:$2" $program
+        # shellcheck disable=SC2086
+        "${yp:-yp}" setport "$own" 10 "127.0.0.1:$2" $program 6 "$1" &&
+            "${yp:-yp}" setport "$own" 10 "127.0.0.1:$2" $program 17 "$1" || return
+    done
 }
 
 may_reserve() {

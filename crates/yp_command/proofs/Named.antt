@@ -11,6 +11,7 @@ use Rattle.std.proofs.lemmas.List.Elements.{All-append}
 use Rattle.yp_io.specs.declared.stream.Peer.{Peer}
 use Rattle.yp_version.specs.Limits.{key_max}
 use Rattle.yp_binding.specs.Kept.{servers_max}
+use Rattle.yp_binding.specs.declared.portmap.asking.PortCall.TheVariants as mapper
 use Rattle.yp_board.specs.readers.Boards.{workers_max}
 use Rattle.yp_board.specs.Catalogues.{Name, name_max, maps_max, is_same, is_name as is_short_name}
 use Rattle.yp_board.specs.inside.Catalogues.{is_map_name}
@@ -21,11 +22,12 @@ use Rattle.yp_command.specs.declared.command.Command.{Command}
 use Rattle.yp_command.specs.declared.words.ParseFault.{ParseFault}
 use Rattle.yp_command.specs.Words.{Meaning, meaning, ◌>>=◌, word, served, stores_and_hosts, servers}
 use Rattle.yp_command.specs.Words.{is_new_store, is_new_server, once, session, serve, check, dump, build, load, xfr}
-use Rattle.yp_command.specs.Words.{walk, revnet, sample, push, bind, portmap, getport, asking, match_key, maps, innetgr}
+use Rattle.yp_command.specs.Words.{walk, revnet, sample, push, bind, portmap, getport, setport, unsetport, asking}
+use Rattle.yp_command.specs.Words.{match_key, maps, innetgr}
 use Rattle.yp_command.specs.Words.{pull}
 use Rattle.yp_command.specs.Words.{compared, orders, Orders}
 use Rattle.yp_command.specs.Words.{sentence, command_of, each, end, optional, Once, Session, Serve, Check, Dump, Build}
-use Rattle.yp_command.specs.Words.{Load, Xfr, Walk, Revnet, Sample, Push, Bind, Portmap, Getport, Ask}
+use Rattle.yp_command.specs.Words.{Load, Xfr, Walk, Revnet, Sample, Push, Bind, Portmap, CallMapper, Ask}
 use Rattle.yp_command.specs.inside.Words.{IsNamed, IsOneMap, AreMaps as MakeMaps, HasNames, Answers}
 use Rattle.yp_client.specs.declared.question.Question.TheVariants.{Cat, Catk, Match, Which, Poll, Maps, Innetgr}
 use Rattle.yp_client.specs.declared.question.Question.TheVariants.{Pull, Make}
@@ -501,7 +503,29 @@ getport_named words =
     read (word 4 form.number words) _ λ prog _.
     read (word 5 form.number words) _ λ vers _.
     read (word 6 form.number words) _ λ prot _. read (end 7 words) _ λ end _.
-    whole (Getport port turns peer prog vers prot) tt
+    whole (CallMapper port turns peer (mapper.GetPort prog vers prot)) tt
+
+setport_named : (words : List (List ℕ)) → Named (setport words)
+unfolding setport
+setport_named words =
+    read (word 1 form.port words) _ λ port _.
+    read (word 2 form.most words) _ λ turns _.
+    read (word 3 form.address words) _ λ peer _.
+    read (word 4 form.number words) _ λ prog _.
+    read (word 5 form.number words) _ λ vers _.
+    read (word 6 form.number words) _ λ prot _.
+    read (word 7 form.port words) _ λ number _. read (end 8 words) _ λ end _.
+    whole (CallMapper port turns peer (mapper.Set (record { prog = prog; vers = vers; prot = prot; port = number }))) tt
+
+unsetport_named : (words : List (List ℕ)) → Named (unsetport words)
+unfolding unsetport
+unsetport_named words =
+    read (word 1 form.port words) _ λ port _.
+    read (word 2 form.most words) _ λ turns _.
+    read (word 3 form.address words) _ λ peer _.
+    read (word 4 form.number words) _ λ prog _.
+    read (word 5 form.number words) _ λ vers _. read (end 6 words) _ λ end _.
+    whole (CallMapper port turns peer (mapper.Unset prog vers)) tt
 
 asking_named : (question : List ℕ → List ℕ → ByteQuestion) (words : List (List ℕ))
     → ((domain map : List ℕ) → IsNamed (domain, map) → QuestionIsWithin (question domain map))
@@ -606,6 +630,8 @@ sentence_named first words =
     named_if (bytes_eq first (codes "bind")) _ _ (bind_named words) (
     named_if (bytes_eq first (codes "portmap")) _ _ (portmap_named words) (
     named_if (bytes_eq first (codes "getport")) _ _ (getport_named words) (
+    named_if (bytes_eq first (codes "setport")) _ _ (setport_named words) (
+    named_if (bytes_eq first (codes "unsetport")) _ _ (unsetport_named words) (
     named_if (bytes_eq first (codes "cat")) _ _ (asking_named Cat words (λ domain map short. short)) (
     named_if (bytes_eq first (codes "catk")) _ _ (asking_named Catk words (λ domain map short. short)) (
     named_if (bytes_eq first (codes "which")) _ _ (asking_named Which words (λ domain map short. short)) (
@@ -615,7 +641,7 @@ sentence_named first words =
     named_if (bytes_eq first (codes "pull")) _ _ (pull_named words) (
     named_if (bytes_eq first (codes "make")) _ _ (asking_named Make words (λ domain map short. short)) (
     named_if (bytes_eq first (codes "innetgr")) _ _ (innetgr_named words) (
-    named_if (bytes_eq first (codes "orders")) _ _ (orders_named words) (none_named 0)))))))))))))))))))))))))
+    named_if (bytes_eq first (codes "orders")) _ _ (orders_named words) (none_named 0)))))))))))))))))))))))))))
 
 -- what the words ask for has such names
 asked_named : (words : List (List ℕ)) (meaning : Meaning) → command_of words ≡ Ok meaning → HasNames meaning

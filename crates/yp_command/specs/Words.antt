@@ -9,6 +9,8 @@ use Rattle.std.specs.declared.alloc.Global.{Global}
 use Rattle.yp_version.specs.Rows.{Row}
 use Rattle.yp_io.specs.declared.stream.Peer.{Peer}
 use Rattle.yp_binding.specs.declared.binder.Policy.{Policy}
+use Rattle.yp_binding.specs.declared.portmap.asking.PortCall.{PortCall}
+use Rattle.yp_binding.specs.declared.portmap.asking.PortCall.TheVariants as mapper
 use Rattle.yp_binding.specs.Kept.{servers_max}
 use Rattle.yp_binding.specs.Rounds.{is_same_peer}
 use Rattle.yp_board.specs.Catalogues.{Name, maps_max, name_view, is_same}
@@ -51,8 +53,8 @@ pub data Meaning : Type 0 where
   Bind : (port : ℕ) (policy : Policy) (turns : ℕ) (domain : List ℕ) (hosts : List Host) → Meaning
   -- the port, and how many turns there are
   Portmap : (port turns : ℕ) → Meaning
-  -- the port, the most turns, the port mapper, and the program, version and protocol that it is asked for
-  Getport : (port turns : ℕ) (peer : Peer) (prog vers prot : ℕ) → Meaning
+  -- the port, the most turns, the port mapper, and the call of it
+  CallMapper : (port turns : ℕ) (peer : Peer) (call : PortCall) → Meaning
   -- a server, and what it is asked
   Ask : (peer : Peer) (question : ByteQuestion) → Meaning
   -- the server that names the maps, the other servers, and the domain
@@ -257,7 +259,29 @@ getport words = do
   vers ← word 5 form.number words
   prot ← word 6 form.number words
   _ ← end 7 words
-  Ok (Getport port turns peer prog vers prot)
+  Ok (CallMapper port turns peer (mapper.GetPort prog vers prot))
+
+unfoldable pub setport : Sentence
+setport words = do
+  port ← word 1 form.port words
+  turns ← word 2 form.most words
+  peer ← word 3 form.address words
+  prog ← word 4 form.number words
+  vers ← word 5 form.number words
+  prot ← word 6 form.number words
+  number ← word 7 form.port words
+  _ ← end 8 words
+  Ok (CallMapper port turns peer (mapper.Set (record { prog = prog; vers = vers; prot = prot; port = number })))
+
+unfoldable pub unsetport : Sentence
+unsetport words = do
+  port ← word 1 form.port words
+  turns ← word 2 form.most words
+  peer ← word 3 form.address words
+  prog ← word 4 form.number words
+  vers ← word 5 form.number words
+  _ ← end 6 words
+  Ok (CallMapper port turns peer (mapper.Unset prog vers))
 
 -- a question of a map
 abbrev pub asking : (List ℕ → List ℕ → ByteQuestion) → Sentence
@@ -329,6 +353,8 @@ sentence first words =
     else if bytes_eq first (codes "bind") then bind words
     else if bytes_eq first (codes "portmap") then portmap words
     else if bytes_eq first (codes "getport") then getport words
+    else if bytes_eq first (codes "setport") then setport words
+    else if bytes_eq first (codes "unsetport") then unsetport words
     else if bytes_eq first (codes "cat") then asking Cat words
     else if bytes_eq first (codes "catk") then asking Catk words
     else if bytes_eq first (codes "which") then asking Which words
@@ -380,7 +406,7 @@ stores_of (Sample start count) = []
 stores_of (Push name port window turns store hosts) = with_ypservers store
 stores_of (Bind port policy turns domain hosts) = []
 stores_of (Portmap port turns) = []
-stores_of (Getport port turns peer prog vers prot) = []
+stores_of (CallMapper port turns peer call) = []
 stores_of (Ask peer question) = []
 stores_of (Orders first others domain) = []
 
@@ -422,7 +448,7 @@ meaning (command.Push job) =
 meaning (command.Bind port policy turns domain hosts) =
     Bind port policy turns domain.items (map host_view hosts.items)
 meaning (command.Portmap port turns) = Portmap port turns
-meaning (command.Getport port turns addr prog vers prot) = Getport port turns addr prog vers prot
+meaning (command.CallMapper port turns addr call) = CallMapper port turns addr call
 meaning (command.Ask addr question) = Ask addr (bytes_of question)
 meaning (command.Orders first others domain) = Orders first others.items domain.items
 
@@ -448,6 +474,6 @@ TakesMemory (Sample start count) = ⊥
 TakesMemory (Push name port window turns store hosts) = Unit {0}
 TakesMemory (Bind port policy turns domain hosts) = Unit {0}
 TakesMemory (Portmap port turns) = ⊥
-TakesMemory (Getport port turns peer prog vers prot) = ⊥
+TakesMemory (CallMapper port turns peer call) = ⊥
 TakesMemory (Ask peer question) = Unit {0}
 TakesMemory (Orders first others domain) = Unit {0}

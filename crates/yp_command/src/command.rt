@@ -1,6 +1,7 @@
 //! What the program can be asked to do.
 
 use yp_binding::Policy;
+use yp_binding::portmap::PortCall;
 use yp_board::MapName;
 use yp_client::Question;
 use yp_io::Peer;
@@ -151,15 +152,13 @@ pub enum Command {
         port: u16,
         turns: u64,
     },
-    /// Asks the port mapper at `addr`, from `port` and in at most so many turns, for the port of version `vers` of
-    /// program `prog` over protocol `prot`.
-    Getport {
+    /// Calls the port mapper at `addr`, from `port` and in at most so many turns: for a port, to add a mapping, or to
+    /// remove those of a program.
+    CallMapper {
         port: u16,
         turns: u64,
         addr: Peer,
-        prog: u32,
-        vers: u32,
-        prot: u32,
+        call: PortCall,
     },
     /// Asks the server at `addr` a question.
     Ask {

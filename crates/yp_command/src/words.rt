@@ -8,7 +8,8 @@ ghost use Rattle.yp_command.specs.inside.Words.{connections_of, port_of};
 ghost use Rattle.yp_command.specs.Words.{row_view, host_view, meaning, texts};
 ghost use Rattle.yp_command.specs.inside.Words.{Answers};
 ghost use Rattle.yp_command.specs.Words.{once, session, serve, check, dump, build, load, xfr, walk, revnet, sample};
-ghost use Rattle.yp_command.specs.Words.{push, bind, portmap, getport, asking, match_key, maps, innetgr, TakesMemory};
+ghost use Rattle.yp_command.specs.Words.{push, bind, portmap, getport, setport, unsetport, asking, match_key, maps};
+ghost use Rattle.yp_command.specs.Words.{innetgr, TakesMemory};
 ghost use Rattle.yp_command.specs.Words.{pull, orders, netgroup_of, ypservers_of};
 ghost use Rattle.yp_command.specs.inside.Words.{IsSentenceOfWords, IsUsage, HasNames};
 ghost use Rattle.yp_command.specs.Words.{is_ypservers, with_ypservers};
@@ -17,6 +18,7 @@ use crate::command::{Command, HostWord, KeyValue, PushJob, ServeJob, WalkJob, Xf
 use crate::further::{each_host, each_pair, peers_and_domain, servers, stores_and_hosts};
 use crate::sentence::Words;
 use std::alloc::{AllocError, Global};
+use yp_binding::portmap::{Mapping, PortCall};
 use yp_board::{MapName, copy_names};
 use yp_client::Question;
 use yp_io::{NoMemory, Peer};
@@ -323,13 +325,55 @@ fn getport(words: Words) -> Result<Command, ParseFault>
     let vers = words.number(5)?;
     let prot = words.number(6)?;
     words.end(7)?;
-    Ok(Command::Getport {
+    Ok(Command::CallMapper {
         port,
         turns,
         addr,
+        call: PortCall::GetPort { prog, vers, prot },
+    })
+}
+
+#[tactic(auto, unfolding(crate::specs::Words::setport))]
+fn setport(words: Words) -> Result<Command, ParseFault>
+    ensures { Answers (setport (texts words.entry.words.now)) result }
+{
+    let port = words.port(1)?;
+    let turns = words.most(2)?;
+    let addr = words.address(3)?;
+    let prog = words.number(4)?;
+    let vers = words.number(5)?;
+    let prot = words.number(6)?;
+    let number = words.port(7)?;
+    words.end(8)?;
+    let mapping = Mapping {
         prog,
         vers,
         prot,
+        port: u32::from(number),
+    };
+    Ok(Command::CallMapper {
+        port,
+        turns,
+        addr,
+        call: PortCall::Set { mapping },
+    })
+}
+
+#[tactic(auto, unfolding(crate::specs::Words::unsetport))]
+fn unsetport(words: Words) -> Result<Command, ParseFault>
+    ensures { Answers (unsetport (texts words.entry.words.now)) result }
+{
+    let port = words.port(1)?;
+    let turns = words.most(2)?;
+    let addr = words.address(3)?;
+    let prog = words.number(4)?;
+    let vers = words.number(5)?;
+    words.end(6)?;
+    Ok(Command::CallMapper {
+        port,
+        turns,
+        addr,
+        call: PortCall::Unset { prog, vers },
     })
 }
 
@@ -516,6 +560,8 @@ fn read(alloc: Global, words: Words) -> Result<Command, ParseFault>
         "bind" => bind(alloc, words),
         "portmap" => portmap(words),
         "getport" => getport(words),
+        "setport" => setport(words),
+        "unsetport" => unsetport(words),
         "cat" => cat(alloc, words),
         "catk" => catk(alloc, words),
         "which" => which(alloc, words),
@@ -550,7 +596,7 @@ pub fn stores_of(alloc: Global, command: &Command) -> Result<Vec<MapName>, NoMem
         Command::Sample { .. } => return Ok(Vec::new(alloc)),
         Command::Bind { .. } => return Ok(Vec::new(alloc)),
         Command::Portmap { .. } => return Ok(Vec::new(alloc)),
-        Command::Getport { .. } => return Ok(Vec::new(alloc)),
+        Command::CallMapper { .. } => return Ok(Vec::new(alloc)),
         Command::Ask { .. } => return Ok(Vec::new(alloc)),
         Command::Orders { .. } => return Ok(Vec::new(alloc)),
     };
@@ -579,7 +625,7 @@ pub fn port_of(command: &Command) -> Option<u16>
         Command::Push(job) => Some(job.port),
         Command::Bind { port, .. } => Some(*port),
         Command::Portmap { port, .. } => Some(*port),
-        Command::Getport { port, .. } => Some(*port),
+        Command::CallMapper { port, .. } => Some(*port),
         Command::Ask { .. } => None,
         Command::Orders { .. } => None,
     }
@@ -604,7 +650,7 @@ pub fn connections_of(command: &Command) -> u64
         Command::Push(_) => 0,
         Command::Bind { .. } => 0,
         Command::Portmap { .. } => 0,
-        Command::Getport { .. } => 0,
+        Command::CallMapper { .. } => 0,
         Command::Ask { .. } => 0,
         Command::Orders { .. } => 0,
     }

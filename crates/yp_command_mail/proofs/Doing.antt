@@ -1,4 +1,4 @@
--- What `getport` did, by how its turns ended and what it told.
+-- What a call of a port mapper did, by how its turns ended and what was told.
 use Rattle.std.proofs.Common.{◌≡◌, ℕ, Ok, Err, None, refl, inl}
 use Rattle.yp_io.specs.Counts.{HasRisen}
 use Rattle.yp_io.specs.declared.stream.Failed.{Failed}
@@ -8,9 +8,9 @@ use Rattle.yp_command.specs.declared.office.status.Status.{Status}
 use Rattle.yp_command.specs.declared.office.status.Status.TheVariants.{WriteFault, InboxFault}
 use Rattle.yp_command.specs.declared.office.office.Office.{Office}
 use Rattle.yp_command.specs.office.Seeing.{Seeing}
-use Rattle.yp_command_mail.specs.declared.getport.Asking.{Asking}
+use Rattle.yp_command_mail.specs.declared.mapper.Asking.{Asking}
 use Rattle.yp_command_mail.specs.Telling.{TellsText, HasInboxCauses, box}
-use Rattle.yp_command_mail.specs.Getport.{asking_ways, answer_text, answer_status, GetportDoes}
+use Rattle.yp_command_mail.specs.Mapper.{asking_ways, answer_text, answer_status, MapperDoes}
 use Rattle.yp_command_mail.proofs.Told.{told_whole}
 use Rattle.yp_command_mail.proofs.Answered.{first_counts}
 
@@ -36,12 +36,12 @@ module _ {S K D C A I T : Type 0} (seen : Seeing S K D C A I T) (turns : ℕ) (o
   failed : (inbox : I) → BoxFails inbox → HasInboxCauses seen InboxFault old (turned inbox)
   failed inbox fails = record { write_fault = λ e. absurd cc; inbox_fault = λ e. fails }
 
-  -- ---- `getport`
+  -- ---- the commands
 
-  pub getport_failed : (first last : Asking) (inbox : I) (why : Failed) → first.answer ≡ None
+  pub mapper_failed : (first last : Asking) (inbox : I) (why : Failed) → first.answer ≡ None
       → TakesTurns asking_ways turns (Err why) first last (box seen old) (told_box inbox) → BoxFails inbox
-      → GetportDoes seen turns first InboxFault old (turned inbox)
-  getport_failed first last inbox why none takes fails = record {
+      → MapperDoes seen turns first InboxFault old (turned inbox)
+  mapper_failed first last inbox why none takes fails = record {
     asks = inl (record {
       end = Err why;
       last = last;
@@ -54,14 +54,14 @@ module _ {S K D C A I T : Type 0} (seen : Seeing S K D C A I T) (turns : ℕ) (o
     stays = refl;
   }
 
-  pub getport_told : (first last : Asking) (inbox : I) (sink : K) (status : Status) (end : Ended)
+  pub mapper_told : (first last : Asking) (inbox : I) (sink : K) (status : Status) (end : Ended)
       → first.answer ≡ None
       → TakesTurns asking_ways turns (Ok end) first last (box seen old) (told_box inbox)
-      → TellsText (answer_text last.answer) (answer_status turns last.answer) status (seen.sink.output old.wire.sink)
+      → TellsText (answer_text first.call last.answer) (answer_status turns last.answer) status (seen.sink.output old.wire.sink)
       (seen.sink.output sink)
       → (status ≡ WriteFault → SinkFails sink) → (status ≡ InboxFault → ⊥)
-      → GetportDoes seen turns first status old (told inbox sink)
-  getport_told first last inbox sink status end none takes tells cause heard = record {
+      → MapperDoes seen turns first status old (told inbox sink)
+  mapper_told first last inbox sink status end none takes tells cause heard = record {
     asks = inl (record {
       end = Ok end;
       last = last;
@@ -69,7 +69,7 @@ module _ {S K D C A I T : Type 0} (seen : Seeing S K D C A I T) (turns : ℕ) (o
       tells = tells;
       answered = first_counts turns takes.events (Ok end) first last takes.runs none;
       complete = λ sound whole.
-          told_whole (answer_text last.answer) (answer_status turns last.answer) status
+          told_whole (answer_text first.call last.answer) (answer_status turns last.answer) status
           (seen.sink.output old.wire.sink) (seen.sink.output sink) tells (λ e. whole (cause e));
     });
     causes = record { write_fault = cause; inbox_fault = λ e. absurd (heard e) };

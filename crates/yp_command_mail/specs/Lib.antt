@@ -1,5 +1,5 @@
 pub mod Telling
-pub mod Getport
+pub mod Mapper
 pub mod Portmap
 pub mod Bind
 pub mod Finding

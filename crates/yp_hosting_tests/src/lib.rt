@@ -1,6 +1,6 @@
 //! Tests of commands as `yp_program` runs them over memory: of `serve` what it serves, and what comes where each call
-//! outside fails in turn; of `bind`, `portmap`, `getport`, `push` and `walk` what comes to an inbox and goes out from
-//! there, what is stored, and calls that fail.
+//! outside fails in turn; of `bind`, `portmap`, `getport`, `setport`, `unsetport`, `push` and `walk` what comes to an
+//! inbox and goes out from there, what is stored, and calls that fail.
 #![tactic(auto)]
 
 #[cfg(test)]

@@ -2,7 +2,7 @@
 use Rattle.std.proofs.Common.{◌≡◌, List, refl, ap, ◌∙◌}
 use Rattle.yp_answer.specs.session.Wires.{Wire}
 use Rattle.yp_command.specs.Words.{Meaning, Once, Session, Serve, Check, Dump, Build, Load, Xfr, Walk, Sample, Push, Bind}
-use Rattle.yp_command.specs.Words.{Portmap, Getport, Ask, Orders, Revnet}
+use Rattle.yp_command.specs.Words.{Portmap, CallMapper, Ask, Orders, Revnet}
 use Rattle.yp_command.specs.declared.office.office.Office.{Office}
 use Rattle.yp_command.specs.declared.office.status.Status.{Status}
 use Rattle.yp_command.specs.office.Disks.{names_of}
@@ -43,6 +43,6 @@ module _ {S K D C A I T : Type 0} (seen : Seeing S K D C A I T) (status : Status
   command_keeps (Push name port window turns store hosts) h = record { names = h.0.loads.names; told = h.0.told }
   command_keeps (Bind port policy turns domain hosts) h = by_stays (record old { wire = record old.wire { sink = new.wire.sink }; inbox = new.inbox }) h.0.stays refl refl
   command_keeps (Portmap port turns) h = by_stays (record old { wire = record old.wire { sink = new.wire.sink }; inbox = new.inbox }) h.0.stays refl refl
-  command_keeps (Getport port turns peer prog vers prot) h = by_stays (record old { wire = record old.wire { sink = new.wire.sink }; inbox = new.inbox }) h.0.stays refl refl
+  command_keeps (CallMapper port turns peer call) h = by_stays (record old { wire = record old.wire { sink = new.wire.sink }; inbox = new.inbox }) h.0.stays refl refl
   command_keeps (Ask peer question) h = by_stays (record old { wire = record old.wire { sink = new.wire.sink }; dial = new.dial }) h.0.stays refl refl
   command_keeps (Orders first others domain) h = by_stays (record old { wire = record old.wire { sink = new.wire.sink }; dial = new.dial }) h.0.stays refl refl

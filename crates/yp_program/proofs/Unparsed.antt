@@ -2,7 +2,7 @@
 use Rattle.std.proofs.Common.{◌≡◌, ℕ, List, Result, Ok, Err, refl, inr, true}
 use Rattle.yp_answer.specs.session.Wires.{Wire}
 use Rattle.yp_command.specs.Words.{Meaning, Once, Session, Serve, Check, Dump, Build, Load, Xfr, Walk, Sample, Push}
-use Rattle.yp_command.specs.Words.{Bind, Portmap, Getport, Ask, Orders, Revnet}
+use Rattle.yp_command.specs.Words.{Bind, Portmap, CallMapper, Ask, Orders, Revnet}
 use Rattle.yp_command.specs.inside.Words.{IsSentenceOfWords, IsUsage}
 use Rattle.yp_command.specs.declared.words.ParseFault.{ParseFault}
 use Rattle.yp_command.specs.declared.words.ParseFault.TheVariants as fault
@@ -33,7 +33,7 @@ command_may (Sample start count) = refl
 command_may (Push name port window turns store hosts) = refl
 command_may (Bind port policy turns domain hosts) = refl
 command_may (Portmap port turns) = refl
-command_may (Getport port turns peer prog vers prot) = refl
+command_may (CallMapper port turns peer call) = refl
 command_may (Ask peer question) = refl
 command_may (Orders first others domain) = refl
 

@@ -2,7 +2,7 @@
 use Rattle.std.specs.Prelude.{◌≡◌, ◌⊎◌, ℕ, Bool, IsTrue, List, Result, Ok, Err}
 use Rattle.yp_answer.specs.session.Wires.{Wire}
 use Rattle.yp_command.specs.Words.{Meaning, Once, Session, Serve, Check, Dump, Build, Load, Xfr, Walk}
-use Rattle.yp_command.specs.Words.{Sample, Push, Bind, Portmap, Getport, Ask, Orders, TakesMemory, Revnet}
+use Rattle.yp_command.specs.Words.{Sample, Push, Bind, Portmap, CallMapper, Ask, Orders, TakesMemory, Revnet}
 use Rattle.yp_command.specs.declared.office.office.Office.{Office}
 use Rattle.yp_command.specs.declared.office.status.Status.{Status}
 use Rattle.yp_command.specs.declared.office.status.Status.TheVariants.{Usage, NoMemory}
@@ -18,7 +18,7 @@ use Rattle.yp_command_maps.specs.Dump.{DumpDoes, dump_may_end}
 use Rattle.yp_command_maps.specs.Revnet.{RevnetDoes, revnet_may_end}
 use Rattle.yp_command_maps.specs.Xfr.{xfr_job_of, xfr_may_end}
 use Rattle.yp_command_mail.specs.Bind.{BindDoes, bind_may_end, servers_of}
-use Rattle.yp_command_mail.specs.Getport.{GetportDoes, getport_may_end, begun}
+use Rattle.yp_command_mail.specs.Mapper.{MapperDoes, mapper_may_end, begun}
 use Rattle.yp_command_mail.specs.Portmap.{PortmapDoes, portmap_may_end}
 use Rattle.yp_command_maps.specs.walk.Walk.{walk_may_end}
 use Rattle.yp_command_mail.specs.Push.{PushDoes, job_of, push_may_end}
@@ -55,8 +55,8 @@ AloneDoes seen (Bind port policy turns domain hosts) status old new before after
     BindDoes seen turns domain (servers_of hosts) policy status old new × (after ≡ before)
 AloneDoes seen (Portmap port turns) status old new before after =
     PortmapDoes seen turns status old new × (after ≡ before)
-AloneDoes seen (Getport port turns peer prog vers prot) status old new before after =
-    GetportDoes seen turns (begun peer prog vers prot) status old new × (after ≡ before)
+AloneDoes seen (CallMapper port turns peer call) status old new before after =
+    MapperDoes seen turns (begun peer call) status old new × (after ≡ before)
 AloneDoes seen (Ask peer question) status old new before after =
     AskDoes seen peer question status old new × (after ≡ before)
 AloneDoes seen (Orders first others domain) status old new before after =
@@ -104,7 +104,7 @@ may_end (Sample start count) status = sample_may_end status
 may_end (Push name port window turns store hosts) status = push_may_end status
 may_end (Bind port policy turns domain hosts) status = bind_may_end status
 may_end (Portmap port turns) status = portmap_may_end status
-may_end (Getport port turns peer prog vers prot) status = getport_may_end status
+may_end (CallMapper port turns peer call) status = mapper_may_end status
 may_end (Ask peer question) status = ask_may_end status
 may_end (Orders first others domain) status = ask_may_end status
 

@@ -152,14 +152,12 @@ fn obey<S: Source, K: Sink, D: Disk, C: Clock, A: Dial, I: Inbox, T: Texts, W: W
             ..
         } => bind_domain(alloc, policy, turns, domain, hosts, &mut office),
         Command::Portmap { turns, .. } => serve_ports(alloc, turns, &mut office),
-        Command::Getport {
+        Command::CallMapper {
             turns,
             addr,
-            prog,
-            vers,
-            prot,
+            call,
             ..
-        } => ask_mapper(alloc, turns, addr, prog, vers, prot, &mut office),
+        } => ask_mapper(alloc, turns, addr, call, &mut office),
         Command::Ask { addr, question } => ask(alloc, rt, addr, question, &mut office),
         Command::Orders {
             first,

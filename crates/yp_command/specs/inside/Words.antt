@@ -18,7 +18,7 @@ use Rattle.yp_command.specs.declared.words.ParseFault.{ParseFault}
 use Rattle.yp_command.specs.declared.words.ParseFault.TheVariants.{Usage, NoMemory}
 use Rattle.yp_command.specs.Forms.{Host, kind_of, is_reverse}
 use Rattle.yp_command.specs.Words.{Meaning, word, host_view, meaning, TakesMemory, Once, Session, Serve, Check, Dump}
-use Rattle.yp_command.specs.Words.{Build, Load, Xfr, Walk, Revnet, Sample, Push, Bind, Portmap, Getport, Ask, Orders}
+use Rattle.yp_command.specs.Words.{Build, Load, Xfr, Walk, Revnet, Sample, Push, Bind, Portmap, CallMapper, Ask, Orders}
 
 -- ---- what is read
 
@@ -45,7 +45,7 @@ port_of (Sample start count) = None
 port_of (Push name port window turns store hosts) = Some port
 port_of (Bind port policy turns domain hosts) = Some port
 port_of (Portmap port turns) = Some port
-port_of (Getport port turns peer prog vers prot) = Some port
+port_of (CallMapper port turns peer call) = Some port
 port_of (Ask peer question) = None
 port_of (Orders first others domain) = None
 
@@ -86,7 +86,7 @@ HasNames (Sample start count) = ⊤
 HasNames (Push name port window turns store hosts) = (length name ≤ name_max) × (0 < window) × IsNamed store
 HasNames (Bind port policy turns domain hosts) = (length domain ≤ name_max) × (length hosts ≤ servers_max)
 HasNames (Portmap port turns) = ⊤
-HasNames (Getport port turns peer prog vers prot) = ⊤
+HasNames (CallMapper port turns peer call) = ⊤
 HasNames (Ask peer question) = QuestionIsWithin question
 HasNames (Orders first others domain) = length domain ≤ name_max
 

@@ -5,11 +5,12 @@ use crate::words::sentences::{Wrong, check_wrong, parsed};
 use std::alloc::Global;
 use std::process::Abort;
 use yp_binding::Policy;
+use yp_binding::portmap::{Mapping, PortCall};
 use yp_command::{Command, HostWord, port_of};
 use yp_io::Peer;
 
 /// Words that are no sentence, and the word that is wrong.
-static WRONG: [Wrong; 22] = [
+static WRONG: [Wrong; 33] = [
     (&["portmap"], 1),
     (&["portmap", "0", "3"], 1),
     (&["portmap", "65536", "3"], 1),
@@ -41,6 +42,108 @@ static WRONG: [Wrong; 22] = [
             "2",
             "tcp",
         ],
+        6,
+    ),
+    (
+        &[
+            "setport",
+            "0",
+            "2",
+            "127.0.0.1:111",
+            "100004",
+            "2",
+            "6",
+            "834",
+        ],
+        1,
+    ),
+    (
+        &[
+            "setport",
+            "1",
+            "-2",
+            "127.0.0.1:111",
+            "100004",
+            "2",
+            "6",
+            "834",
+        ],
+        2,
+    ),
+    (&["setport", "1", "2", "z1", "100004", "2", "6", "834"], 3),
+    (
+        &[
+            "setport",
+            "1",
+            "2",
+            "127.0.0.1:111",
+            "4294967296",
+            "2",
+            "6",
+            "834",
+        ],
+        4,
+    ),
+    (
+        &[
+            "setport",
+            "1",
+            "2",
+            "127.0.0.1:111",
+            "100004",
+            "",
+            "6",
+            "834",
+        ],
+        5,
+    ),
+    (
+        &[
+            "setport",
+            "1",
+            "2",
+            "127.0.0.1:111",
+            "100004",
+            "2",
+            "udp",
+            "834",
+        ],
+        6,
+    ),
+    (
+        &[
+            "setport",
+            "1",
+            "2",
+            "127.0.0.1:111",
+            "100004",
+            "2",
+            "6",
+            "0",
+        ],
+        7,
+    ),
+    (
+        &["setport", "1", "2", "127.0.0.1:111", "100004", "2", "6"],
+        7,
+    ),
+    (
+        &[
+            "setport",
+            "1",
+            "2",
+            "127.0.0.1:111",
+            "100004",
+            "2",
+            "6",
+            "834",
+            "1",
+        ],
+        8,
+    ),
+    (&["unsetport", "1", "2", "127.0.0.1:111", "100004"], 5),
+    (
+        &["unsetport", "1", "2", "127.0.0.1:111", "100004", "2", "6"],
         6,
     ),
     (&["bind", "7100"], 2),
@@ -90,28 +193,24 @@ const MAPPER: Peer = Peer {
     port: 111,
 };
 
-/// The turns, the port mapper, and the three numbers that it is asked for.
-type Asked = (u64, Peer, [u32; 3]);
+/// The turns, the port mapper, and the call of it.
+type Asked = (u64, Peer, PortCall);
 
 fn asked(command: &Command) -> Option<Asked> {
     match command {
-        Command::Getport {
+        Command::CallMapper {
             turns,
             addr,
-            prog,
-            vers,
-            prot,
+            call,
             ..
-        } => Some((*turns, *addr, [*prog, *vers, *prot])),
+        } => Some((*turns, *addr, *call)),
         _ => None,
     }
 }
 
-#[test]
-fn getport_parsed(rt: HostRuntime) {
-    let command = parsed(
-        &rt,
-        rt.alloc(),
+/// Words, and the call that they ask for.
+static MAPPER_CALLS: [(&[&str], PortCall); 3] = [
+    (
         &[
             "getport",
             "65535",
@@ -121,13 +220,60 @@ fn getport_parsed(rt: HostRuntime) {
             "2",
             "17",
         ],
-    );
+        PortCall::GetPort {
+            prog: 100_004,
+            vers: 2,
+            prot: 17,
+        },
+    ),
+    (
+        &[
+            "setport",
+            "65535",
+            "4294967295",
+            "127.0.0.1:111",
+            "100004",
+            "2",
+            "6",
+            "65535",
+        ],
+        PortCall::Set {
+            mapping: Mapping {
+                prog: 100_004,
+                vers: 2,
+                prot: 6,
+                port: 65_535,
+            },
+        },
+    ),
+    (
+        &[
+            "unsetport",
+            "65535",
+            "4294967295",
+            "127.0.0.1:111",
+            "100004",
+            "2",
+        ],
+        PortCall::Unset {
+            prog: 100_004,
+            vers: 2,
+        },
+    ),
+];
+
+fn check_asked(rt: &impl Abort, alloc: Global, words: &[&str], call: PortCall) {
+    let command = parsed(rt, alloc, words);
     let came = (port_of(&command), asked(&command));
-    let wanted = (
-        Some(65_535),
-        Some((4_294_967_295, MAPPER, [100_004, 2, 17])),
-    );
-    assert_same(&rt, &came, &wanted, "getport");
+    let wanted = (Some(65_535), Some((4_294_967_295, MAPPER, call)));
+    assert_same(rt, &came, &wanted, "the call");
+}
+
+#[test]
+fn mapper_calls_parsed(rt: HostRuntime) {
+    for (words, call) in &MAPPER_CALLS {
+        check_asked(&rt, rt.alloc(), *words, *call);
+    }
 }
 
 fn mapped(command: &Command) -> Option<u64> {

@@ -4,11 +4,11 @@ use Rattle.yp_board.specs.Catalogues.{name_view}
 use Rattle.yp_client.specs.Questions.{bytes_of}
 use Rattle.yp_command.specs.declared.command.KeyValue.{KeyValue}
 use Rattle.yp_command.specs.Words.{Once, Session, Check, Dump, Build, Load, Xfr, Walk, Sample, Push, Bind}
-use Rattle.yp_command.specs.Words.{Portmap, Getport, Ask, Orders, meaning, row_view, host_view, Revnet}
+use Rattle.yp_command.specs.Words.{Portmap, CallMapper, Ask, Orders, meaning, row_view, host_view, Revnet}
 use Rattle.yp_command.specs.office.Seeing.{seeing}
 use Rattle.yp_program.specs.Commands.{AloneDoes, may_end}
 use Rattle.yp_program.proofs.Dispatch.{same_does, same_passed, same_end}
-use Rattle.yp_program.proofs.program.obey.Goals.{in-Once, in-Sample, in-Check, in-Build, in-Xfr, in-Ask, in-Bind, in-Portmap, in-Getport}
+use Rattle.yp_program.proofs.program.obey.Goals.{in-Once, in-Sample, in-Check, in-Build, in-Xfr, in-Ask, in-Bind, in-Portmap, in-CallMapper}
 use Rattle.yp_program.proofs.program.obey.Goals.{in-Revnet, in-Walk, in-Dump, in-Load, in-Orders}
 use Rattle.yp_program.proofs.program.obey.Goals as goal
 
@@ -85,9 +85,9 @@ returns-clause-does g c =
       | in-Portmap w ↦
           by (Portmap w.in-Portmap.port w.in-Portmap.turns) c.match-command.status w.serve_ports-status.result c.match-command.office w.serve_ports-status.new.office (wires c.match-command.witness) (wires c.args.witness.now)
           (ap meaning w.in-Portmap.is) w.status-is w.office-is (ap wires w.witness-is) (w.serve_ports-status.ensures.does, refl)
-      | in-Getport w ↦
-          by (Getport w.in-Getport.port w.in-Getport.turns w.in-Getport.addr w.in-Getport.prog w.in-Getport.vers w.in-Getport.prot) c.match-command.status w.ask_mapper-status.result c.match-command.office w.ask_mapper-status.new.office (wires c.match-command.witness) (wires c.args.witness.now)
-          (ap meaning w.in-Getport.is) w.status-is w.office-is (ap wires w.witness-is) (w.ask_mapper-status.ensures.does, refl)
+      | in-CallMapper w ↦
+          by (CallMapper w.in-CallMapper.port w.in-CallMapper.turns w.in-CallMapper.addr w.in-CallMapper.call) c.match-command.status w.ask_mapper-status.result c.match-command.office w.ask_mapper-status.new.office (wires c.match-command.witness) (wires c.args.witness.now)
+          (ap meaning w.in-CallMapper.is) w.status-is w.office-is (ap wires w.witness-is) (w.ask_mapper-status.ensures.does, refl)
       | in-Ask w ↦
           by (Ask w.in-Ask.addr (bytes_of w.in-Ask.question)) c.match-command.status w.ask-status.result c.match-command.office w.ask-status.new.office (wires c.match-command.witness) (wires c.args.witness.now)
           (ap meaning w.in-Ask.is) w.status-is w.office-is (ap wires w.witness-is) (w.ask-status.ensures.does, refl)
@@ -111,7 +111,7 @@ returns-clause-may_end g c =
       | in-Revnet w ↦ same_end (meaning c.args.command) (Revnet w.in-Revnet.name.items (name_view w.in-Revnet.store)) c.match-command.status w.reverse_map-status.result (ap meaning w.in-Revnet.is) w.status-is w.reverse_map-status.ensures.may_end
       | in-Bind w ↦ same_end (meaning c.args.command) (Bind w.in-Bind.port w.in-Bind.policy w.in-Bind.turns w.in-Bind.domain.items (map host_view w.in-Bind.hosts.items)) c.match-command.status w.bind_domain-status.result (ap meaning w.in-Bind.is) w.status-is w.bind_domain-status.ensures.may_end
       | in-Portmap w ↦ same_end (meaning c.args.command) (Portmap w.in-Portmap.port w.in-Portmap.turns) c.match-command.status w.serve_ports-status.result (ap meaning w.in-Portmap.is) w.status-is w.serve_ports-status.ensures.may_end
-      | in-Getport w ↦ same_end (meaning c.args.command) (Getport w.in-Getport.port w.in-Getport.turns w.in-Getport.addr w.in-Getport.prog w.in-Getport.vers w.in-Getport.prot) c.match-command.status w.ask_mapper-status.result (ap meaning w.in-Getport.is) w.status-is w.ask_mapper-status.ensures.may_end
+      | in-CallMapper w ↦ same_end (meaning c.args.command) (CallMapper w.in-CallMapper.port w.in-CallMapper.turns w.in-CallMapper.addr w.in-CallMapper.call) c.match-command.status w.ask_mapper-status.result (ap meaning w.in-CallMapper.is) w.status-is w.ask_mapper-status.ensures.may_end
       | in-Ask w ↦ same_end (meaning c.args.command) (Ask w.in-Ask.addr (bytes_of w.in-Ask.question)) c.match-command.status w.ask-status.result (ap meaning w.in-Ask.is) w.status-is w.ask-status.ensures.may_end
       | in-Orders w ↦ same_end (meaning c.args.command) (Orders w.in-Orders.first w.in-Orders.others.items w.in-Orders.domain.items) c.match-command.status w.compare-status.result (ap meaning w.in-Orders.is) w.status-is w.compare-status.ensures.may_end
     ]
@@ -131,7 +131,7 @@ returns-clause-passed_on g c =
       | in-Revnet w ↦ by c.match-command.status w.reverse_map-status.result c.match-command.office w.reverse_map-status.new.office w.status-is w.office-is w.reverse_map-status.ensures.passed_on
       | in-Bind w ↦ by c.match-command.status w.bind_domain-status.result c.match-command.office w.bind_domain-status.new.office w.status-is w.office-is w.bind_domain-status.ensures.passed_on
       | in-Portmap w ↦ by c.match-command.status w.serve_ports-status.result c.match-command.office w.serve_ports-status.new.office w.status-is w.office-is w.serve_ports-status.ensures.passed_on
-      | in-Getport w ↦ by c.match-command.status w.ask_mapper-status.result c.match-command.office w.ask_mapper-status.new.office w.status-is w.office-is w.ask_mapper-status.ensures.passed_on
+      | in-CallMapper w ↦ by c.match-command.status w.ask_mapper-status.result c.match-command.office w.ask_mapper-status.new.office w.status-is w.office-is w.ask_mapper-status.ensures.passed_on
       | in-Ask w ↦ by c.match-command.status w.ask-status.result c.match-command.office w.ask-status.new.office w.status-is w.office-is w.ask-status.ensures.passed_on
       | in-Orders w ↦ by c.match-command.status w.compare-status.result c.match-command.office w.compare-status.new.office w.status-is w.office-is w.compare-status.ensures.passed_on
     ]

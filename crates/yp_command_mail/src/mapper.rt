@@ -1,4 +1,5 @@
-//! The command `getport`: a port mapper is asked for a port.
+//! The commands `getport`, `setport` and `unsetport`: a port mapper is called, again after each quiet turn, until it
+//! answers.
 
 ghost use Rattle.std.specs.Prelude.{◌≡◌, ◌≢◌, IsTrue, if◌then◌else◌};
 ghost use Rattle.yp_io.specs.Counts.{HasRisen};
@@ -6,16 +7,17 @@ ghost use Rattle.yp_command.specs.office.Seeing.{seeing, IsPassedOn};
 ghost use Rattle.yp_command.specs.inside.office.Status.{IsTellable};
 ghost use Rattle.yp_command.specs.declared.office.status.Status.TheVariants.{WriteFault, InboxFault};
 ghost use Rattle.yp_command_mail.specs.Telling.{TellsText};
-ghost use Rattle.yp_command_mail.specs.Getport.{Goes, Hears, Rests, is_answer, begun, port_line, port_status};
-ghost use Rattle.yp_command_mail.specs.Getport.{answer_text, answer_status, getport_may_end, GetportDoes};
+ghost use Rattle.yp_command_mail.specs.Mapper.{Goes, Hears, Rests, is_answer, begun, port_line, port_status};
+ghost use Rattle.yp_command_mail.specs.Mapper.{truth_text, truth_status, answer_text, answer_status};
+ghost use Rattle.yp_command_mail.specs.Mapper.{mapper_may_end, MapperDoes};
 
 use crate::text::tell_text;
 use std::alloc::Global;
 use yp_binding::is_same_peer;
-use yp_binding::portmap::{PortReply, ask_port, read_port};
+use yp_binding::portmap::{PortAnswer, PortCall, read_answer, write_port_call};
 use yp_command::office::{Line, Office, Status, add, add_number};
 use yp_io::{Clock, Dial, Disk, Failed, Inbox, Peer, Sink, Source, Texts};
-use yp_rpc::{Handler, ReplyHead, Room, Wish, take_turns};
+use yp_rpc::{Handler, Room, Wish, take_turns};
 use yp_xdr::{NoRoom, XdrFault};
 
 /// The number of each call.
@@ -24,19 +26,17 @@ const CALL_NUMBER: u32 = 1;
 /// The first two words of an answer: the number of the call, and that it is a reply.
 const ANSWER_FRONT: [u8; 8] = [0, 0, 0, 1, 0, 0, 0, 1];
 
-/// A question to a port mapper, and its answer.
+/// A call of a port mapper, and its answer.
 #[derive(Clone, Copy)]
 pub struct Asking {
     /// The port mapper.
     pub mapper: Peer,
-    /// The program, the version and the protocol that it is asked for.
-    pub prog: u32,
-    pub vers: u32,
-    pub prot: u32,
+    /// What it is asked.
+    pub call: PortCall,
     /// Whether the call is to be sent before the next turn.
     pub is_due: bool,
     /// What was read of the answer, once it came.
-    pub answer: Option<Result<PortReply, XdrFault>>,
+    pub answer: Option<Result<PortAnswer, XdrFault>>,
 }
 
 /// Whether a datagram of a peer is the answer of a port mapper.
@@ -63,7 +63,7 @@ impl Handler for Asking {
             return Wish::Wait;
         }
         self.is_due = false;
-        match ask_port(buf, CALL_NUMBER, self.prog, self.vers, self.prot) {
+        match write_port_call(buf, CALL_NUMBER, self.call) {
             Ok(len) => Wish::Send {
                 to: self.mapper,
                 len,
@@ -74,7 +74,7 @@ impl Handler for Asking {
 
     fn hear(&mut self, from: Peer, mail: &[u8], _buf: &mut [u8]) -> usize {
         if is_answer(self.mapper, from, mail) {
-            self.answer = Some(read_port(mail));
+            self.answer = Some(read_answer(mail, self.call));
         }
         0
     }
@@ -102,15 +102,34 @@ fn port_status(port: u32) -> Status
     if port == 0 { Status::No } else { Status::Done }
 }
 
-/// Tells the port of an answer, or why there is none.
+/// The line of a truth value that answers a call.
+fn truth_text(call: PortCall, is_done: bool) -> &'static [u8]
+    ensures { result.now ≡ truth_text call is_done }
+{
+    match (call, is_done) {
+        (PortCall::Unset { .. }, true) => b"unset\n",
+        (_, true) => b"set\n",
+        (_, false) => b"refused\n",
+    }
+}
+
+/// The status of a truth value.
+fn truth_status(is_done: bool) -> Status
+    ensures { result ≡ truth_status is_done }
+{
+    if is_done { Status::Done } else { Status::No }
+}
+
+/// Tells what a port mapper answered, or why there is no answer.
 fn tell_answer<K: Sink>(
     sink: &mut K,
     turns: u64,
-    answer: Option<Result<PortReply, XdrFault>>,
+    call: PortCall,
+    answer: Option<Result<PortAnswer, XdrFault>>,
 ) -> Status
-    ensures tells { TellsText (answer_text answer) (answer_status turns answer) result
+    ensures tells { TellsText (answer_text call answer) (answer_status turns answer) result
         (K.output sink.old) (K.output sink.new) }
-    ensures may_end { IsTrue (getport_may_end result) }
+    ensures may_end { IsTrue (mapper_may_end result) }
     ensures heard { result ≢ InboxFault }
     ensures flushed { result ≢ WriteFault → IsTrue (K.flushed sink.old) → IsTrue (K.flushed sink.new) }
     ensures cause { result ≡ WriteFault → HasRisen (K.faults sink.old) (K.faults sink.new) }
@@ -121,27 +140,25 @@ fn tell_answer<K: Sink>(
         Some(Err(fault)) => Status::BadReply {
             at: fault.place() as u64,
         },
-        Some(Ok(reply)) => match reply.head {
-            ReplyHead::Success => tell_text(sink, &line(reply.port), port_status(reply.port)),
-            _ => Status::Denied,
-        },
+        Some(Ok(PortAnswer::Port(port))) => tell_text(sink, &line(port), port_status(port)),
+        Some(Ok(PortAnswer::Truth(is_done))) => {
+            tell_text(sink, truth_text(call, is_done), truth_status(is_done))
+        }
+        Some(Ok(PortAnswer::Refused)) => Status::Denied,
     }
 }
 
-/// Asks the port mapper at `mapper` for the port of version `vers` of program `prog` over protocol `prot`, in at most
-/// so many turns, and tells it.
+/// Calls the port mapper at `mapper`, in at most so many turns, and tells what it answers.
 pub fn ask_mapper<S: Source, K: Sink, D: Disk, C: Clock, A: Dial, I: Inbox, T: Texts>(
     alloc: Global,
     turns: u64,
     mapper: Peer,
-    prog: u32,
-    vers: u32,
-    prot: u32,
+    call: PortCall,
     office: &mut Office<S, K, D, C, A, I, T>,
 ) -> Status
-    ensures does { GetportDoes (seeing S.Source K.Sink D.Disk C.Clock A.Dial I.Inbox T.Texts)
-        turns (begun mapper prog vers prot) result office.old office.new }
-    ensures may_end { IsTrue (getport_may_end result) }
+    ensures does { MapperDoes (seeing S.Source K.Sink D.Disk C.Clock A.Dial I.Inbox T.Texts)
+        turns (begun mapper call) result office.old office.new }
+    ensures may_end { IsTrue (mapper_may_end result) }
     ensures passed_on { IsPassedOn (seeing S.Source K.Sink D.Disk C.Clock A.Dial I.Inbox T.Texts)
         result office.old office.new }
     ensures tellable { IsTellable result }
@@ -151,14 +168,12 @@ pub fn ask_mapper<S: Source, K: Sink, D: Disk, C: Clock, A: Dial, I: Inbox, T: T
     };
     let mut asking = Asking {
         mapper,
-        prog,
-        vers,
-        prot,
+        call,
         is_due: true,
         answer: None,
     };
     match take_turns(&mut office.inbox, &mut asking, &mut room, turns) {
-        Ok(_) => tell_answer(&mut office.wire.sink, turns, asking.answer),
+        Ok(_) => tell_answer(&mut office.wire.sink, turns, call, asking.answer),
         Err(Failed) => Status::InboxFault,
     }
 }
