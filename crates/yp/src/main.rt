@@ -64,6 +64,12 @@ fn disks(
     }
 }
 
+/// Whether a command answers calls by TCP at the port of its datagrams, too. Clients ask a binder by TCP, and a port
+/// mapper by either.
+fn takes_calls(command: &Command) -> bool {
+    matches!(command, Command::Bind { .. } | Command::Portmap { .. })
+}
+
 /// The listener and the inbox of a command. One without a port opens none. Any other has it open before it asks
 /// anybody, who may answer at once, and before it answers anybody.
 fn ports(
@@ -79,7 +85,11 @@ fn ports(
     let wanted = port_of(command);
     let port = wanted.unwrap_or(0);
     let mut listen = TcpHall::new(alloc, net, port, connections_of(command));
-    let mut inbox = UdpInbox::new(net, port);
+    let mut inbox = if takes_calls(command) {
+        UdpInbox::with_calls(alloc, net, port)
+    } else {
+        UdpInbox::new(alloc, net, port)
+    };
     if let Command::Serve(_) = command {
         listen.open();
     }

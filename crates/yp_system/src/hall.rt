@@ -72,6 +72,15 @@ pub struct TcpHall<R> {
     ghost within: { accepted ≤ most },
 }
 
+/// How long callers are waited for.
+pub(crate) fn usual_limits() -> Limits {
+    Limits {
+        record: Duration::from_secs(RECORD_SECONDS),
+        rest: Duration::from_secs(REST_SECONDS),
+        payment: Duration::from_secs(PAYMENT_SECONDS),
+    }
+}
+
 impl<R: Net + Clock + Copy + Drop> TcpHall<R> {
     /// What accepts so many connections at a port. Nothing is opened yet.
     pub fn new(alloc: Global, system: R, port: u16, most: u64) -> TcpHall<R>
@@ -82,12 +91,7 @@ impl<R: Net + Clock + Copy + Drop> TcpHall<R> {
         ensures let_go { ⟦<TcpHall<R> as Hall>⟧.let_go result ≡ 0 }
         ensures port { result.port ≡ port }
     {
-        let limits = Limits {
-            record: Duration::from_secs(RECORD_SECONDS),
-            rest: Duration::from_secs(REST_SECONDS),
-            payment: Duration::from_secs(PAYMENT_SECONDS),
-        };
-        TcpHall::with_limits(alloc, system, port, most, limits)
+        TcpHall::with_limits(alloc, system, port, most, usual_limits())
     }
 
     /// A hall with these limits for its callers.
@@ -172,7 +176,7 @@ fn wire_of(alloc: Global, stream: TcpStream) -> io::Result<Pair<SocketSource, So
 }
 
 // Accepts one connection. A caller of which no wire can be made is let go.
-fn accept_one(alloc: Global, listener: &TcpListener) -> io::Result<SocketCall>
+pub(crate) fn accept_one(alloc: Global, listener: &TcpListener) -> io::Result<SocketCall>
     ensures { IfOk result (IsFreshCall (try_halves_of ⟦<SocketSource as TrySource>⟧ ⟦<SocketSink as TrySink>⟧)) }
 {
     match listener.accept()? {
@@ -187,7 +191,7 @@ fn accept_one(alloc: Global, listener: &TcpListener) -> io::Result<SocketCall>
 }
 
 // Whether no descriptor was left for a connection.
-fn lacks_descriptors(error: &io::Error) -> bool {
+pub(crate) fn lacks_descriptors(error: &io::Error) -> bool {
     matches!(
         error.raw_os_error(),
         Some(PROGRAM_IS_FULL | MACHINE_IS_FULL)

@@ -1,43 +1,70 @@
-//! Datagrams of the system at a port.
+//! Letters of the system at a port: datagrams, and records of connections.
 
-ghost use Rattle.std.specs.Prelude.{◌≡◌, None, IfOk};
+ghost use Rattle.std.specs.Prelude.{◌≡◌, None};
 ghost use Rattle.std.specs.Net.Addr.{ipv4_octets};
 ghost use Rattle.std.specs.Net.Socket.{v4_ip, v4_port};
-ghost use Rattle.yp_io.specs.Inboxes.{MailIsWithin};
 
-use crate::dial::address_of;
+use crate::hall::usual_limits;
+use crate::places::Limits;
+use crate::post::Post;
+use std::alloc::Global;
 use std::io;
 use std::io::ErrorKind;
-use std::net::{Ipv4Addr, Net, SocketAddr, SocketAddrV4, UdpSocket};
-use std::time::Duration;
+use std::net::{Net, SocketAddrV4};
+use std::rt::Files;
+use std::time::Clock;
 use yp_io::{Failed, Inbox, Mail, Peer, count_fault};
 
-/// How long a turn waits for a datagram, in seconds: a turn without one is quiet.
-pub const TURN_SECONDS: u64 = 1;
-
-/// A port of UDP over IPv4, on every address of this machine. It is opened at the first call, or by `open`, so that a
-/// command that has no use for it opens nothing, and a port that can't be opened is a fault of that call. It tells
-/// nothing of its datagrams.
+/// A port of UDP over IPv4, on every address of this machine, and the same port of TCP where that is wanted. It is
+/// opened at the first call, or by `open`, so that a command that has no use for it opens nothing, and a port that
+/// can't be opened is a fault of that call. It tells nothing of its letters.
+///
+/// A letter is a datagram, or a record of a caller by TCP of at most [`CALL_MAX`](crate::CALL_MAX) bytes. Datagrams and
+/// records come by turns. A caller has one letter at a time, and the first letter that is then sent to it, before the
+/// next turn, is the reply: it goes back over the connection as one record, as fast as its caller takes it, whom nobody
+/// waits for. All else that is sent is a datagram. One to the sender of the last datagram leaves from the address to
+/// which that came. What one caller does ends nothing for another: it is let go alone where its record is too long or
+/// over its time, where it takes no reply, and where it was idle longest and there is no room for one more.
 #[derive(Drop)]
 pub struct UdpInbox<R> {
-    net: R,
+    alloc: Global,
+    system: R,
     port: u16,
-    socket: Option<UdpSocket>,
+    limits: Option<Limits>,
+    post: Option<Post>,
     turns: u64,
     quiets: u64,
     faults: u64,
 }
 
-impl<R: Net> UdpInbox<R> {
-    /// The inbox of a port. Nothing is opened yet.
-    pub fn new(net: R, port: u16) -> UdpInbox<R>
+impl<R: Net + Clock + Files> UdpInbox<R> {
+    /// The inbox of a port of UDP. Nothing is opened yet.
+    pub fn new(alloc: Global, system: R, port: u16) -> UdpInbox<R>
+        ensures faults { ⟦<UdpInbox<R> as Inbox>⟧.faults result ≡ 0 }
+        ensures port { result.port ≡ port }
+    {
+        UdpInbox::with(alloc, system, port, None)
+    }
+
+    /// The inbox of a port of UDP and of TCP. Nothing is opened yet.
+    pub fn with_calls(alloc: Global, system: R, port: u16) -> UdpInbox<R>
+        ensures faults { ⟦<UdpInbox<R> as Inbox>⟧.faults result ≡ 0 }
+        ensures port { result.port ≡ port }
+    {
+        UdpInbox::with(alloc, system, port, Some(usual_limits()))
+    }
+
+    /// The inbox of a port of UDP, and of TCP where there are limits for its callers.
+    pub fn with(alloc: Global, system: R, port: u16, limits: Option<Limits>) -> UdpInbox<R>
         ensures faults { ⟦<UdpInbox<R> as Inbox>⟧.faults result ≡ 0 }
         ensures port { result.port ≡ port }
     {
         UdpInbox {
-            net,
+            alloc,
+            system,
             port,
-            socket: None,
+            limits,
+            post: None,
             turns: 0,
             quiets: 0,
             faults: 0,
@@ -50,67 +77,28 @@ impl<R: Net> UdpInbox<R> {
         ensures faults { ⟦<UdpInbox<R> as Inbox>⟧.faults self.new ≡ ⟦<UdpInbox<R> as Inbox>⟧.faults self.old }
         ensures port { self.new.port ≡ self.old.port }
     {
-        let _ = opened(&self.net, self.port, &mut self.socket);
+        let _ = opened(
+            self.alloc,
+            &self.system,
+            self.port,
+            self.limits,
+            &mut self.post,
+        );
     }
 }
 
-// The socket of a port, which the first call opens.
-fn opened<'a, R: Net>(
-    net: &R,
+// What comes to a port, which the first call opens.
+fn opened<'a, R: Net + Clock + Files>(
+    alloc: Global,
+    system: &R,
     port: u16,
-    socket: &'a mut Option<UdpSocket>,
-) -> io::Result<&'a UdpSocket> {
-    if socket.is_none() {
-        let bound = UdpSocket::bind(net, SocketAddrV4::new(Ipv4Addr::UNSPECIFIED, port))?;
-        bound.set_read_timeout(Some(Duration::from_secs(TURN_SECONDS)))?;
-        *socket = Some(bound);
+    limits: Option<Limits>,
+    post: &'a mut Option<Post>,
+) -> io::Result<&'a mut Post> {
+    if post.is_none() {
+        *post = Some(Post::open(alloc, system, port, limits)?);
     }
-    socket.as_ref().ok_or(ErrorKind::NotConnected.into())
-}
-
-// Waits for a datagram, and tries again where a signal interrupted that. What doesn't fit the buffer is lost. A
-// datagram of another kind of address than IPv4 has no sender that can be answered, and is passed over.
-fn receive(socket: &UdpSocket, buf: &mut [u8]) -> io::Result<Mail>
-    ensures { IfOk result (λ mail. MailIsWithin mail buf.new) }
-{
-    for _ in 0..u64::MAX {
-        match socket.recv_from(buf) {
-            Ok((len, SocketAddr::V4(from))) => return Ok(Mail::Came {
-                len,
-                from: peer_of(&from),
-            }),
-            Ok((_, SocketAddr::V6(_))) => {}
-            Err(error) if error.kind() == ErrorKind::Interrupted => {}
-            Err(error) if error.kind() == ErrorKind::WouldBlock => return Ok(Mail::Quiet),
-            Err(error) => return Err(error),
-        }
-    }
-    Err(ErrorKind::TimedOut.into())
-}
-
-// Whether a datagram can't be sent for what its receiver is: a port of 0, or a place that isn't reached.
-fn is_unreachable(kind: ErrorKind) -> bool {
-    matches!(
-        kind,
-        ErrorKind::InvalidInput
-            | ErrorKind::ConnectionRefused
-            | ErrorKind::HostUnreachable
-            | ErrorKind::NetworkUnreachable
-            | ErrorKind::PermissionDenied
-    )
-}
-
-// Sends one datagram, and tries again where a signal interrupted that. One is sent whole or not at all. One whose
-// receiver isn't reached is lost, as any may be: else whoever writes from such a place would end the command.
-fn send_from(socket: &UdpSocket, to: Peer, piece: &[u8]) -> io::Result<()> {
-    for _ in 0..u64::MAX {
-        match socket.send_to(piece, address_of(to)) {
-            Err(error) if error.kind() == ErrorKind::Interrupted => {}
-            Err(error) if is_unreachable(error.kind()) => return Ok(()),
-            answer => return answer.map(|_| ()),
-        }
-    }
-    Err(ErrorKind::TimedOut.into())
+    post.as_mut().ok_or(ErrorKind::NotConnected.into())
 }
 
 pub(crate) fn peer_of(address: &SocketAddrV4) -> Peer
@@ -123,7 +111,7 @@ pub(crate) fn peer_of(address: &SocketAddrV4) -> Peer
     }
 }
 
-impl<R: Net> Inbox for UdpInbox<R> {
+impl<R: Net + Clock + Files> Inbox for UdpInbox<R> {
     ghost past = { λ _. None };
 
     ghost turns = { λ b. b.turns };
@@ -133,8 +121,14 @@ impl<R: Net> Inbox for UdpInbox<R> {
     ghost faults = { λ b. b.faults };
 
     fn next(&mut self, buf: &mut [u8]) -> Result<Mail, Failed> {
-        let answer = match opened(&self.net, self.port, &mut self.socket) {
-            Ok(socket) => receive(socket, buf),
+        let answer = match opened(
+            self.alloc,
+            &self.system,
+            self.port,
+            self.limits,
+            &mut self.post,
+        ) {
+            Ok(post) => post.next(&self.system, buf),
             Err(error) => Err(error),
         };
         match answer {
@@ -150,8 +144,14 @@ impl<R: Net> Inbox for UdpInbox<R> {
     }
 
     fn send(&mut self, to: Peer, piece: &[u8]) -> Result<(), Failed> {
-        let answer = match opened(&self.net, self.port, &mut self.socket) {
-            Ok(socket) => send_from(socket, to, piece),
+        let answer = match opened(
+            self.alloc,
+            &self.system,
+            self.port,
+            self.limits,
+            &mut self.post,
+        ) {
+            Ok(post) => post.send(to, piece),
             Err(error) => Err(error),
         };
         match answer {

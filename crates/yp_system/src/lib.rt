@@ -7,8 +7,12 @@
 //! may go on: that is tested.
 #![tactic(auto)]
 
+mod addresses;
+mod caller;
+mod calls;
 mod chain;
 mod clock;
+mod datagrams;
 mod dial;
 mod disk;
 mod hall;
@@ -16,6 +20,7 @@ mod inbox;
 mod locked;
 mod patient;
 mod places;
+mod post;
 mod reserved;
 mod socket;
 mod streams;
@@ -23,14 +28,17 @@ mod texts;
 mod watch;
 mod words;
 
+pub use caller::CALL_MAX;
+pub use calls::CALLERS_MAX;
 pub use clock::SystemClock;
 pub use dial::{LocalPorts, TcpDial, TcpWire};
 pub use disk::{FileDisk, Locking};
 pub use hall::{PAYMENT_SECONDS, RECORD_SECONDS, REST_SECONDS, SocketCall, TcpCloser, TcpHall};
-pub use inbox::{TURN_SECONDS, UdpInbox};
+pub use inbox::UdpInbox;
 pub use locked::MapFile;
 pub use patient::Patient;
 pub use places::Limits;
+pub use post::TURN_SECONDS;
 pub use socket::{SocketSink, SocketSource};
 pub use streams::{BlockReader, DirectWriter, StandardStream};
 pub use texts::TextFolder;

@@ -8,7 +8,7 @@ use os::{FromRawFd, errno};
 use std::io;
 use std::io::ErrorKind;
 use std::net::{Ipv4Addr, SocketAddrV4, TcpStream};
-use std::os::fd::AsRawFd;
+use std::os::fd::{AsRawFd, RawFd};
 use std::time::Duration;
 
 // The ports that are tried, as bindresvport(3) does: lower ones are those of services.
@@ -51,7 +51,10 @@ impl ReservedPorts {
     fn bind(&mut self, stream: &TcpStream) -> io::Result<()> {
         for _ in FIRST..=LAST {
             let port = self.take();
-            match bind_socket(stream, SocketAddrV4::new(Ipv4Addr::UNSPECIFIED, port)) {
+            match bind_socket(
+                stream.as_raw_fd(),
+                SocketAddrV4::new(Ipv4Addr::UNSPECIFIED, port),
+            ) {
                 Err(error) if error.kind() == ErrorKind::AddrInUse => {}
                 ended => return ended,
             }
@@ -68,11 +71,11 @@ impl ReservedPorts {
 }
 
 // Why the last call of the system failed.
-fn last_error() -> io::Error {
+pub(crate) fn last_error() -> io::Error {
     io::Error::from_raw_os_error(errno())
 }
 
-fn check(status: i32) -> io::Result<()> {
+pub(crate) fn check(status: i32) -> io::Result<()> {
     if status < 0 {
         Err(last_error())
     } else {
@@ -99,8 +102,8 @@ fn encoded(address: SocketAddrV4) -> [u8; _SS_SIZE] {
     bytes
 }
 
-fn bind_socket(stream: &TcpStream, address: SocketAddrV4) -> io::Result<()> {
-    check(unsafe { bind(stream.as_raw_fd(), &encoded(address), ADDRESS_LEN) })
+pub(crate) fn bind_socket(socket: RawFd, address: SocketAddrV4) -> io::Result<()> {
+    check(unsafe { bind(socket, &encoded(address), ADDRESS_LEN) })
 }
 
 // Connects, and goes on where a signal interrupted that. The limit of the socket's writes holds for this, too.

@@ -73,7 +73,12 @@ pub struct TcpWatch<R> {
 }
 
 // Has the system tell of a socket by this number, also of what it has come to before.
-fn register(poll: &Poll, socket: RawFd, token: Token, interests: Interest) -> io::Result<()> {
+pub(crate) fn register(
+    poll: &Poll,
+    socket: RawFd,
+    token: Token,
+    interests: Interest,
+) -> io::Result<()> {
     match poll
         .registry()
         .register(&mut SourceFd(&socket), token, interests)

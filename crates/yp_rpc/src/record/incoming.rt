@@ -65,6 +65,7 @@ impl Incoming {
         ensures fills { Fills (S.input source.old) (S.input source.new) self.old self.new result }
         ensures cause { CountsFaults (S.faults source.old) (S.faults source.new) result }
     {
+        self.move_up();
         let came = read_behind(&mut self.bytes, source);
         self.let_go();
         came
@@ -101,6 +102,18 @@ impl Incoming {
         ensures { result ≡ length self.now }
     {
         self.bytes.len() - self.at
+    }
+
+    /// Lets the memory of what was taken away go, where that is more than what is left.
+    fn move_up(&mut self)
+        ensures { self.new ≡ self.old }
+    {
+        if self.at > self.len()
+            && let Ok(left) = self.bytes[self.at..].to_vec(self.alloc)
+        {
+            self.bytes = left;
+            self.at = 0;
+        }
     }
 
     /// Lets the memory go where nothing is left in it.
