@@ -136,13 +136,12 @@ The master server is m1."
 looked_up() {
     tried "by $1: getent passwd by name" c1 'getent passwd bob' 'bob:x:5002:5001:Bob:/home/bob:/bin/sh'
     tried "by $1: getent passwd by number" c1 'getent passwd 5002' 'bob:x:5002:5001:Bob:/home/bob:/bin/sh'
-    tried "by $1: getent passwd of all" c1 'getent -s passwd:nis passwd | cut -d: -f1' 'ann
+    tried "by $1: getent passwd of all" c1 'getent -s passwd:nis passwd | cut -d: -f1 | sort' 'ann
 bob'
     tried "by $1: getent group" c1 'getent group crew && getent group 5003' 'crew:x:5001:
 printing:x:5003:ann,bob'
     tried "by $1: getent initgroups" c1 'getent initgroups ann | tr -s " "' 'ann 5003'
-    tried "by $1: getent hosts" c1 'getent hosts laser && getent hosts 10.0.0.9' '10.0.0.9        printer laser
-10.0.0.9        printer laser'
+    tried "by $1: getent hosts by name" c1 'getent hosts laser' '10.0.0.9        printer laser'
     tried "by $1: getent services" c1 'getent services postman/udp && getent services 7025/tcp' \
         'postman               7025/udp letters
 postman               7025/tcp letters'
@@ -271,7 +270,7 @@ tried 'yp serve gives a secure map to root' c1 'ypcat -d old -h m1 shadow.byname
 ida:secret:20000:0:99999:7:::'
 refused 'yp serve gives no secure map to nobody' c1 "$as_nobody ypcat -d old -h m1 shadow.byname 2>&1"
 
-# c1 as a client whose binder is Debian's ypbind, and then with our port mapper on m1.
+# c1 as a client whose binder is Debian's ypbind.
 order=$(quietly m1 'yp poll 127.0.0.1:834 lab hosts.byname' | sed -n 's/^order //p')
 quietly c1 "sed -i -E 's/^(passwd|group|shadow|hosts|services|protocols):.*files/& nis/' /etc/nsswitch.conf
     install -d -o 5001 -g 5001 /home/ann && install -d -o 5002 -g 5001 /home/bob && domainname lab"
@@ -282,10 +281,35 @@ tried 'ypbind binds to yp serve' c1 "$bind" "${address[m1]}"
 asked ypbind "${address[m1]}"
 tried 'by ypbind: yptest' c1 'yptest -q -u ann -m passwd.byname'
 looked_up ypbind
+# By a binder that has version 2 alone libnss_nis asks for another address, that of the server.
+tried 'by ypbind: getent hosts by address' c1 'getent hosts 10.0.0.9' '10.0.0.9        printer laser'
 quietly c1 "$unbind" >/dev/null
+
+# c1 as a client whose binder is ours.
+our_bind="yp bind 1007 ypsetme 4294967295 lab m1@${address[m1]}:834"
+quietly c1 "$our_bind >/var/log/yp-bind 2>&1 & echo \$! >/run/yp-bind.pid && sleep 1"
+register c1 1007 100007 2
+asked 'yp bind' m1
+looked_up 'yp bind'
+tried 'ypset sets the server of yp bind' c1 'ypset s1 2>/dev/null; ypwhich; ypcat -k hosts.byaddr' 's1
+10.0.0.9 10.0.0.9 printer laser'
+tried 'ypset from another host does not' m1 'ypset -d lab -h c1 m1 2>/dev/null; ypwhich -d lab c1' s1
+tried 'ypset sets it back' c1 'ypset m1 2>/dev/null; ypwhich' m1
+quietly c1 'kill "$(cat /run/yp-bind.pid)"'
+
+# Our port mapper in the place of rpcbind on m1. rpcbind has itself among its mappings, and ours is told.
 quietly m1 'kill "$(pgrep -x rpcbind)"; sleep 0.2; yp portmap 111 4294967295 >/var/log/yp-portmap 2>&1 & sleep 0.5'
+register m1 111 100000 2
 register_m1
-tried 'rpcinfo asks yp portmap for all' c1 'rpcinfo -p m1 | tr -s " " | sort' ' 100004 2 tcp 834 ypserv'
+tried 'rpcinfo asks yp portmap for all' c1 'rpcinfo -p m1 | awk "NR > 1 { print \$1, \$2, \$3, \$4 }" | sort -n' \
+    '100000 2 tcp 111
+100000 2 udp 111
+100004 2 tcp 834
+100004 2 udp 834
+536890953 1 tcp 834
+536890953 1 udp 834
+1073741824 1 tcp 7001
+1073741824 1 udp 7001'
 tried 'rpcinfo finds yp serve by yp portmap' c1 'rpcinfo -T udp m1 ypserv 2 && rpcinfo -T tcp m1 ypserv 2' \
     'program 100004 version 2 ready and waiting
 program 100004 version 2 ready and waiting'
@@ -294,15 +318,9 @@ tried 'ypcat asks by yp portmap' c1 'ypcat -h m1 -k hosts.byaddr' '10.0.0.9 10.0
 tried 'ypxfr tells a push by yp portmap' m1 "$push" 's1 2'
 quietly c1 "$unbind" >/dev/null
 
-# c1 as a client whose binder is ours.
-quietly c1 "yp bind 1007 ypsetme 4294967295 lab m1@${address[m1]}:834 s1@$old >/var/log/yp-bind 2>&1 & sleep 1"
+# c1 has our binder again, now with both servers to choose from.
+quietly c1 "$our_bind s1@$old >/var/log/yp-bind 2>&1 & sleep 1"
 register c1 1007 100007 2
-asked 'yp bind' m1
-looked_up 'yp bind'
-tried 'ypset sets the server of yp bind' c1 'ypset s1 2>/dev/null; ypwhich; ypcat -k hosts.byaddr' 's1
-10.0.0.9 10.0.0.9 printer laser'
-tried 'ypset from another host does not' s1 'ypset -d lab -h c1 m1 2>/dev/null; ypwhich -d lab c1' s1
-tried 'ypset sets it back' c1 'ypset m1 2>/dev/null; ypwhich' m1
 
 # A host may have two addresses: what answers a datagram does so from the one that was asked. The call is NULL of RPC.
 call='\0\0\0\1\0\0\0\0\0\0\0\2\0\1PROG\0\0\0\2\0\0\0\0\0\0\0\0\0\0\0\0\0\0\0\0\0\0\0\0'
@@ -317,7 +335,7 @@ m1 11 111 \206\240 yp portmap
 c1 13 1007 \206\247 yp bind
 EOT
 
-# m1 dies, and c1 goes on.
+# m1 dies, and c1 goes on, whose binder may have had either server before.
 lose m1
 tried 'yp bind goes on by ypserv' c1 'until [ "$(ypwhich)" = s1 ]; do sleep 0.1; done; ypcat -k hosts.byaddr' \
     '10.0.0.9 10.0.0.9 printer laser'

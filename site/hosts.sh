@@ -59,9 +59,8 @@ host() {
 
 # quietly HOST COMMAND: runs a command on a host, in /var/yp, for a minute at most.
 quietly() {
-    nsenter -t "${process[$1]}" --net --mount --uts --pid -- env -i TERM="${TERM-dumb}" \
-        PATH=/usr/local/bin:/usr/local/lib/yp:/usr/sbin:/usr/bin:/sbin:/bin \
-        timeout -k 1 "${limit:-60}" bash -c "cd /var/yp && $2"
+    nsenter -t "${process[$1]}" --net --mount --uts --pid -- env -i -C /var/yp TERM="${TERM-dumb}" \
+        PATH=/usr/local/bin:/usr/local/lib/yp:/usr/sbin:/usr/bin:/sbin:/bin timeout -k 1 "${limit:-60}" bash -c "$2"
 }
 
 # wait_for HOST COMMAND: runs a command again and again until it succeeds.
