@@ -37,10 +37,10 @@ fn locking_of(command: &Command, name: &MapName) -> Locking {
 }
 
 /// The ports from which a command opens wires. A server gives the rows of a secure map to those under 1,024 alone, and
-/// what fetches maps fetches these, too.
+/// what fetches maps fetches these, too. ypserv lets itself be pushed from those alone.
 fn local_ports_of(command: &Command) -> LocalPorts {
     match command {
-        Command::Xfr(_) | Command::Serve(_) | Command::Session { .. } => LocalPorts::Reserved,
+        Command::Xfr(_) | Command::Serve(_) | Command::Session { .. } | Command::Push(_) => LocalPorts::Reserved,
         _ => LocalPorts::Any,
     }
 }
