@@ -1,8 +1,8 @@
 #!/usr/bin/python3
 """Has the server of this host make, fetch and push its maps while it runs: live.py make|pull|push|orders [STORE ..]
 
-    live.py make [STORE ..]     has maps made anew of their texts in ypsrc (MAKE): those that are named, or each whose
-                                text was changed since it was made here last
+    live.py make [STORE ..]     has maps made anew of their texts in ypsrc (`yp make`): those that are named, or each
+                                whose text was changed since it was made here last
     live.py pull [STORE ..]     has maps fetched from the first host behind those of YP_SERVE (XFR): those that are
                                 named, or all
     live.py push [STORE ..]     has the slaves of YP_PUSH fetch maps: those that are named, or all. `yp push` tells how
@@ -34,18 +34,16 @@ PROGRAM = INSTALLED if os.path.exists(INSTALLED) else "yp"
 SECONDS = 60
 # As many slaves are asked at once, and so many turns taken, at each push.
 WINDOW, TURNS = 10, 60
-# The number of each kind, and its text.
-KINDS = {
-    "passwd.byname": (1, "passwd"),
-    "passwd.byuid": (2, "passwd"),
-    "group.byname": (3, "group"),
-    "group.bygid": (4, "group"),
-    "hosts.byname": (5, "hosts"),
-    "hosts.byaddr": (6, "hosts"),
-    "services.byname": (7, "services"),
-    "protocols.bynumber": (8, "protocols"),
-    "netgroup": (9, "netgroup"),
-    "ypservers": (10, "ypservers"),
+# The text of each map whose text has another name.
+TEXTS = {
+    "passwd.byname": "passwd",
+    "passwd.byuid": "passwd",
+    "group.byname": "group",
+    "group.bygid": "group",
+    "hosts.byname": "hosts",
+    "hosts.byaddr": "hosts",
+    "services.byname": "services",
+    "protocols.bynumber": "protocols",
 }
 SUCC, AGE, YPERR = 1, 2, -6
 STATUSES = {2: "AGE", -1: "NOMAP", -2: "NODOM", -3: "RSRC", -4: "RPC", -5: "MADDR", -6: "YPERR", -7: "BADARGS"}
@@ -137,13 +135,13 @@ def is_made(store, changed):
 def make(site, stores):
     for store in stores or site.stores:
         domain, name = store.split("/", 1)
-        kind, text = KINDS.get(name, (0, ""))
-        changed = time_of(f"ypsrc/{text}") if kind else None
+        changed = time_of(f"ypsrc/{TEXTS.get(name, name)}")
         if not stores and (changed is None or is_made(store, changed)):
             continue
-        results = ask(site, rpc.MAKE_PROGRAM, rpc.MAKE, opaques(domain) + rpc.word(kind))
-        if number(results) != SUCC:
-            fail(f"{store} isn't made: {status_of(results)}")
+        status, line, note = run("make", site.own, domain, name)
+        if status:
+            number, told = line.split()[1:] or ("", "")
+            fail(f"{store} isn't made: {note or f'{told} ({number})'}")
         else:
             print(f"{store} made", flush=True)
             if changed is not None:
