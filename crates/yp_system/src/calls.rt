@@ -137,11 +137,12 @@ impl Calls {
         let Some(place) = self.free_place(now) else {
             return;
         };
+        let socket = wire.source.descriptor();
         let Ok(number) = self.places.enter(place, now) else {
             return;
         };
         let interests = Interest::READABLE | Interest::WRITABLE;
-        let told = register(poll, wire.source.descriptor(), Token(number), interests);
+        let told = register(poll, socket, Token(number), interests);
         match self.callers.get_mut(place as usize) {
             Some(at) if told.is_ok() => {
                 *at = Some(Caller::new(self.alloc, origin.peer(), wire));

@@ -174,16 +174,22 @@ pub(crate) fn receive(socket: &UdpSocket, buf: &mut [u8]) -> io::Result<Mail>
     Err(ErrorKind::TimedOut.into())
 }
 
-// Whether a datagram can't be sent for what its receiver is: a port of 0, or a place that isn't reached.
-fn is_unreachable(kind: ErrorKind) -> bool {
-    matches!(
-        kind,
-        ErrorKind::InvalidInput
-            | ErrorKind::ConnectionRefused
-            | ErrorKind::HostUnreachable
-            | ErrorKind::NetworkUnreachable
-            | ErrorKind::PermissionDenied
-    )
+// The error of the system where the queue of a link is full, ENOBUFS.
+const QUEUE_IS_FULL: i32 = 105;
+
+// Whether a datagram can't be sent for what its receiver is, a port of 0 or a place that isn't reached, or for a link
+// that is down or full.
+fn is_lost(error: &io::Error) -> bool {
+    error.raw_os_error() == Some(QUEUE_IS_FULL)
+        || matches!(
+            error.kind(),
+            ErrorKind::InvalidInput
+                | ErrorKind::ConnectionRefused
+                | ErrorKind::HostUnreachable
+                | ErrorKind::NetworkUnreachable
+                | ErrorKind::NetworkDown
+                | ErrorKind::PermissionDenied
+        )
 }
 
 // Waits until the system takes a datagram, for some time.
@@ -197,13 +203,14 @@ fn wait_for_room(socket: &UdpSocket) {
 }
 
 // Sends one datagram, and tries again where a signal interrupted that. One is sent whole or not at all. One whose
-// receiver isn't reached is lost, as any may be: else whoever writes from such a place would end the command.
+// receiver isn't reached is lost, as any may be: else whoever writes from such a place would end the command, and so
+// would a link that is down for a moment.
 fn send_from(socket: &UdpSocket, to: Peer, piece: &[u8]) -> io::Result<()> {
     for _ in 0..u64::MAX {
         match socket.send_to(piece, address_of(to)) {
             Err(error) if error.kind() == ErrorKind::Interrupted => {}
             Err(error) if error.kind() == ErrorKind::WouldBlock => wait_for_room(socket),
-            Err(error) if is_unreachable(error.kind()) => return Ok(()),
+            Err(error) if is_lost(&error) => return Ok(()),
             answer => return answer.map(|_| ()),
         }
     }
