@@ -40,7 +40,8 @@ fn locking_of(command: &Command, name: &MapName) -> Locking {
 /// what fetches maps fetches these, too. ypserv lets itself be pushed from those alone.
 fn local_ports_of(command: &Command) -> LocalPorts {
     match command {
-        Command::Xfr(_) | Command::Serve(_) | Command::Session { .. } | Command::Push(_) => LocalPorts::Reserved,
+        Command::Xfr(_) | Command::Serve(_) | Command::Session { .. } | Command::Push(_) =>
+            LocalPorts::Reserved,
         _ => LocalPorts::Any,
     }
 }
