@@ -96,6 +96,7 @@ FORMS = {
 # The form of each word of the documents, and of those that have another one behind some commands.
 WORDS = {"STORE": "Store", "NAME": "Name", "PORT": "Port", "WORKERS": "Workers", "WINDOW": "Window", "ADDR": "Address"}
 WORDS |= {"FLAG": "Flag", "MODE": "Mode", "POLICY": "Policy", "HOST": "Host", "DOMAIN": "Text", "MAP": "Text"}
+WORDS |= {"NUMBER": "Port"}
 WORDS |= dict.fromkeys(["START", "N", "PROG", "VERS", "PROT"], "Number") | {"CONNECTIONS": "Most", "TURNS": "Most"}
 WORDS |= dict.fromkeys(["KEY", "GROUP", "USER", "NISDOMAIN"], "Key")
 BEHIND = {("build", "STORE"): "KindStore", ("revnet", "STORE"): "ReverseStore", ("innetgr", "HOST"): "Key"}
