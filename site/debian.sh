@@ -335,7 +335,6 @@ quietly c1 'kill "$(cat /run/yp-bind.pid)"'
 
 # c1 has our binder again, now with both servers to choose from.
 quietly c1 "$our_bind s1@$old >/var/log/yp-bind 2>&1 & sleep 1"
-register c1 1007 100007 2
 answers_at 'yp serve' 10.0.0.11 834 '\206\244'
 answers_at 'yp bind' 10.0.0.13 1007 '\206\247'
 
