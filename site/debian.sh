@@ -224,7 +224,7 @@ punch	10.0.0.21 punch'
 # m1: our server, the master of `lab` and a slave of `old`.
 quietly m1 "for map in ${lab[*]}; do $as_yp yp build m1 lab/\$map <ypsrc/\${map%%.*} || exit; done
     $as_yp yp load m1 lab/shadow.byname secure <ypsrc/shadow" >/dev/null
-quietly m1 "$as_yp yp serve m1 834 4 4294967295 4294967295 $(printf 'lab/%s ' "${lab[@]}" shadow.byname) \\
+quietly m1 "$as_yp yp serve m1 834 4 forever forever $(printf 'lab/%s ' "${lab[@]}" shadow.byname) \\
     old/hosts.byname old/shadow.byname old/ypservers s1@$old >/var/log/yp-serve 2>&1 &"
 wait_for m1 'ss -ltn | grep :834'
 register_m1
@@ -298,7 +298,7 @@ quietly c1 "$unbind" >/dev/null
 # Our port mapper in the place of rpcbind on m1, and then rpcbind again, which has itself among its mappings. Ours is
 # told that.
 quietly m1 'kill "$(pgrep -x rpcbind)" && sleep 0.2
-    yp portmap 111 4294967295 >/var/log/yp-portmap 2>&1 & echo $! >/run/yp-portmap.pid && sleep 0.5'
+    yp portmap 111 forever >/var/log/yp-portmap 2>&1 & echo $! >/run/yp-portmap.pid && sleep 0.5'
 register m1 111 100000 2
 register_m1
 tried 'rpcinfo asks yp portmap for all' c1 'rpcinfo -p m1 | awk "NR > 1 { print \$1, \$2, \$3, \$4 }" | sort -n' \
@@ -322,7 +322,7 @@ quietly m1 'kill "$(cat /run/yp-portmap.pid)" && sleep 0.2 && rpcbind'
 register_m1
 
 # c1 as a client whose binder is ours.
-our_bind="yp bind 1007 ypsetme 4294967295 lab m1@${address[m1]}:834"
+our_bind="yp bind 1007 ypsetme forever lab m1@${address[m1]}:834"
 quietly c1 "$our_bind >/var/log/yp-bind 2>&1 & echo \$! >/run/yp-bind.pid && sleep 1"
 register c1 1007 100007 2
 asked 'yp bind' m1
