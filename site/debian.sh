@@ -62,10 +62,11 @@ tried() {
     [ $# -lt 4 ] || printf '    wanted: %s\n' "${4//$'\n'/$'\n          : '}"
 }
 
-# refused WHAT HOST COMMAND: a case: whether a command ends with another status in time, and prints no word `secret`.
+# refused WHAT HOST COMMAND: a case: whether a command ends with another status in time, and prints no row of a secure
+# map, each of which has the day 20000.
 refused() {
     tried "$1" "$2" "came=\$($3); status=\$?; echo \"\$came\"
-        [ \$status -ne 0 ] && [ \$status -lt 124 ] && [[ \$came != *secret* ]]"
+        [ \$status -ne 0 ] && [ \$status -lt 124 ] && [[ \$came != *:20000:* ]]"
 }
 
 # text HOST FILE: writes what comes in to a file of a host.
