@@ -62,10 +62,11 @@ tried() {
     [ $# -lt 4 ] || printf '    wanted: %s\n' "${4//$'\n'/$'\n          : '}"
 }
 
-# refused WHAT HOST COMMAND: a case: whether a command ends with another status in time, and prints no word `secret`.
+# refused WHAT HOST COMMAND: a case: whether a command ends with another status in time, and prints no row of a secure
+# map, each of which has the day 20000.
 refused() {
     tried "$1" "$2" "came=\$($3); status=\$?; echo \"\$came\"
-        [ \$status -ne 0 ] && [ \$status -lt 124 ] && [[ \$came != *secret* ]]"
+        [ \$status -ne 0 ] && [ \$status -lt 124 ] && [[ \$came != *:20000:* ]]"
 }
 
 # text HOST FILE: writes what comes in to a file of a host.
@@ -85,6 +86,14 @@ register_m1() {
     register m1 834 100004 2
     register m1 834 536890953 1
     register m1 7001 1073741824 1
+}
+
+# answers_at WHAT ADDRESS PORT PROG: the case of an address of a host that isn't its first: what is called there by a
+# datagram, by NULL of RPC for PROG, answers from this address.
+answers_at() {
+    local head='\0\0\0\1\0\0\0\0\0\0\0\2\0\1' rest='\0\0\0\2\0\0\0\0\0\0\0\0\0\0\0\0\0\0\0\0\0\0\0\0'
+    tried "$1 answers at a second address" s1 "exec 3<>/dev/udp/$2/$3 && printf '$head$4$rest' >&3
+        timeout 3 head -c 24 <&3 | od -An -v -tx1 -w24 | tr -d ' '" 000000010000000100000000000000000000000000000000
 }
 
 # texts: writes the texts of m1. Ann's password is in the map of users, and Bob's in the secure map.
@@ -176,6 +185,8 @@ make_hosts
 for name in m1 s1 c1; do
     quietly $name 'cp /usr/share/yp/templates/var_yp_nicknames nicknames && mkdir -p binding && rpcbind'
 done
+quietly m1 'ip address add 10.0.0.11/24 dev eth0'
+quietly c1 'ip address add 10.0.0.13/24 dev eth0'
 quietly m1 'systemd-sysusers /usr/local/lib/sysusers.d/yp.conf
     systemd-tmpfiles --create /usr/local/lib/tmpfiles.d/yp.conf' 2>/dev/null
 texts
@@ -214,7 +225,7 @@ punch	10.0.0.21 punch'
 # m1: our server, the master of `lab` and a slave of `old`.
 quietly m1 "for map in ${lab[*]}; do $as_yp yp build m1 lab/\$map <ypsrc/\${map%%.*} || exit; done
     $as_yp yp load m1 lab/shadow.byname secure <ypsrc/shadow" >/dev/null
-quietly m1 "$as_yp yp serve m1 834 4 4294967295 4294967295 $(printf 'lab/%s ' "${lab[@]}" shadow.byname) \\
+quietly m1 "$as_yp yp serve m1 834 4 forever forever $(printf 'lab/%s ' "${lab[@]}" shadow.byname) \\
     old/hosts.byname old/shadow.byname old/ypservers s1@$old >/var/log/yp-serve 2>&1 &"
 wait_for m1 'ss -ltn | grep :834'
 register_m1
@@ -285,20 +296,10 @@ looked_up ypbind
 tried 'by ypbind: getent hosts by address' c1 'getent hosts 10.0.0.9' '10.0.0.9        printer laser'
 quietly c1 "$unbind" >/dev/null
 
-# c1 as a client whose binder is ours.
-our_bind="yp bind 1007 ypsetme 4294967295 lab m1@${address[m1]}:834"
-quietly c1 "$our_bind >/var/log/yp-bind 2>&1 & echo \$! >/run/yp-bind.pid && sleep 1"
-register c1 1007 100007 2
-asked 'yp bind' m1
-looked_up 'yp bind'
-tried 'ypset sets the server of yp bind' c1 'ypset s1 2>/dev/null; ypwhich; ypcat -k hosts.byaddr' 's1
-10.0.0.9 10.0.0.9 printer laser'
-tried 'ypset from another host does not' m1 'ypset -d lab -h c1 m1 2>/dev/null; ypwhich -d lab c1' s1
-tried 'ypset sets it back' c1 'ypset m1 2>/dev/null; ypwhich' m1
-quietly c1 'kill "$(cat /run/yp-bind.pid)"'
-
-# Our port mapper in the place of rpcbind on m1. rpcbind has itself among its mappings, and ours is told.
-quietly m1 'kill "$(pgrep -x rpcbind)"; sleep 0.2; yp portmap 111 4294967295 >/var/log/yp-portmap 2>&1 & sleep 0.5'
+# Our port mapper in the place of rpcbind on m1, and then rpcbind again, which has itself among its mappings. Ours is
+# told that.
+quietly m1 'kill "$(pgrep -x rpcbind)" && sleep 0.2
+    yp portmap 111 forever >/var/log/yp-portmap 2>&1 & echo $! >/run/yp-portmap.pid && sleep 0.5'
 register m1 111 100000 2
 register_m1
 tried 'rpcinfo asks yp portmap for all' c1 'rpcinfo -p m1 | awk "NR > 1 { print \$1, \$2, \$3, \$4 }" | sort -n' \
@@ -316,28 +317,32 @@ program 100004 version 2 ready and waiting'
 tried 'ypbind binds by yp portmap' c1 "$bind" "${address[m1]}"
 tried 'ypcat asks by yp portmap' c1 'ypcat -h m1 -k hosts.byaddr' '10.0.0.9 10.0.0.9 printer laser'
 tried 'ypxfr tells a push by yp portmap' m1 "$push" 's1 2'
+answers_at 'yp portmap' 10.0.0.11 111 '\206\240'
 quietly c1 "$unbind" >/dev/null
+quietly m1 'kill "$(cat /run/yp-portmap.pid)" && sleep 0.2 && rpcbind'
+register_m1
+
+# c1 as a client whose binder is ours.
+our_bind="yp bind 1007 ypsetme forever lab m1@${address[m1]}:834"
+quietly c1 "$our_bind >/var/log/yp-bind 2>&1 & echo \$! >/run/yp-bind.pid && sleep 1"
+register c1 1007 100007 2
+asked 'yp bind' m1
+looked_up 'yp bind'
+tried 'ypset sets the server of yp bind' c1 'ypset s1 2>/dev/null; ypwhich; ypcat -k hosts.byaddr' 's1
+10.0.0.9 10.0.0.9 printer laser'
+tried 'ypset from another host does not' m1 'ypset -d lab -h c1 m1 2>/dev/null; ypwhich -d lab c1' s1
+tried 'ypset sets it back' c1 'ypset m1 2>/dev/null; ypwhich' m1
+quietly c1 'kill "$(cat /run/yp-bind.pid)"'
 
 # c1 has our binder again, now with both servers to choose from.
 quietly c1 "$our_bind s1@$old >/var/log/yp-bind 2>&1 & sleep 1"
-register c1 1007 100007 2
+answers_at 'yp serve' 10.0.0.11 834 '\206\244'
+answers_at 'yp bind' 10.0.0.13 1007 '\206\247'
 
-# A host may have two addresses: what answers a datagram does so from the one that was asked. The call is NULL of RPC.
-call='\0\0\0\1\0\0\0\0\0\0\0\2\0\1PROG\0\0\0\2\0\0\0\0\0\0\0\0\0\0\0\0\0\0\0\0\0\0\0\0'
-while read -r name last port program what; do
-    quietly "$name" "ip address show dev eth0 | grep -q 10.0.0.$last/ || ip address add 10.0.0.$last/24 dev eth0"
-    tried "$what answers at a second address" s1 "exec 3<>/dev/udp/10.0.0.$last/$port
-        printf '${call/PROG/$program}' >&3; timeout 3 head -c 24 <&3 | od -An -v -tx1 -w24 | tr -d ' '" \
-        000000010000000100000000000000000000000000000000
-done <<'EOT'
-m1 11 834 \206\244 yp serve
-m1 11 111 \206\240 yp portmap
-c1 13 1007 \206\247 yp bind
-EOT
-
-# m1 dies, and c1 goes on, whose binder may have had either server before.
+# m1 dies, and c1 goes on, whose binder may have had either server before. It asks its server again in a second in which
+# nobody asks it.
 lose m1
-tried 'yp bind goes on by ypserv' c1 'until [ "$(ypwhich)" = s1 ]; do sleep 0.1; done; ypcat -k hosts.byaddr' \
+tried 'yp bind goes on by ypserv' c1 'until [ "$(ypwhich)" = s1 ]; do sleep 1.5; done; ypcat -k hosts.byaddr' \
     '10.0.0.9 10.0.0.9 printer laser'
 tried 'a user logs in by ypserv' c1 "echo 'open sesame' | $as_nobody su - ann -c 'id -un' 2>/dev/null" ann
 
