@@ -105,8 +105,8 @@ fn take_turn<I: Inbox, E: Handler>(
     }
 }
 
-/// Takes turns of an inbox for a handler, at most so many. It ends where the handler is done, where all turns are taken,
-/// or where the inbox fails.
+/// Takes turns of an inbox for a handler, at most so many. It ends where the handler is done, where all turns are
+/// taken, or where the inbox fails.
 pub fn take_turns<I: Inbox, E: Handler>(
     inbox: &mut I,
     handler: &mut E,

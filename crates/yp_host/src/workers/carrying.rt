@@ -24,8 +24,8 @@ use yp_transfer::{Asker, XfrFault};
 use yp_version::Version;
 
 /// Fetches the map of a transfer job and installs it, and tells the caller at `peer` what came of it, where it wants to
-/// be told. The desk's lock is held while it is fetched, and again while the caller is told, which may wait for its port
-/// mapper; no look-up takes that lock.
+/// be told. The desk's lock is held while it is fetched, and again while the caller is told, which may wait for its
+/// port mapper; no look-up takes that lock.
 pub(crate) fn carry_out<S, D, B, A, T, C, R>(
     alloc: Global,
     rt: &R,
