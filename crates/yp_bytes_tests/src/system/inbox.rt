@@ -220,6 +220,11 @@ where
     is_served && caller.write_all(&bytes[11..]).is_ok()
 }
 
+// Two such records and half of a third, and the other half.
+const TWO_AND_HALF: &[u8; 30] = b"\x80\0\0\x08number \x02\x80\0\0\x08number \x03\x80\0\0\x08nu";
+
+const HALF: &[u8; 6] = b"mber \x04";
+
 // What comes of a caller whose records come byte by byte, two in one write, and with half of one more behind.
 fn cut_records<R>(office: &mut Office<R>, caller: &mut TcpStream) -> [bool; 8]
 where
@@ -227,14 +232,10 @@ where
 {
     let is_sent = send_in_bytes(office, caller, &record(1));
     let by_bytes = office.echo(1) == 1 && has_back(caller, 1);
-    let mut three = [0; 36];
-    three[..12].copy_from_slice(&record(2));
-    three[12..24].copy_from_slice(&record(3));
-    three[24..].copy_from_slice(&record(4));
-    let is_written = caller.write_all(&three[..30]).is_ok();
+    let is_written = caller.write_all(TWO_AND_HALF).is_ok();
     let whole = office.echo(2) == 2 && has_back(caller, 2) && has_back(caller, 3);
     let half = office.echo(1) == 0;
-    let rest = caller.write_all(&three[30..]).is_ok();
+    let rest = caller.write_all(HALF).is_ok();
     let behind = office.echo(1) == 1 && has_back(caller, 4);
     // two fragments, of three bytes and of five
     let parts = caller
