@@ -209,26 +209,42 @@ fn sent(dial: &MemDial) -> (usize, [Option<Sent<'_>>; 2]) {
 // A dial without wires, to whose first question this comes back.
 fn asking_dial<R: Abort>(rt: &R, alloc: Global, mapper: &Mapper) -> MemDial {
     let mut answers = Vec::new(alloc);
-    let answer = mapper.1.map(|words| bytes(rt, alloc, &[words]));
+    let answer = match mapper.1 {
+        Some(words) => Some(bytes(rt, alloc, &[words])),
+        None => None,
+    };
     answers.push(answer).expect(rt, "an answer");
     let failing = list(rt, alloc, mapper.2);
     MemDial::with_answers(alloc, Vec::new(alloc), answers, failing)
 }
 
+// A port at the address of the caller.
+fn at(port: u16) -> Peer {
+    let addr = UNNAMED.addr;
+    Peer { addr, port }
+}
+
+// What is to be sent: a question, if one goes out, and the letter to the port that is told, if one is.
+fn wanted_of<'a>(
+    mapper: &Mapper,
+    question: &'a [u8],
+    letter: &'a [u8],
+) -> (usize, [Option<Sent<'a>>; 2]) {
+    let question = Some((true, at(111), question));
+    match (mapper.3, mapper.4) {
+        (1, Some(port)) => (2, [question, Some((false, at(port), letter))]),
+        (1, None) => (1, [question, None]),
+        _ => (0, [None, None]),
+    }
+}
+
 fn try_mapper<R: Abort>(rt: &R, alloc: Global, mapper: &Mapper) {
-    let (name, _, _, asked, port) = mapper;
     let question = bytes(rt, alloc, &[QUESTION]);
     let letter = bytes(rt, alloc, &[LETTER]);
-    let at = |port| Peer {
-        addr: UNNAMED.addr,
-        port,
-    };
-    let first = (*asked == 1).then_some((true, at(111), question.as_slice()));
-    let second = port.map(|port| (false, at(port), letter.as_slice()));
-    let wanted = (asked + usize::from(port.is_some()), [first, second]);
     let mut dial = asking_dial(rt, alloc, mapper);
     tell_back(&mut dial, &UNNAMED, XfrStat::Nomap);
-    assert_same(rt, &sent(&dial), &wanted, *name);
+    let wanted = wanted_of(mapper, &question, &letter);
+    assert_same(rt, &sent(&dial), &wanted, mapper.0);
 }
 
 #[test]
