@@ -77,7 +77,7 @@ class Site:
         serve, push = environment()
         self.name, self.port = serve[0], int(serve[1])
         self.stores = [word for word in serve[5:] if "/" in word]
-        self.hosts = [word for word in serve[5:] if "/" not in word]
+        self.hosts = [word for word in serve[5:] if "@" in word]
         self.push_port, self.slaves = push[:1], push[1:]
         self.own = f"127.0.0.1:{self.port}"
 

@@ -8,3 +8,4 @@ pub mod Opened
 mod ReadArguments
 mod Targets
 mod Untaken
+mod Overlooked

@@ -8,5 +8,6 @@ pub mod Reply
 pub mod Streams
 pub mod Items
 pub mod Answers
+pub mod Outcomes
 pub mod Laws
 pub mod session

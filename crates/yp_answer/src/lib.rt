@@ -18,6 +18,7 @@ pub mod laws;
 mod limits;
 mod look_up;
 mod make;
+mod outcome;
 mod procedure;
 pub mod session;
 mod stream;
@@ -25,7 +26,8 @@ mod transfer;
 
 pub use calls::{Answered, answer, answer_datagram};
 pub use limits::RECORD_MAX;
-pub use make::{MakeJob, make_reply};
+pub use make::{MakeJob, make_check, make_reply};
+pub use outcome::{Outcome, outcome_of};
 pub use procedure::{Path, Procedure};
 pub use stream::{AllStream, HeldStream};
 pub use transfer::TransferJob;

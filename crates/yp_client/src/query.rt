@@ -12,3 +12,4 @@ pub(crate) mod text;
 
 pub use dialed::query;
 pub use fault::QueryFault;
+pub use status::stat_name;

@@ -24,7 +24,7 @@ use Rattle.yp_command.specs.Words.{Meaning, meaning, ◌>>=◌, word, served, st
 use Rattle.yp_command.specs.Words.{is_new_store, is_new_server, once, session, serve, check, dump, build, load, xfr}
 use Rattle.yp_command.specs.Words.{walk, revnet, sample, push, bind, portmap, getport, setport, unsetport, asking}
 use Rattle.yp_command.specs.Words.{match_key, maps, innetgr}
-use Rattle.yp_command.specs.Words.{pull}
+use Rattle.yp_command.specs.Words.{pull, but_log, ends_in_log}
 use Rattle.yp_command.specs.Words.{compared, orders, Orders}
 use Rattle.yp_command.specs.Words.{sentence, command_of, each, end, optional, Once, Session, Serve, Check, Dump, Build}
 use Rattle.yp_command.specs.Words.{Load, Xfr, Walk, Revnet, Sample, Push, Bind, Portmap, CallMapper, Ask}
@@ -376,11 +376,12 @@ serve_named words =
     read (word 2 form.port words) _ λ port _.
     read (word 3 form.workers words) _ λ workers workers_is.
     read (word 4 form.most words) _ λ connections _.
-    read (word 5 form.most words) _ λ turns _. read (stores_and_hosts 6 words) _ λ all all_is.
-    whole (Serve own port workers connections turns all.0 all.1) (
+    read (word 5 form.most words) _ λ turns _.
+    read (stores_and_hosts 6 (but_log words)) _ λ all all_is.
+    whole (Serve own port workers connections turns all.0 all.1 (ends_in_log words)) (
     let some = of_word (λ n. (1 ≤ n) × (n ≤ workers_max)) form.workers 3 words workers (within_said 1 workers_max)
     workers_is in
-    (some.0, some.1, maps_made own 6 words all (name_read 1 words own own_is) all_is))
+    (some.0, some.1, maps_made own 6 (but_log words) all (name_read 1 words own own_is) all_is))
 
 check_named : (words : List (List ℕ)) → Named (check words)
 unfolding check

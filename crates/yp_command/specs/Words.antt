@@ -1,6 +1,6 @@
 -- The command line: sentences made of words.
-use Rattle.std.specs.Prelude.{ℕ, ◌+◌, Bool, not, nat_le, nat_lt, bytes_eq, ⊤}
-use Rattle.std.specs.Prelude.{◌&&◌, if◌then◌else◌, List, [], ◌∷◌, ◌++◌, length, drop, map, slice_get}
+use Rattle.std.specs.Prelude.{ℕ, ◌+◌, ◌-◌, Bool, false, not, nat_le, nat_lt, bytes_eq, ⊤}
+use Rattle.std.specs.Prelude.{◌&&◌, if◌then◌else◌, List, [], ◌∷◌, ◌++◌, length, drop, take, map, slice_get}
 use Rattle.std.specs.Prelude.{Option, Some, None, Result, Ok, Err, codes, string_bytes}
 use Rattle.std.specs.List.{list_any}
 use Rattle.std.specs.Option.{option_and_then, option_map_or, ok_or}
@@ -32,8 +32,9 @@ pub data Meaning : Type 0 where
   -- the own name, the caller, the maps that are served, and the hosts that are known
   Session : (own : List ℕ) (peer : Peer) (stores : List Name) (hosts : List Host) → Meaning
   -- the own name, the port, how many workers there are, how many connections are accepted, how many turns there are at
-  -- the datagrams, the maps that are served, and the hosts that are known
-  Serve : (own : List ℕ) (port workers connections turns : ℕ) (stores : List Name) (hosts : List Host) → Meaning
+  -- the datagrams, the maps that are served, the hosts that are known, and whether it tells what it does
+  Serve : (own : List ℕ) (port workers connections turns : ℕ) (stores : List Name) (hosts : List Host) (log : Bool)
+      → Meaning
   Check : (store : Name) → Meaning
   Dump : (store : Name) → Meaning
   -- the flag is true for a secure version, and none where the words don't say
@@ -112,6 +113,14 @@ stores_and_hosts at words = do
   all ← served at [] [] (drop at words)
   if nat_le 1 (length all.0) then Ok all else Err (length words)
 
+-- the last of these words is `log`
+abbrev pub ends_in_log : List (List ℕ) → Bool
+ends_in_log words = option_map_or (λ word. bytes_eq word (codes "log")) (slice_get words (length words - 1)) false
+
+-- these words, but for a last one that is `log`
+abbrev pub but_log : List (List ℕ) → List (List ℕ)
+but_log words = if ends_in_log words then take (length words - 1) words else words
+
 -- a server may stand behind these: each has an address of its own, and there are at most 64
 abbrev pub is_new_server : List Host → Host → Bool
 is_new_server hosts host =
@@ -156,8 +165,8 @@ serve words = do
   workers ← word 3 form.workers words
   connections ← word 4 form.most words
   turns ← word 5 form.most words
-  (stores, hosts) ← stores_and_hosts 6 words
-  Ok (Serve own port workers connections turns stores hosts)
+  (stores, hosts) ← stores_and_hosts 6 (but_log words)
+  Ok (Serve own port workers connections turns stores hosts (ends_in_log words))
 
 unfoldable pub check : Sentence
 check words = do
@@ -394,7 +403,7 @@ with_ypservers store = if is_ypservers store then store ∷ [] else store ∷ yp
 abbrev pub stores_of : Meaning → List Name
 stores_of (Once store rows) = []
 stores_of (Session own peer stores hosts) = stores
-stores_of (Serve own port workers connections turns stores hosts) = stores
+stores_of (Serve own port workers connections turns stores hosts log) = stores
 stores_of (Check store) = store ∷ []
 stores_of (Dump store) = store ∷ []
 stores_of (Build name store flag) = store ∷ []
@@ -432,7 +441,7 @@ meaning (command.Session name addr stores hosts) =
     Session name.items addr (map name_view stores.items) (map host_view hosts.items)
 meaning (command.Serve job) =
     Serve job.name.items job.port job.workers job.connections job.turns (map name_view job.stores.items)
-    (map host_view job.hosts.items)
+    (map host_view job.hosts.items) job.log
 meaning (command.Check store) = Check (name_view store)
 meaning (command.Dump store) = Dump (name_view store)
 meaning (command.Build name store flag) = Build name.items (name_view store) flag
@@ -462,7 +471,7 @@ texts words = map string_bytes words
 abbrev pub TakesMemory : Meaning → Type 0
 TakesMemory (Once store rows) = Unit {0}
 TakesMemory (Session own peer stores hosts) = Unit {0}
-TakesMemory (Serve own port workers connections turns stores hosts) = Unit {0}
+TakesMemory (Serve own port workers connections turns stores hosts log) = Unit {0}
 TakesMemory (Check store) = Unit {0}
 TakesMemory (Dump store) = Unit {0}
 TakesMemory (Build name store flag) = Unit {0}

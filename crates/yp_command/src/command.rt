@@ -63,6 +63,8 @@ pub struct ServeJob {
     pub stores: Vec<MapName>,
     /// The hosts that it knows.
     pub hosts: Vec<HostWord>,
+    /// Whether it tells what it does.
+    pub log: bool,
 }
 
 /// A map that slaves are to fetch.

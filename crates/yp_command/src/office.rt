@@ -15,7 +15,7 @@ mod status;
 pub use disks::{Apart, NamedDisk, named_disks, put_together, take_apart};
 pub use file::{status_of_file, status_of_map};
 pub use hosts::table_of;
-pub use lines::{LINE_MAX, Line, add, add_map, add_number};
+pub use lines::{LINE_MAX, Line, add, add_map, add_number, add_peer};
 pub use office::Office;
 pub use row::{BYTES_RULE, KEY_RULE, ROWS_RULE, VALUE_RULE, status_of_row};
 pub use status::Status;

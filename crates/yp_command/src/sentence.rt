@@ -5,7 +5,7 @@
 
 ghost use Rattle.std.specs.Prelude.{◌≡◌, Some, option_map};
 ghost use Rattle.yp_command.specs.Forms as forms;
-ghost use Rattle.yp_command.specs.Words.{word, optional, end, texts};
+ghost use Rattle.yp_command.specs.Words.{word, optional, end, texts, but_log, ends_in_log};
 ghost use Rattle.yp_command.specs.inside.Words.{shown};
 
 use crate::form;
@@ -38,6 +38,27 @@ impl<'a> Words<'a> {
         } else {
             Err(at)
         }
+    }
+
+    /// Whether the last word is `log`.
+    pub fn ends_in_log(self) -> bool
+        ensures { result ≡ ends_in_log (texts self.entry.words.now) }
+    {
+        match self.words.get(self.words.len().saturating_sub(1)) {
+            Some(word) => word.as_str() == "log",
+            None => false,
+        }
+    }
+
+    /// The words, but for a last one that is `log`.
+    pub fn but_log(self) -> Words<'a>
+        ensures { texts result.words.now ≡ but_log (texts self.entry.words.now) }
+    {
+        if !self.ends_in_log() {
+            return self;
+        }
+        let words = &self.words[..self.words.len().saturating_sub(1)];
+        Words { words }
     }
 
     /// The word with this number, which is a name.

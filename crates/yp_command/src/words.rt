@@ -134,7 +134,8 @@ fn serve(alloc: Global, words: Words) -> Result<Command, ParseFault>
     let workers = words.workers(3)?;
     let connections = words.most(4)?;
     let turns = words.most(5)?;
-    let (stores, hosts) = stores_and_hosts(alloc, words, 6)?;
+    let log = words.ends_in_log();
+    let (stores, hosts) = stores_and_hosts(alloc, words.but_log(), 6)?;
     Ok(Command::Serve(ServeJob {
         name: bytes(alloc, name)?,
         port,
@@ -143,6 +144,7 @@ fn serve(alloc: Global, words: Words) -> Result<Command, ParseFault>
         turns,
         stores: stores?,
         hosts: hosts?,
+        log,
     }))
 }
 

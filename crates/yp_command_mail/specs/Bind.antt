@@ -1,6 +1,6 @@
 -- What `bind` does: it asks servers for a domain, answers which one it is bound to, and tells that at the end.
 use Rattle.std.specs.Prelude.{◌≡◌, ◌⊎◌, ℕ, Bool, true, false, ◌==◌, List, [], ◌∷◌, ◌++◌, map, drop}
-use Rattle.std.specs.Prelude.{slice_index, slice_index_or, Option, None, Some, Result, Ok, Err, codes, decimal}
+use Rattle.std.specs.Prelude.{slice_index_or, Option, None, Some, Result, Ok, Err, codes}
 use Rattle.std.specs.List.{starts_with}
 use Rattle.yp_io.specs.declared.stream.Failed.{Failed}
 use Rattle.yp_io.specs.declared.stream.Peer.{Peer}
@@ -26,6 +26,7 @@ use Rattle.yp_command.specs.declared.office.status.Status.{Status}
 use Rattle.yp_command.specs.declared.office.status.Status.TheVariants.{Done, WriteFault, NoMemory, InboxFault}
 use Rattle.yp_command.specs.declared.office.office.Office.{Office}
 use Rattle.yp_command.specs.Forms.{Host}
+use Rattle.yp_command.specs.office.Lines.{peer_text}
 use Rattle.yp_command.specs.office.Seeing.{Seeing, output, WriteFails, InboxFails}
 use Rattle.yp_command_mail.specs.declared.binding.Offer.{Offer}
 use Rattle.yp_command_mail.specs.Telling.{TellsText, box, HasInboxCauses, IsMailing}
@@ -96,13 +97,6 @@ unbound domain servers policy =
     record { domains = domain ∷ []; servers = servers; policy = policy; events = [] }
 
 -- ---- what is told
-
--- a server: the four numbers of its address, and its port
-abbrev pub peer_text : Peer → List ℕ
-peer_text peer =
-    decimal (slice_index peer.addr 0) ++ codes "." ++ decimal (slice_index peer.addr 1) ++ codes "."
-    ++ decimal (slice_index peer.addr 2) ++ codes "." ++ decimal (slice_index peer.addr 3) ++ codes ":"
-    ++ decimal peer.port
 
 abbrev pub server_text : Option Peer → List ℕ
 server_text (Some peer) = peer_text peer

@@ -15,7 +15,7 @@ ghost use Rattle.yp_command.specs.office.Seeing.{seeing, IsPassedOn};
 ghost use Rattle.yp_command.specs.inside.office.Status.{IsTellable};
 ghost use Rattle.yp_command.specs.declared.office.status.Status.TheVariants.{Done, WriteFault};
 ghost use Rattle.yp_command_mail.specs.Telling.{TellsText};
-ghost use Rattle.yp_command_mail.specs.Bind.{Goes, Hears, Rests, is_reply, offer_of, unbound, peer_text, server_text};
+ghost use Rattle.yp_command_mail.specs.Bind.{Goes, Hears, Rests, is_reply, offer_of, unbound, server_text};
 ghost use Rattle.yp_command_mail.specs.Bind.{bound_line, servers_of, bind_may_end, BindDoes};
 
 use crate::text::tell_text;
@@ -23,7 +23,7 @@ use std::alloc::{AllocError, Global};
 use std::marker::Model;
 use yp_binding::{Binder, Policy};
 use yp_command::HostWord;
-use yp_command::office::{LINE_MAX, Line, Office, Status, add, add_number};
+use yp_command::office::{LINE_MAX, Line, Office, Status, add, add_peer};
 use yp_io::{Clock, Dial, Disk, Failed, Inbox, NoMemory, Peer, Sink, Source, Texts};
 use yp_messages::protocol::{DOMAIN_NONACK, YPPROG, YPVERS};
 use yp_messages::{Message, ReqDomain};
@@ -136,23 +136,6 @@ impl Handler for DomainBinder {
     fn rest(&mut self) {
         self.binder.on_quiet();
     }
-}
-
-/// Adds the address of a server: four numbers and its port.
-fn add_peer(line: &mut Line, peer: Peer)
-    requires { array_vec_len line.old + 104 ≤ LINE_MAX }
-    ensures text { line.new.items ≡ line.old.items ++ peer_text peer }
-    ensures len { array_vec_len line.new ≤ array_vec_len line.old + 104 }
-{
-    add_number(line, u64::from(peer.addr[0]));
-    add(line, b".");
-    add_number(line, u64::from(peer.addr[1]));
-    add(line, b".");
-    add_number(line, u64::from(peer.addr[2]));
-    add(line, b".");
-    add_number(line, u64::from(peer.addr[3]));
-    add(line, b":");
-    add_number(line, u64::from(peer.port));
 }
 
 /// Adds the server that a domain is bound to, or that there is none.

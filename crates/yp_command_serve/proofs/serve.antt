@@ -1,3 +1,4 @@
+pub mod Logging
 pub mod Disks
 pub mod Starts
 pub mod Told

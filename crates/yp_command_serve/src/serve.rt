@@ -2,11 +2,13 @@
 //!
 //! [`serve_maps`] takes the office of the outside and a listener, and ensures the one relation that says what it does
 //! to them: each connection that came was served, each datagram had its turn, and each map's file then stands for what
-//! was shown of it.
+//! was shown of it. Where it is to tell what it does, lines of that stand in the notes, and last what was counted.
 
 mod clock;
+mod log;
 mod resources;
 mod serve;
 mod tally;
+mod telling;
 
 pub use serve::serve_maps;

@@ -6,10 +6,11 @@ use std::process::Abort;
 use std::random::RandomSource;
 use std::sync::Wait;
 use std::thread::Threads;
+use std::time::Clock;
 use yp_stage::{DiskCalls, Row, try_disk, try_row};
 
 /// Runs rows, and ends the test at the first of which something else comes.
-pub fn try_rows<R: Threads + Wait + RandomSource + Abort + Sync>(
+pub fn try_rows<R: Threads + Wait + RandomSource + Clock + Abort + Sync>(
     rt: &R,
     alloc: Global,
     rows: &[Row],
@@ -30,7 +31,7 @@ pub fn assert_same<R: Abort, T: PartialEq + Debug>(rt: &R, came: &T, wanted: &T,
 }
 
 /// The same with calls of a disk that fail.
-pub fn try_disks<R: Threads + Wait + RandomSource + Abort + Sync>(
+pub fn try_disks<R: Threads + Wait + RandomSource + Clock + Abort + Sync>(
     rt: &R,
     alloc: Global,
     disks: &[DiskCalls],

@@ -6,6 +6,7 @@ use std::process::Abort;
 use std::random::RandomSource;
 use std::sync::Wait;
 use std::thread::Threads;
+use std::time::Clock;
 use yp_stage::{FAIR, Row, Words, strings_of, try_made};
 
 /// MATCH of `alpha` in the map `hosts.byname` of the domain `lab`, xid 1, in a record of 80 bytes.
@@ -107,7 +108,7 @@ fn once_words<R: Abort>(rt: &R, alloc: Global) -> Vec<String> {
 }
 
 /// Runs these words over MATCH, and compares what comes with a row whose output is these bytes.
-fn try_words<R: Threads + Wait + RandomSource + Abort + Sync>(
+fn try_words<R: Threads + Wait + RandomSource + Clock + Abort + Sync>(
     rt: &R,
     alloc: Global,
     row: &Row,

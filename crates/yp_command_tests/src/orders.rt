@@ -7,6 +7,7 @@ use std::process::Abort;
 use std::random::RandomSource;
 use std::sync::Wait;
 use std::thread::Threads;
+use std::time::Clock;
 use yp_stage::{FAIR, Row, try_reads, try_row, try_writes};
 
 /// The first server has the map `hosts.byname` of the master `m1`, of order 100: its replies to MAPLIST, to MASTER and
@@ -145,7 +146,7 @@ static UNDIALED: [Row; 2] = [
 
 /// Each call of the first wire fails in turn: a call takes a write and a flush, its reply a read of the head and one of
 /// the body. Then the text, which takes a write and a flush.
-fn try_calls<R: Threads + Wait + RandomSource + Abort + Sync>(rt: &R, alloc: Global) {
+fn try_calls<R: Threads + Wait + RandomSource + Clock + Abort + Sync>(rt: &R, alloc: Global) {
     let no_read = Row {
         code: 3,
         note: "yp: read fault\n",

@@ -7,6 +7,7 @@ use std::process::Abort;
 use std::random::RandomSource;
 use std::sync::Wait;
 use std::thread::Threads;
+use std::time::Clock;
 use yp_io::{MemDial, MemDisk, MemInbox, MemSink, MemSource, MemTexts, SetClock};
 use yp_program::laws;
 use yp_stage::{FAIR, Row, try_reads, try_row, try_writes};
@@ -205,7 +206,7 @@ fn answers_of_a_server(rt: HostRuntime) {
 
 /// Each call of the dial and the wire fails in turn: a call takes a write and a flush, its reply a read of the head and
 /// one of the body.
-fn try_wire<R: Threads + Wait + RandomSource + Abort + Sync>(
+fn try_wire<R: Threads + Wait + RandomSource + Clock + Abort + Sync>(
     rt: &R,
     alloc: Global,
     client: &Row,
@@ -237,7 +238,7 @@ fn try_wire<R: Threads + Wait + RandomSource + Abort + Sync>(
 }
 
 /// The text takes a write and a flush.
-fn try_output<R: Threads + Wait + RandomSource + Abort + Sync>(
+fn try_output<R: Threads + Wait + RandomSource + Clock + Abort + Sync>(
     rt: &R,
     alloc: Global,
     client: &Row,

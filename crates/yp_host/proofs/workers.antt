@@ -9,3 +9,4 @@ mod Leading
 mod Sourcing
 mod Aging
 mod Using
+mod Stating

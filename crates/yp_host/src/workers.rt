@@ -18,10 +18,12 @@ mod carrying;
 mod charges;
 mod desk;
 mod host;
+mod journal;
 mod making;
 mod outcome;
 
 pub use charges::{Account, Charges};
 pub use desk::{FailedSources, ReachedOrders, SharedDesk, Supplies, UnreadTexts};
 pub use host::WorkerHost;
+pub use journal::{Event, Events, Journal};
 pub use outcome::{Group, Outcomes, Totals};

@@ -5,11 +5,12 @@ use std::process::Abort;
 use std::random::RandomSource;
 use std::sync::Wait;
 use std::thread::Threads;
+use std::time::Clock;
 use yp_stage::{After, DiskCalls, Row, try_alone, try_crash, try_disk, try_row, try_stops};
 
 /// Runs rows, and ends the test at the first of which something else comes. Where rows are given for behind a crash,
 /// each file that one may leave has to stand for one of theirs, and that row is run over it.
-pub fn try_rows_after<R: Threads + Wait + RandomSource + Abort + Sync>(
+pub fn try_rows_after<R: Threads + Wait + RandomSource + Clock + Abort + Sync>(
     rt: &R,
     alloc: Global,
     rows: &[Row],
@@ -21,7 +22,7 @@ pub fn try_rows_after<R: Threads + Wait + RandomSource + Abort + Sync>(
 }
 
 /// Runs a row for each call of the disk, which fails alone.
-pub fn try_each<R: Threads + Wait + RandomSource + Abort + Sync>(
+pub fn try_each<R: Threads + Wait + RandomSource + Clock + Abort + Sync>(
     rt: &R,
     alloc: Global,
     disks: &[DiskCalls],
@@ -32,7 +33,7 @@ pub fn try_each<R: Threads + Wait + RandomSource + Abort + Sync>(
 }
 
 /// Runs a row for each call of the disk, which fails, and all behind it do.
-pub fn try_all<R: Threads + Wait + RandomSource + Abort + Sync>(
+pub fn try_all<R: Threads + Wait + RandomSource + Clock + Abort + Sync>(
     rt: &R,
     alloc: Global,
     disks: &[DiskCalls],
@@ -43,7 +44,7 @@ pub fn try_all<R: Threads + Wait + RandomSource + Abort + Sync>(
 }
 
 /// Runs rows, and ends the test at the first of which something else comes.
-pub fn try_rows<R: Threads + Wait + RandomSource + Abort + Sync>(
+pub fn try_rows<R: Threads + Wait + RandomSource + Clock + Abort + Sync>(
     rt: &R,
     alloc: Global,
     rows: &[Row],
@@ -54,7 +55,7 @@ pub fn try_rows<R: Threads + Wait + RandomSource + Abort + Sync>(
 }
 
 /// The same with calls of a disk that fail.
-pub fn try_disks<R: Threads + Wait + RandomSource + Abort + Sync>(
+pub fn try_disks<R: Threads + Wait + RandomSource + Clock + Abort + Sync>(
     rt: &R,
     alloc: Global,
     disks: &[DiskCalls],

@@ -8,6 +8,8 @@ mod bytes;
 #[cfg(test)]
 mod given;
 #[cfg(test)]
+mod logs;
+#[cfg(test)]
 mod mailing;
 #[cfg(test)]
 mod makes;

@@ -111,7 +111,42 @@ static AFTER: [After; 2] = [FETCHED_ANEW, HAS_IT];
 
 // ---- the dial and its wire
 
-static WHOLE: [Row; 1] = [FETCHED];
+/// The words of a server that is to tell what it does.
+const LOGGING: &[&str] = &[
+    "serve",
+    "s1",
+    "7101",
+    "1",
+    "1",
+    "0",
+    "lab/hosts.byname",
+    "m1@127.0.0.1:7001",
+    "log",
+];
+
+const TOLD: Row = Row {
+    name: "it is told that the map was fetched",
+    words: LOGGING,
+    note: "fetched lab/hosts.byname order 100 for 127.0.0.1:40000\n\
+        made 0, not made by file 0, transfers 1, reached 1, \
+        failed by address 0, memory 0, file 0, source 0\n",
+    ..FETCHED
+};
+
+static WHOLE: [Row; 3] = [
+    FETCHED,
+    TOLD,
+    Row {
+        name: "it is told that the map wasn't fetched",
+        words: LOGGING,
+        note: "not fetched lab/hosts.byname -4 RPC for 127.0.0.1:40000\n\
+            made 0, not made by file 0, transfers 1, reached 0, \
+            failed by address 0, memory 0, file 0, source 1\n",
+        dials: 0,
+        wires: 0,
+        ..UNFETCHED
+    },
+];
 
 #[test]
 fn worker_transfer(rt: HostRuntime) {

@@ -25,7 +25,7 @@ module _ {S K D C A I T : Type 0} (seen : Seeing S K D C A I T) (status : Status
   unfolding AloneDoes
   command_keeps (Once store rows) h = by_stays (record old { wire = new.wire }) h.stays refl refl
   command_keeps (Session own peer stores hosts) h = record { names = h.names; told = h.told }
-  command_keeps (Serve own port workers connections turns stores hosts) h = absurd h
+  command_keeps (Serve own port workers connections turns stores hosts log) h = absurd h
   command_keeps (Check store) h = record { names = h.0.names; told = ap (λ (o : Office S K D C A I T). seen.clock.moment o.clock) h.0.stays }
   command_keeps (Dump store) h = record { names = h.0.names; told = ap (λ (o : Office S K D C A I T). seen.clock.moment o.clock) h.0.stays }
   command_keeps (Build name store flag) h = record { names = h.0.does.names; told = h.0.does.told }

@@ -5,3 +5,4 @@ pub mod Sourced
 pub mod Walked
 pub mod Sending
 pub mod Comparing
+pub mod Noting

@@ -1,5 +1,5 @@
 -- What is done for words that weren't parsed.
-use Rattle.std.proofs.Common.{◌≡◌, ℕ, List, Result, Ok, Err, refl, inr, true}
+use Rattle.std.proofs.Common.{◌≡◌, ℕ, List, [], Result, Ok, Err, refl, inr, true}
 use Rattle.yp_answer.specs.session.Wires.{Wire}
 use Rattle.yp_command.specs.Words.{Meaning, Once, Session, Serve, Check, Dump, Build, Load, Xfr, Walk, Sample, Push}
 use Rattle.yp_command.specs.Words.{Bind, Portmap, CallMapper, Ask, Orders, Revnet}
@@ -21,7 +21,7 @@ command_may : (meaning : Meaning) → may_end meaning NoMemory ≡ true
 unfolding may_end
 command_may (Once store rows) = refl
 command_may (Session own peer stores hosts) = refl
-command_may (Serve own port workers connections turns stores hosts) = refl
+command_may (Serve own port workers connections turns stores hosts log) = refl
 command_may (Check store) = refl
 command_may (Dump store) = refl
 command_may (Build name store flag) = refl
@@ -46,14 +46,14 @@ unparsed_may command (fault.Usage word) h = usage_may command word h
 unparsed_may command fault.NoMemory h = memory_may command h
 
 module _ {S K D C A I T : Type 0} (seen : Seeing S K D C A I T) (office : Office S K D C A I T) (door : ListenTells) (wires : List Wire) where
-  usage_does : (command : Result Meaning ℕ) (word : ℕ) → command ≡ Err word → Does seen command (Usage word) office office door door wires wires
+  usage_does : (command : Result Meaning ℕ) (word : ℕ) → command ≡ Err word → Does seen command (Usage word) office office door door wires wires []
   usage_does (Ok meaning) word e = absurd cc
-  usage_does (Err other) word e = let same : other ≡ word = cc in rw same (refl, refl, refl, refl)
+  usage_does (Err other) word e = let same : other ≡ word = cc in rw same (refl, refl, refl, refl, refl)
 
-  memory_does : (command : Result Meaning ℕ) → IsSentenceOfWords command → Does seen command NoMemory office office door door wires wires
-  memory_does (Ok meaning) h = inr (record { takes_memory = h; told = refl; stays = refl; door_stays = refl; unseen = refl })
+  memory_does : (command : Result Meaning ℕ) → IsSentenceOfWords command → Does seen command NoMemory office office door door wires wires []
+  memory_does (Ok meaning) h = inr (record { takes_memory = h; told = refl; stays = refl; door_stays = refl; unseen = refl; unlogged = refl })
   memory_does (Err word) h = absurd h
 
-  pub unparsed_does : (command : Result Meaning ℕ) (why : ParseFault) → IsUsage command why → Does seen command (parse_status why) office office door door wires wires
+  pub unparsed_does : (command : Result Meaning ℕ) (why : ParseFault) → IsUsage command why → Does seen command (parse_status why) office office door door wires wires []
   unparsed_does command (fault.Usage word) h = usage_does command word h
   unparsed_does command fault.NoMemory h = memory_does command h

@@ -1,5 +1,7 @@
 -- What the program does, by its command: one line each.
-use Rattle.std.specs.Prelude.{◌≡◌, ◌⊎◌, ℕ, Bool, IsTrue, List, Result, Ok, Err}
+use Rattle.std.specs.Prelude.{◌≡◌, ◌⊎◌, ℕ, Bool, IsTrue, List, [], ◌++◌, Option, Result, Ok, Err}
+use Rattle.std.specs.Io.KnownBytes.{Appends}
+use Rattle.yp_io.specs.Counts.{HasRisen}
 use Rattle.yp_answer.specs.session.Wires.{Wire}
 use Rattle.yp_command.specs.Words.{Meaning, Once, Session, Serve, Check, Dump, Build, Load, Xfr, Walk}
 use Rattle.yp_command.specs.Words.{Sample, Push, Bind, Portmap, CallMapper, Ask, Orders, TakesMemory, Revnet}
@@ -7,6 +9,7 @@ use Rattle.yp_command.specs.declared.office.office.Office.{Office}
 use Rattle.yp_command.specs.declared.office.status.Status.{Status}
 use Rattle.yp_command.specs.declared.office.status.Status.TheVariants.{Usage, NoMemory}
 use Rattle.yp_command.specs.office.Seeing.{Seeing}
+use Rattle.yp_command.specs.office.Status.{note}
 use Rattle.yp_command_serve.specs.Once.{OnceDoes, once_may_end}
 use Rattle.yp_command_serve.specs.Sample.{SampleDoes, sample_may_end}
 use Rattle.yp_command_serve.specs.Session.{SessionDoes, session_may_end}
@@ -31,7 +34,7 @@ use Rattle.yp_program.specs.declared.program.Outside.{Outside}
 -- what a command that serves no listener does to the office and to a witness's wires, with this status
 unfoldable pub AloneDoes : {S K D C A I T : Type 0} → Seeing S K D C A I T → Meaning → Status
     → (old new : Office S K D C A I T) → (before after : List Wire) → Type 0
-AloneDoes seen (Serve own port workers connections turns stores hosts) status old new before after = ⊥
+AloneDoes seen (Serve own port workers connections turns stores hosts log) status old new before after = ⊥
 AloneDoes seen (Once store rows) status old new before after = OnceDoes seen store rows status old new before after
 AloneDoes seen (Session own peer stores hosts) status old new before after =
     SessionDoes seen own peer stores hosts status old new before after
@@ -62,37 +65,48 @@ AloneDoes seen (Ask peer question) status old new before after =
 AloneDoes seen (Orders first others domain) status old new before after =
     OrdersDoes seen first others domain status old new × (after ≡ before)
 
--- what a command does, to what a listener tells, too: any but `serve` leaves it as it is
+-- what a command does, to what a listener tells, too, and what it logs: any but `serve` leaves the first as it is, and
+-- logs nothing
 abbrev pub CommandDoes : {S K D C A I T : Type 0} → Seeing S K D C A I T → Meaning → Status
-    → (old new : Office S K D C A I T) → (door door' : ListenTells) → (before after : List Wire) → Type 0
-CommandDoes seen (Serve own port workers connections turns stores hosts) status old new door door' before after =
-    ServeDoes seen (serve_job_of own connections turns stores hosts) status old new door door' × (after ≡ before)
-CommandDoes seen meaning status old new door door' before after =
-    AloneDoes seen meaning status old new before after × (door' ≡ door)
+    → (old new : Office S K D C A I T) → (door door' : ListenTells) → (before after : List Wire) → (logged : List ℕ)
+    → Type 0
+CommandDoes seen (Serve own port workers connections turns stores hosts log) status old new door door' before after
+    logged =
+    ServeDoes seen (serve_job_of own connections turns stores hosts log) status old new door door' logged
+    × (after ≡ before)
+CommandDoes seen meaning status old new door door' before after logged =
+    AloneDoes seen meaning status old new before after × (door' ≡ door) × (logged ≡ [])
 
 -- memory ran out for what is copied of the words, and nothing has changed
 pub record IsForgone {S K D C A I T : Type 0} (meaning : Meaning) (status : Status) (old new : Office S K D C A I T)
-    (door door' : ListenTells) (before after : List Wire) : Type 0 where
+    (door door' : ListenTells) (before after : List Wire) (logged : List ℕ) : Type 0 where
   pub takes_memory : TakesMemory meaning
   pub told : status ≡ NoMemory
   pub stays : new ≡ old
   pub door_stays : door' ≡ door
   pub unseen : after ≡ before
+  pub unlogged : logged ≡ []
 
 -- what is done for the command that the words are; words that are none are told, and nothing is done
 abbrev pub Does : {S K D C A I T : Type 0} → Seeing S K D C A I T → Result Meaning ℕ → Status
-    → (old new : Office S K D C A I T) → (door door' : ListenTells) → (before after : List Wire) → Type 0
-Does seen (Ok meaning) status old new door door' before after =
-    CommandDoes seen meaning status old new door door' before after
-    ⊎ IsForgone meaning status old new door door' before after
-Does seen (Err word) status old new door door' before after =
-    (status ≡ Usage word) × (new ≡ old) × (door' ≡ door) × (after ≡ before)
+    → (old new : Office S K D C A I T) → (door door' : ListenTells) → (before after : List Wire) → (logged : List ℕ)
+    → Type 0
+Does seen (Ok meaning) status old new door door' before after logged =
+    CommandDoes seen meaning status old new door door' before after logged
+    ⊎ IsForgone meaning status old new door door' before after logged
+Does seen (Err word) status old new door door' before after logged =
+    (status ≡ Usage word) × (new ≡ old) × (door' ≡ door) × (after ≡ before) × (logged ≡ [])
+
+-- what was logged stands in the notes, and behind it the note of the status, unless the notes have failed
+abbrev pub IsNoted : (faults faults' : ℕ) → (before after : Option (List ℕ)) → (logged : List ℕ) → Status → Type 0
+IsNoted faults faults' before after logged status =
+    ¬ HasRisen faults faults' → Appends before after (logged ++ note status)
 
 -- the statuses with which a command may end
 unfoldable pub may_end : Meaning → Status → Bool
 may_end (Once store rows) status = once_may_end status
 may_end (Session own peer stores hosts) status = session_may_end status
-may_end (Serve own port workers connections turns stores hosts) status = serve_may_end status
+may_end (Serve own port workers connections turns stores hosts log) status = serve_may_end status
 may_end (Check store) status = check_may_end status
 may_end (Dump store) status = dump_may_end status
 may_end (Build name store flag) status = build_may_end status

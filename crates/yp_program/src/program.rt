@@ -1,6 +1,6 @@
 //! The one call that does all that the program does.
 
-ghost use Rattle.std.specs.Prelude.{◌≡◌, List, [], IsTrue};
+ghost use Rattle.std.specs.Prelude.{◌≡◌, ℕ, ◌≤◌, List, [], IsTrue};
 ghost use Rattle.std.specs.Io.KnownBytes.{Appends};
 ghost use Rattle.yp_io.specs.Counts.{HasRisen};
 ghost use Rattle.yp_command.specs.Words.{command_of, disk_names, texts, meaning, stores_of};
@@ -13,7 +13,8 @@ ghost use Rattle.yp_command.specs.inside.office.Status.{IsTellable};
 ghost use Rattle.yp_worker.specs.Receptions.{opening_by};
 ghost use Rattle.yp_command_serve.specs.serve.Serve.{ServeDoes, serve_may_end};
 ghost use Rattle.yp_command_serve.specs.inside.serve.Serve.{serve_job_view};
-ghost use Rattle.yp_program.specs.Commands.{AloneDoes, CommandDoes, Does, MayEnd, may_end, office_of};
+ghost use Rattle.yp_program.specs.Commands.{AloneDoes, CommandDoes, Does, IsNoted, MayEnd, may_end};
+ghost use Rattle.yp_program.specs.Commands.{office_of};
 ghost use Rattle.yp_program.specs.inside.Commands.{IsAlone};
 ghost use Rattle.yp_program.specs.inside.Commands.{parse_status};
 
@@ -25,6 +26,7 @@ use std::alloc::Global;
 use std::random::RandomSource;
 use std::sync::Wait;
 use std::thread::Threads;
+use std::time;
 use yp_answer::session::Witness;
 use yp_command::office::{NamedDisk, Office, Status};
 use yp_command::{Command, ParseFault, ServeJob, parse};
@@ -92,6 +94,7 @@ fn finish<S, K: Sink, D, C, L, A, I, T>(
     ensures listen { result.listen ≡ listen }
     ensures note { ¬ HasRisen (K.faults notes) (K.faults result.notes)
         → Appends (K.output notes) (K.output result.notes) (note status.now) }
+    ensures never_falls { K.faults notes ≤ K.faults result.notes }
 {
     let mut notes = notes;
     tell(&mut notes, status);
@@ -179,8 +182,9 @@ fn obey<S: Source, K: Sink, D: Disk, C: Clock, A: Dial, I: Inbox, T: Texts, W: W
 /// Tells a status in one line, if it has one. A failed write is dropped.
 pub fn tell<K: Sink>(notes: &mut K, status: &Status)
     requires { IsTellable status.now }
-    ensures { ¬ HasRisen (K.faults notes.old) (K.faults notes.new)
+    ensures note { ¬ HasRisen (K.faults notes.old) (K.faults notes.new)
         → Appends (K.output notes.old) (K.output notes.new) (note status.now) }
+    ensures never_falls { K.faults notes.old ≤ K.faults notes.new }
 {
     let _ = write_all(notes, &status.note());
 }
@@ -233,7 +237,7 @@ fn run_server<S, K, D, C, L, A, I, T, R>(
 ) -> (Status, Outside<S, K, D, C, L, A, I, T>)
 where
     S: Source,
-    K: Sink,
+    K: Sink + Send + Drop,
     D: Disk + Send + Drop,
     C: Clock + Send + Drop,
     L: Hall + Send + Drop,
@@ -246,21 +250,20 @@ where
     A::Out: Send,
     I: Inbox + Send + Drop,
     T: Texts + Send + Drop,
-    R: Threads + Wait + RandomSource + Sync,
+    R: Threads + Wait + RandomSource + time::Clock + Sync,
     requires names { HasNames (meaning (Command.Serve job)) }
     requires disks { names_of outside.disks.items ≡ stores_of (meaning (Command.Serve job)) }
-    ensures does { ServeDoes (seeing S.Source K.Sink D.Disk C.Clock A.Dial I.Inbox T.Texts)
-        (serve_job_view job) result.0
-        (office_of outside) (office_of result.1)
-        (opening_by L.Hall outside.listen) (opening_by L.Hall result.1.listen) }
+    ensures does { (logged : List ℕ) × ServeDoes (seeing S.Source K.Sink D.Disk C.Clock A.Dial I.Inbox T.Texts)
+        (serve_job_view job) result.0 (office_of outside) (office_of result.1)
+        (opening_by L.Hall outside.listen) (opening_by L.Hall result.1.listen) logged
+        × IsNoted (K.faults outside.notes) (K.faults result.1.notes) (K.output outside.notes)
+        (K.output result.1.notes) logged result.0 }
     ensures may_end { IsTrue (serve_may_end result.0) }
     ensures passed_on { IsPassedOn (seeing S.Source K.Sink D.Disk C.Clock A.Dial I.Inbox T.Texts) result.0
         (office_of outside) (office_of result.1) }
-    ensures note { ¬ HasRisen (K.faults outside.notes) (K.faults result.1.notes)
-        → Appends (K.output outside.notes) (K.output result.1.notes) (note result.0) }
 {
     let (office, notes, listen) = unpack(outside);
-    let (status, office, listen) = serve_maps(alloc, rt, job, office, listen);
+    let (status, office, listen, notes) = serve_maps(alloc, rt, job, office, listen, notes);
     let outside = finish(&status, office, notes, listen);
     (status, outside)
 }
@@ -276,7 +279,7 @@ pub fn run_command<S, K, D, C, L, A, I, T, W, R>(
 ) -> (Status, Outside<S, K, D, C, L, A, I, T>)
 where
     S: Source,
-    K: Sink,
+    K: Sink + Send + Drop,
     D: Disk + Send + Drop,
     C: Clock + Send + Drop,
     L: Hall + Send + Drop,
@@ -290,20 +293,20 @@ where
     I: Inbox + Send + Drop,
     T: Texts + Send + Drop,
     W: Witness<S, K>,
-    R: Threads + Wait + RandomSource + Sync,
+    R: Threads + Wait + RandomSource + time::Clock + Sync,
     requires names { HasNames (meaning command) }
     requires disks { names_of outside.disks.items ≡ stores_of (meaning command) }
-    ensures does { CommandDoes (seeing S.Source K.Sink D.Disk C.Clock A.Dial I.Inbox T.Texts) (meaning command) result.0
-        (office_of outside) (office_of result.1)
+    ensures does { (logged : List ℕ) × CommandDoes (seeing S.Source K.Sink D.Disk C.Clock A.Dial I.Inbox T.Texts)
+        (meaning command) result.0 (office_of outside) (office_of result.1)
         (opening_by L.Hall outside.listen) (opening_by L.Hall result.1.listen)
-        (W.wires witness.old) (W.wires witness.new) }
+        (W.wires witness.old) (W.wires witness.new) logged
+        × IsNoted (K.faults outside.notes) (K.faults result.1.notes) (K.output outside.notes)
+        (K.output result.1.notes) logged result.0 }
     ensures may_end { IsTrue (may_end (meaning command) result.0) }
     ensures disks { names_of result.1.disks.items ≡ names_of outside.disks.items }
     ensures clock { C.moment result.1.clock ≡ C.moment outside.clock }
     ensures passed_on { IsPassedOn (seeing S.Source K.Sink D.Disk C.Clock A.Dial I.Inbox T.Texts) result.0
         (office_of outside) (office_of result.1) }
-    ensures note { ¬ HasRisen (K.faults outside.notes) (K.faults result.1.notes)
-        → Appends (K.output outside.notes) (K.output result.1.notes) (note result.0) }
 {
     match command {
         Command::Serve(job) => run_server(alloc, rt, job, outside),
@@ -321,7 +324,7 @@ pub fn run_watched<S, K, D, C, L, A, I, T, W, R>(
 ) -> (Status, Outside<S, K, D, C, L, A, I, T>)
 where
     S: Source,
-    K: Sink,
+    K: Sink + Send + Drop,
     D: Disk + Send + Drop,
     C: Clock + Send + Drop,
     L: Hall + Send + Drop,
@@ -335,19 +338,19 @@ where
     I: Inbox + Send + Drop,
     T: Texts + Send + Drop,
     W: Witness<S, K>,
-    R: Threads + Wait + RandomSource + Sync,
+    R: Threads + Wait + RandomSource + time::Clock + Sync,
     requires disks { names_of outside.disks.items ≡ disk_names (texts words.now) }
-    ensures does { Does (seeing S.Source K.Sink D.Disk C.Clock A.Dial I.Inbox T.Texts)
+    ensures does { (logged : List ℕ) × Does (seeing S.Source K.Sink D.Disk C.Clock A.Dial I.Inbox T.Texts)
         (command_of (texts words.now)) result.0 (office_of outside) (office_of result.1)
         (opening_by L.Hall outside.listen) (opening_by L.Hall result.1.listen)
-        (W.wires witness.old) (W.wires witness.new) }
+        (W.wires witness.old) (W.wires witness.new) logged
+        × IsNoted (K.faults outside.notes) (K.faults result.1.notes) (K.output outside.notes)
+        (K.output result.1.notes) logged result.0 }
     ensures may_end { MayEnd (command_of (texts words.now)) result.0 }
     ensures disks { names_of result.1.disks.items ≡ names_of outside.disks.items }
     ensures clock { C.moment result.1.clock ≡ C.moment outside.clock }
     ensures passed_on { IsPassedOn (seeing S.Source K.Sink D.Disk C.Clock A.Dial I.Inbox T.Texts) result.0
         (office_of outside) (office_of result.1) }
-    ensures note { ¬ HasRisen (K.faults outside.notes) (K.faults result.1.notes)
-        → Appends (K.output outside.notes) (K.output result.1.notes) (note result.0) }
 {
     match parse(alloc, words) {
         Ok(command) => run_command(alloc, rt, command, outside, witness),
@@ -381,7 +384,7 @@ pub fn run<S, K, D, C, L, A, I, T, R>(
 ) -> (Status, Outside<S, K, D, C, L, A, I, T>)
 where
     S: Source,
-    K: Sink,
+    K: Sink + Send + Drop,
     D: Disk + Send + Drop,
     C: Clock + Send + Drop,
     L: Hall + Send + Drop,
@@ -394,14 +397,17 @@ where
     A::Out: Send,
     I: Inbox + Send + Drop,
     T: Texts + Send + Drop,
-    R: Threads + Wait + RandomSource + Sync,
+    R: Threads + Wait + RandomSource + time::Clock + Sync,
     requires disks { names_of outside.disks.items ≡ disk_names (texts words.now) }
 
     // What is done for the words, by the one relation of their command, over the wires that a witness of the run saw
-    // behind its answered records.
-    ensures does { (wires : List Wire) × Does (seeing S.Source K.Sink D.Disk C.Clock A.Dial I.Inbox T.Texts)
+    // behind its answered records. What it logs stands in the notes, and then the status is told there.
+    ensures does { (wires : List Wire) × (logged : List ℕ)
+        × Does (seeing S.Source K.Sink D.Disk C.Clock A.Dial I.Inbox T.Texts)
         (command_of (texts words.now)) result.0 (office_of outside) (office_of result.1)
-        (opening_by L.Hall outside.listen) (opening_by L.Hall result.1.listen) [] wires }
+        (opening_by L.Hall outside.listen) (opening_by L.Hall result.1.listen) [] wires logged
+        × IsNoted (K.faults outside.notes) (K.faults result.1.notes) (K.output outside.notes)
+        (K.output result.1.notes) logged result.0 }
 
     // How it may end.
     ensures may_end { MayEnd (command_of (texts words.now)) result.0 }
@@ -413,10 +419,6 @@ where
     // What was taken was passed on, but for a write fault.
     ensures passed_on { IsPassedOn (seeing S.Source K.Sink D.Disk C.Clock A.Dial I.Inbox T.Texts) result.0
         (office_of outside) (office_of result.1) }
-
-    // The status is told.
-    ensures note { ¬ HasRisen (K.faults outside.notes) (K.faults result.1.notes)
-        → Appends (K.output outside.notes) (K.output result.1.notes) (note result.0) }
 {
     let mut trail = Trail::new();
     run_watched(alloc, rt, words, outside, &mut trail)

@@ -24,13 +24,13 @@ use std::sync::{Mutex, Wait};
 use std::thread::Threads;
 use yp_answer::session::{Buffers, CALLS_MAX};
 use yp_board::Tell;
-use yp_host::workers::{Account, Charges, SharedDesk, Supplies, WorkerHost};
+use yp_host::workers::{Account, Charges, Journal, SharedDesk, Supplies, WorkerHost};
 use yp_io::{Clock, Dial, Disk, Hall, Inbox, Texts};
 use yp_publisher::sharing::{Accounts, Locked};
 use yp_worker::{Gate, Listening, Pass, Reception, Tally, Worker};
 
-/// What each worker is lent: the locks of the publisher and of the desk, the gate, and the most records of a
-/// connection.
+/// What each worker is lent: the locks of the publisher and of the desk, the journal, where there is one, the gate, and
+/// the most records of a connection.
 #[derive(Drop)]
 pub(crate) struct WorkerMaker<
     'a,
@@ -47,6 +47,7 @@ pub(crate) struct WorkerMaker<
     pub(crate) rt: &'a R,
     pub(crate) publisher: &'a Mutex<Locked<J, D, B>>,
     pub(crate) desk: &'a Mutex<SharedDesk<J, A, T, C>>,
+    pub(crate) journal: Option<&'a Mutex<Journal>>,
     pub(crate) gate: &'a G,
     pub(crate) most: u64,
 }
@@ -83,6 +84,7 @@ impl<
             self.publisher,
             self.desk,
             charges,
+            self.journal,
         );
         Worker::new(host, buffers, self.gate, self.most)
     }
@@ -190,6 +192,7 @@ impl<
             self.publisher,
             self.desk,
             charges.split_off(),
+            self.journal,
         );
         let datagram_worker = DatagramWorker::new(
             datagram_resources.inbox,

@@ -32,13 +32,13 @@ use crate::spec::{ServeRefused, ServeSpec, Served};
 use std::alloc::Global;
 use std::marker::Brand;
 use std::random::RandomSource;
-use std::sync::Wait;
 use std::sync::ledger::{Blank, Ledger};
+use std::sync::{Mutex, Wait};
 use std::thread::Threads;
 use yp_answer::session::CALLS_MAX;
 use yp_board::Tell;
 use yp_host::Desk;
-use yp_host::workers::Supplies;
+use yp_host::workers::{Journal, Supplies};
 use yp_io::{Clock, Dial, Disk, Hall, Inbox, Texts};
 use yp_publisher::Publisher;
 use yp_publisher::sharing::Accounts;
@@ -49,7 +49,7 @@ use yp_worker::{Gate, Reception};
 /// or the inbox has failed. Each worker has a thread of its own, and the datagrams have one more. Where one can't be
 /// started, its work is done in another's.
 ///
-/// There is one reader more than workers of connections.
+/// There is one reader more than workers of connections. Where there is a journal, the workers tell it what they do.
 pub fn serve<D, B, A, T, C, L, I, G, R>(
     alloc: Global,
     rt: &R,
@@ -59,6 +59,7 @@ pub fn serve<D, B, A, T, C, L, I, G, R>(
     listen: L,
     inbox: I,
     spec: &ServeSpec,
+    journal: Option<&Mutex<Journal>>,
     gate: &G,
 ) -> Result<Served<D, B, A, T, C, L, I>, ServeRefused<D, A, T, C, L, I>>
 where
@@ -159,6 +160,7 @@ where
         resources,
         worker_resources,
         spec,
+        journal,
         gate,
         Blank::new(parts),
         Blank::new(parts),
@@ -173,6 +175,7 @@ fn under_locks<J, E, D, B, A, T, C, L, I, G, R>(
     resources: ServerResources<D, B, A, T, C, L, I>,
     worker_resources: WorkerResources<B::Reader>,
     spec: &ServeSpec,
+    journal: Option<&Mutex<Journal>>,
     gate: &G,
     out: Blank,
     ended: Blank,
@@ -277,6 +280,7 @@ where
         rt,
         publisher: &publisher,
         desk: &desk,
+        journal,
         gate,
         most: spec.most,
     };

@@ -7,6 +7,7 @@ use std::alloc::{AllocError, Global};
 use std::random::RandomSource;
 use std::sync::Wait;
 use std::thread::Threads;
+use std::time::Clock;
 use yp_io::MemDisk;
 use yp_program::{NamedDisk, Status, run};
 
@@ -70,7 +71,7 @@ struct Played {
     images: Vec<Vec<u8>>,
 }
 
-fn run_over<R: Threads + Wait + RandomSource + Sync>(
+fn run_over<R: Threads + Wait + RandomSource + Clock + Sync>(
     alloc: Global,
     rt: &R,
     row: &Row,
@@ -84,7 +85,7 @@ fn run_over<R: Threads + Wait + RandomSource + Sync>(
 }
 
 /// What the server of a row sends for its calls.
-fn served<R: Threads + Wait + RandomSource + Sync>(
+fn served<R: Threads + Wait + RandomSource + Clock + Sync>(
     alloc: Global,
     rt: &R,
     row: &Row,
@@ -96,7 +97,7 @@ fn served<R: Threads + Wait + RandomSource + Sync>(
 }
 
 /// What the first wire of a row gives.
-fn wire_of<R: Threads + Wait + RandomSource + Sync>(
+fn wire_of<R: Threads + Wait + RandomSource + Clock + Sync>(
     alloc: Global,
     rt: &R,
     row: &Row,
@@ -108,7 +109,7 @@ fn wire_of<R: Threads + Wait + RandomSource + Sync>(
     }
 }
 
-fn play<R: Threads + Wait + RandomSource + Sync>(
+fn play<R: Threads + Wait + RandomSource + Clock + Sync>(
     alloc: Global,
     rt: &R,
     row: &Row,
@@ -145,7 +146,7 @@ fn compare(alloc: Global, came: &Ended, wanted: &Ended) -> Result<(), Wrong> {
 }
 
 /// Runs a row over this file, and compares what came of it. The files are those that a crash may leave then.
-fn try_over<R: Threads + Wait + RandomSource + Sync>(
+fn try_over<R: Threads + Wait + RandomSource + Clock + Sync>(
     alloc: Global,
     rt: &R,
     row: &Row,
@@ -162,7 +163,7 @@ fn try_over<R: Threads + Wait + RandomSource + Sync>(
 
 /// Runs these words over this input, in place of those of a row, and compares what came with this output and with what
 /// else the row wants.
-pub fn try_made<R: Threads + Wait + RandomSource + Sync>(
+pub fn try_made<R: Threads + Wait + RandomSource + Clock + Sync>(
     alloc: Global,
     rt: &R,
     row: &Row,
@@ -177,7 +178,7 @@ pub fn try_made<R: Threads + Wait + RandomSource + Sync>(
 }
 
 /// Runs a row, and compares what came of it.
-pub fn try_row<R: Threads + Wait + RandomSource + Sync>(
+pub fn try_row<R: Threads + Wait + RandomSource + Clock + Sync>(
     alloc: Global,
     rt: &R,
     row: &Row,
@@ -186,7 +187,7 @@ pub fn try_row<R: Threads + Wait + RandomSource + Sync>(
 }
 
 /// Runs what belongs to a file that a crash left.
-fn try_image<R: Threads + Wait + RandomSource + Sync>(
+fn try_image<R: Threads + Wait + RandomSource + Clock + Sync>(
     alloc: Global,
     rt: &R,
     image: &[u8],
@@ -204,7 +205,7 @@ fn try_image<R: Threads + Wait + RandomSource + Sync>(
 
 /// Runs a row, and compares what came of it. Where rows are given for behind a crash, each file that one may leave has
 /// to stand for one of theirs, and that row is run over it.
-pub fn try_crash<R: Threads + Wait + RandomSource + Sync>(
+pub fn try_crash<R: Threads + Wait + RandomSource + Clock + Sync>(
     alloc: Global,
     rt: &R,
     row: &Row,
@@ -222,7 +223,7 @@ pub fn try_crash<R: Threads + Wait + RandomSource + Sync>(
 }
 
 /// Runs a row for each call of the disk, which fails alone.
-pub fn try_alone<R: Threads + Wait + RandomSource + Sync>(
+pub fn try_alone<R: Threads + Wait + RandomSource + Clock + Sync>(
     alloc: Global,
     rt: &R,
     calls: &DiskCalls,
@@ -238,7 +239,7 @@ pub fn try_alone<R: Threads + Wait + RandomSource + Sync>(
 }
 
 /// Runs a row for each call of the disk, which fails, and all behind it do.
-pub fn try_stops<R: Threads + Wait + RandomSource + Sync>(
+pub fn try_stops<R: Threads + Wait + RandomSource + Clock + Sync>(
     alloc: Global,
     rt: &R,
     calls: &DiskCalls,
@@ -254,7 +255,7 @@ pub fn try_stops<R: Threads + Wait + RandomSource + Sync>(
 }
 
 /// Runs a row for each call of the disk in both ways.
-pub fn try_disk<R: Threads + Wait + RandomSource + Sync>(
+pub fn try_disk<R: Threads + Wait + RandomSource + Clock + Sync>(
     alloc: Global,
     rt: &R,
     calls: &DiskCalls,
@@ -264,7 +265,7 @@ pub fn try_disk<R: Threads + Wait + RandomSource + Sync>(
 }
 
 /// Runs a row for each of the first reads of its wire, which fails, with rows for behind a crash.
-pub fn try_reads<R: Threads + Wait + RandomSource + Sync>(
+pub fn try_reads<R: Threads + Wait + RandomSource + Clock + Sync>(
     alloc: Global,
     rt: &R,
     row: &Row,
@@ -282,7 +283,7 @@ pub fn try_reads<R: Threads + Wait + RandomSource + Sync>(
 }
 
 /// Runs a row for each of the first writes and flushes of its wire, which fails, with rows for behind a crash.
-pub fn try_writes<R: Threads + Wait + RandomSource + Sync>(
+pub fn try_writes<R: Threads + Wait + RandomSource + Clock + Sync>(
     alloc: Global,
     rt: &R,
     row: &Row,

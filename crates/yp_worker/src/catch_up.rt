@@ -6,7 +6,7 @@ ghost use Rattle.yp_board.specs.Views.{IsFront};
 ghost use Rattle.yp_publisher.specs.sharing.Shares.{Learns};
 
 use yp_answer::session::Host;
-use yp_io::NoMemory;
+use yp_io::{NoMemory, Peer};
 
 /// A host of a board that others show versions on.
 pub trait CatchUp: Host {
@@ -42,6 +42,9 @@ pub trait HandsOver: CatchUp {
 
     /// A sum and more.
     ghost plus: { Self.Count → Self.Count → Self.Count };
+
+    /// It is told that the connection of this caller is closed for its time. That changes nothing of what it is seen as.
+    fn late(&self, _peer: Peer) {}
 
     /// Adds what it has counted to a sum, and counts from nothing again. What it knows is a front of the sum's log
     /// then.

@@ -13,7 +13,7 @@ use crate::gated::Gated;
 use std::alloc::Global;
 use std::marker::Model;
 use yp_answer::session::{Advance, Buffers, Conversation, Terms};
-use yp_io::{Awaited, CallOrigin, Called, Pair, TrySink, TrySource};
+use yp_io::{Awaited, CallOrigin, Called, Pair, Peer, TrySink, TrySource};
 
 /// A caller, and the conversation with it, behind a gate. Its number tells it from all others of its worker.
 #[derive(Drop)]
@@ -62,6 +62,13 @@ impl<S, K, G> Guest<S, K, G> {
             number,
             conversation: Conversation::new(alloc, Pair { source, sink }),
         }
+    }
+
+    /// Who called.
+    pub fn peer(&self) -> Peer
+        ensures { result ≡ self.now.origin.peer }
+    {
+        self.origin.peer()
     }
 
     /// How many of its records were read whole.

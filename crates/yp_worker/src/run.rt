@@ -316,6 +316,9 @@ impl<H: HandsOver, G: Gate + Copy + Drop> Worker<H, G> {
         ensures came { came_to shift.new.tally shift.new.guests ≡ came_to shift.old.tally shift.old.guests }
         ensures door { shift.new.is_open ≡ shift.old.is_open }
     {
+        if let Some(guest) = shift.guests.get(place as usize) {
+            self.host.late(guest.peer());
+        }
         shift.watch.leave(place);
         self.close::<J, L>(shift, place, true);
     }

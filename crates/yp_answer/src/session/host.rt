@@ -45,6 +45,10 @@ pub trait Host: View {
         ensures { CarriesOut (conduct_of Self.seen told counts Self.stepped made carried) (taken_view job.now) peer
             self.old self.new };
 
+    /// It is told of a reply that goes out whole, and of the call that it is to, from `peer`, unless a transfer was
+    /// taken by that. That changes nothing of what it is seen as.
+    fn replied(&self, _peer: Peer, _message: &[u8], _reply: &[u8]) {}
+
     /// A read step counts nothing.
     ghost step_counts_nothing: { (old new : Self) → Self.stepped old new → counts new ≡ counts old };
 }

@@ -57,7 +57,10 @@ pub(crate) fn put_reply<K: Sink, H: Host>(
 {
     match answer(host, message, peer, buf) {
         Answered::Silent => put_of(Ok(()), None),
-        Answered::Reply { len } => put_of(writer.send(sink, &buf[..len]), None),
+        Answered::Reply { len } => {
+            host.replied(peer, message, &buf[..len]);
+            put_of(writer.send(sink, &buf[..len]), None)
+        }
         Answered::Transfer { len, job } => {
             let errand = Errand::new(&job);
             put_of(writer.send(sink, &buf[..len]), Some(errand))
@@ -65,6 +68,7 @@ pub(crate) fn put_reply<K: Sink, H: Host>(
         Answered::Stream(stream) => put_open(open_reply(alloc, host, stream)),
         Answered::Make { xid, job } => {
             let len = make(host, job, xid, buf);
+            host.replied(peer, message, &buf[..len]);
             put_of(writer.send(sink, &buf[..len]), None)
         }
     }

@@ -1,6 +1,6 @@
 //! The line of a map that a server was asked to fetch or to make.
 
-ghost use Rattle.std.specs.Prelude.{◌≡◌, ◌++◌, codes, IfOk, OnOk};
+ghost use Rattle.std.specs.Prelude.{◌≡◌, ◌≤◌, ◌++◌, codes, length, IfOk, OnOk};
 ghost use Rattle.std.specs.Fmt.{signed_decimal};
 ghost use Rattle.yp_messages.specs.Transfers.{xfr_number};
 ghost use Rattle.yp_client.specs.query.Lines.{stat_name, status_text, made_text};
@@ -10,8 +10,9 @@ use yp_io::NoMemory;
 use yp_messages::XfrStat;
 
 /// The name of a status.
-fn stat_name(stat: XfrStat) -> &'static [u8]
-    ensures { result.now ≡ stat_name stat }
+pub fn stat_name(stat: XfrStat) -> &'static [u8]
+    ensures name { result.now ≡ stat_name stat }
+    ensures short { length result.now ≤ 7 }
 {
     match stat {
         XfrStat::Succ => b"SUCC",

@@ -33,7 +33,7 @@ shown view (Err at) = Err at
 abbrev pub port_of : Meaning → Option ℕ
 port_of (Once store rows) = None
 port_of (Session own peer stores hosts) = None
-port_of (Serve own port workers connections turns stores hosts) = Some port
+port_of (Serve own port workers connections turns stores hosts log) = Some port
 port_of (Check store) = None
 port_of (Dump store) = None
 port_of (Build name store flag) = None
@@ -51,7 +51,7 @@ port_of (Orders first others domain) = None
 
 -- how many connections a command accepts
 abbrev pub connections_of : Meaning → ℕ
-connections_of (Serve own port workers connections turns stores hosts) = connections
+connections_of (Serve own port workers connections turns stores hosts log) = connections
 connections_of _ = 0
 
 -- ---- names
@@ -73,7 +73,7 @@ AreMaps own stores =
 abbrev pub HasNames : Meaning → Type 0
 HasNames (Once store rows) = IsNamed store
 HasNames (Session own peer stores hosts) = AreMaps own stores
-HasNames (Serve own port workers connections turns stores hosts) =
+HasNames (Serve own port workers connections turns stores hosts log) =
     (1 ≤ workers) × (workers ≤ workers_max) × AreMaps own stores
 HasNames (Check store) = IsNamed store
 HasNames (Dump store) = IsNamed store

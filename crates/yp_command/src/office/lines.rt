@@ -3,10 +3,11 @@
 ghost use Rattle.std.specs.Prelude.{◌≡◌, ◌+◌, ◌≤◌, ◌++◌, codes, decimal, length};
 ghost use Rattle.arrayvec.specs.ArrayVec.{array_vec_len};
 ghost use Rattle.yp_board.specs.Catalogues.{name_view};
-ghost use Rattle.yp_command.specs.office.Lines.{map_text};
+ghost use Rattle.yp_command.specs.office.Lines.{map_text, peer_text};
 
 use arrayvec::ArrayVec;
 use yp_board::MapName;
+use yp_io::Peer;
 
 /// The most bytes of a line: the longest tells a map, three numbers and a master.
 pub const LINE_MAX: usize = 320;
@@ -43,4 +44,21 @@ pub fn add_map(line: &mut Line, map: &MapName)
     add(line, &map.domain);
     add(line, b"/");
     add(line, &map.map);
+}
+
+/// Adds an address: four numbers and a port.
+pub fn add_peer(line: &mut Line, peer: Peer)
+    requires { array_vec_len line.old + 104 ≤ LINE_MAX }
+    ensures text { line.new.items ≡ line.old.items ++ peer_text peer }
+    ensures len { array_vec_len line.new ≤ array_vec_len line.old + 104 }
+{
+    add_number(line, u64::from(peer.addr[0]));
+    add(line, b".");
+    add_number(line, u64::from(peer.addr[1]));
+    add(line, b".");
+    add_number(line, u64::from(peer.addr[2]));
+    add(line, b".");
+    add_number(line, u64::from(peer.addr[3]));
+    add(line, b":");
+    add_number(line, u64::from(peer.port));
 }

@@ -38,8 +38,8 @@ module _ {D : Type 0} (history : D → Option History) where
       undamaged disks front disk rest at rule tail (λ k d lt. all (suc k) d (omega (arith, lt))) damaged
 
 module _ {S K D C A I T : Type 0} (seen : Seeing S K D C A I T) (job : Job) (old new : Office S K D C A I T)
-    (door door' : ListenTells) where
-  pub completes : (status : Status) → ServesOrRefuses seen job status old new door door'
+    (door door' : ListenTells) (logged : List ℕ) where
+  pub completes : (status : Status) → ServesOrRefuses seen job status old new door door' logged
       → HasServeCauses seen status old new door door' → All (IsUndamaged seen.disk.history) (disks_of old.disks.items)
       → (HasRisen door.faults door'.faults → ⊥) → (InboxFails seen old new → ⊥) → (DiskFails seen old new → ⊥)
       → (WriteFails seen old new → ⊥) → (status ≡ Done) ⊎ (status ≡ NoMemory)

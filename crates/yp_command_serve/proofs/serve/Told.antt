@@ -1,5 +1,5 @@
 -- What was done, by what is told of it.
-use Rattle.std.proofs.Common.{◌≡◌, inl, inr, ⊎_elim, ℕ, List, length, map, Bool, true, false, Option, Some, Result, Ok, Err, refl, sym, ap, ◌∙◌, subst, arith}
+use Rattle.std.proofs.Common.{◌≡◌, inl, inr, ⊎_elim, ℕ, List, [], length, map, Bool, true, false, Option, Some, None, Result, Ok, Err, refl, sym, ap, ◌∙◌, subst, arith}
 use Rattle.std.specs.Prelude.{IfOk, IfErr, OnErr}
 use Rattle.std.specs.List.{AllZip}
 use Rattle.yp_io.specs.Counts.{HasRisen, capped}
@@ -28,7 +28,9 @@ use Rattle.yp_command_serve.specs.serve.Hosting.{ServeSetup, ServerTells, IsServ
 use Rattle.yp_command_serve.specs.inside.serve.Hosting.{IsUnhosted}
 use Rattle.yp_command_serve.specs.serve.Serve.{Job, setup, place, IsToAccept, ServesMaps, IsShut}
 use Rattle.yp_command_serve.specs.serve.Serve.{ServesOrRefuses, TellsServed, HasServeCauses, ServeDoes}
+use Rattle.yp_command_serve.specs.serve.Log.{IsLog}
 use Rattle.yp_command_serve.specs.inside.serve.Serve.{TellsServeEnd, IsWithin}
+use Rattle.yp_command_serve.specs.inside.serve.Log.{totals_told}
 use Rattle.yp_command_serve.proofs.serve.Completed.{completes}
 use Rattle.yp_command_serve.proofs.serve.Disks.{nothing_written, opened_written, stopped_written, stopped_risen, stopped_count}
 
@@ -44,17 +46,18 @@ all_came old now connections wanted failed kept ready fine =
     kept.accepts.connections_are ∙ ap (capped 0) count
 
 module _ {S K D C A I T : Type 0} (seen : Seeing S K D C A I T) (job : Job) (status : Status)
-    (old new : Office S K D C A I T) (door door' : ListenTells) where
+    (old new : Office S K D C A I T) (door door' : ListenTells) (logged : List ℕ) where
   -- what was served is told by its status
   pub served_told : (hosted : Hosted) → IsHosted seen.disk.history seen.disk.faults (setup seen job old) hosted
       (place seen old door) (place seen new door') (disks_of old.disks.items) (disks_of new.disks.items)
       → (hosted.inbox_fault ≡ true → InboxFails seen old new)
+      → IsLog job.log job.stores (Some hosted.totals) logged
       → TellsServed hosted status (output seen old) (output seen new)
-      → ServesOrRefuses seen job status old new door door'
-  served_told hosted is inbox tells = by_status status tells
+      → ServesOrRefuses seen job status old new door door' logged
+  served_told hosted is inbox log tells = by_status status tells
     where
       maps : (s : Status) → TellsServed hosted s (output seen old) (output seen new)
-          → ServesMaps seen job s old new door door'
+          → ServesMaps seen job s old new door door' logged
       maps s told = record {
         hosted = hosted;
         is_hosted = is;
@@ -62,10 +65,11 @@ module _ {S K D C A I T : Type 0} (seen : Seeing S K D C A I T) (job : Job) (sta
             hosted.tally.listen_fault is.served.connections ready fine;
         inbox = inbox;
         tells = told;
+        log = log;
       }
 
       by_status : (s : Status) → TellsServed hosted s (output seen old) (output seen new)
-          → ServesOrRefuses seen job s old new door door'
+          → ServesOrRefuses seen job s old new door door' logged
       by_status Done told = maps Done told
       by_status WriteFault told = maps WriteFault told
       by_status ListenFault told = maps ListenFault told
@@ -73,17 +77,17 @@ module _ {S K D C A I T : Type 0} (seen : Seeing S K D C A I T) (job : Job) (sta
       by_status s told = absurd told
 
   -- want of memory is told of disks that were stopped at, or were all loaded
-  pub memory_told : IsShut old new door door' → AllZip (IsUnwritten seen.disk.history seen.disk.faults)
+  pub memory_told : IsShut job old new door door' logged → AllZip (IsUnwritten seen.disk.history seen.disk.faults)
       (disks_of old.disks.items) (disks_of new.disks.items) → status ≡ NoMemory
-      → ServesOrRefuses seen job status old new door door'
+      → ServesOrRefuses seen job status old new door door' logged
   memory_told shut unwritten is =
-      subst (λ s. ServesOrRefuses seen job s old new door door') (sym is) (record { disks = unwritten; shut = shut })
+      subst (λ s. ServesOrRefuses seen job s old new door door' logged) (sym is) (record { disks = unwritten; shut = shut })
 
-  pub stopped_told : (number : ℕ) (why : SlotFault) → IsShut old new door door'
+  pub stopped_told : (number : ℕ) (why : SlotFault) → IsShut job old new door door' logged
       → OpeningStopped seen.disk.history seen.disk.faults (disks_of old.disks.items) (disks_of new.disks.items) number why
-      → TellsOf job.stores number why status → ServesOrRefuses seen job status old new door door'
+      → TellsOf job.stores number why status → ServesOrRefuses seen job status old new door door' logged
   stopped_told number why shut stopped (inl is) =
-      subst (λ s. ServesOrRefuses seen job s old new door door') (sym is) (record {
+      subst (λ s. ServesOrRefuses seen job s old new door door' logged) (sym is) (record {
         disks = stopped_written seen.disk.history seen.disk.faults (disks_of old.disks.items)
             (disks_of new.disks.items) number why stopped;
         shut = shut;
@@ -92,7 +96,7 @@ module _ {S K D C A I T : Type 0} (seen : Seeing S K D C A I T) (job : Job) (sta
     where
       by_fault : (w : SlotFault)
           → OpeningStopped seen.disk.history seen.disk.faults (disks_of old.disks.items) (disks_of new.disks.items) number w
-          → (s : Status) → Fails store w s → ServesOrRefuses seen job s old new door door'
+          → (s : Status) → Fails store w s → ServesOrRefuses seen job s old new door door' logged
       by_fault (fault.Damaged at rule) stopped (Damaged map at' rule') fails = record {
         number = number;
         named = found ∙ ap (λ (n : Name). Some n) (sym fails.0);
@@ -154,22 +158,24 @@ unfolding is_load
 no_inbox status is e = let no : is_load InboxFault ≡ true = subst (λ s. is_load s ≡ true) e is in absurd cc
 
 module _ {S K D C A I T : Type 0} (seen : Seeing S K D C A I T) (job : Job) (status : Status)
-    (old new : Office S K D C A I T) (door door' : ListenTells) where
+    (old new : Office S K D C A I T) (door door' : ListenTells) (logged : List ℕ) where
   -- what was served, or why nobody was, is told by its status
   pub end_told : (hosted : Result Hosted NotHosted)
       → IfOk hosted (λ h. IsHosted seen.disk.history seen.disk.faults (setup seen job old) h (place seen old door)
       (place seen new door') (disks_of old.disks.items) (disks_of new.disks.items))
       → IfErr hosted (λ why. IsUnhosted seen.disk.history seen.disk.faults why
       (disks_of old.disks.items) (disks_of new.disks.items))
-      → OnErr hosted (IsShut old new door door')
+      → OnErr hosted (IsShut job old new door door' logged)
       → IfOk hosted (λ h. h.inbox_fault ≡ true → InboxFails seen old new)
+      → IsLog job.log job.stores (totals_told hosted) logged
       → TellsServeEnd hosted job.stores status (output seen old) (output seen new)
-      → ServesOrRefuses seen job status old new door door'
-  end_told (Ok h) is un shut inbox tells = served_told seen job status old new door door' h is inbox tells
-  end_told (Err (unhosted.Unloaded number why)) is un shut inbox tells =
-      stopped_told seen job status old new door door' number why shut un tells
-  end_told (Err unhosted.NoMemory) is un shut inbox tells =
-      memory_told seen job status old new door door' shut un tells
+      → ServesOrRefuses seen job status old new door door' logged
+  end_told (Ok h) is un shut inbox log tells =
+      served_told seen job status old new door door' logged h is inbox log tells
+  end_told (Err (unhosted.Unloaded number why)) is un shut inbox log tells =
+      stopped_told seen job status old new door door' logged number why shut un tells
+  end_told (Err unhosted.NoMemory) is un shut inbox log tells =
+      memory_told seen job status old new door door' logged shut un tells
 
   -- a failed accept is told where the listener's count rose
   pub listen_risen : (hosted : Result Hosted NotHosted)
@@ -205,16 +211,21 @@ module _ {S K D C A I T : Type 0} (seen : Seeing S K D C A I T) (job : Job) (sta
   disk_risen (Ok h) map un tells e =
       absurd (subst (λ s. TellsServed h s (output seen old) (output seen new)) e tells)
   disk_risen (Err (unhosted.Unloaded number why)) map un tells e =
-      risen_of seen job status old new door door' number why map e un tells
+      risen_of seen job status old new door door' logged number why map e un tells
   disk_risen (Err unhosted.NoMemory) map un tells e = absurd (let no : NoMemory ≡ DiskFault map = sym tells ∙ e in cc)
+
+-- nothing was told
+nothing_logged : (log : Bool) (maps : List Name) → IsLog log maps None []
+nothing_logged false maps = refl
+nothing_logged true maps = ([], refl)
 
 -- nothing was done
 pub nothing_done : {S K D C A I T : Type 0} (seen : Seeing S K D C A I T) (job : Job)
-    (office : Office S K D C A I T) (door : ListenTells) → ServeDoes seen job NoMemory office office door door
+    (office : Office S K D C A I T) (door : ListenTells) → ServeDoes seen job NoMemory office office door door []
 nothing_done seen job office door = record {
   serves = record {
     disks = nothing_written seen.disk.history seen.disk.faults (disks_of office.disks.items);
-    shut = record { stays = refl; door_stays = refl };
+    shut = record { stays = refl; door_stays = refl; log = nothing_logged job.log job.stores };
   };
   complete = λ sound listen inbox disk write. inr refl;
   causes = record {
@@ -262,8 +273,9 @@ number_within history faults (Err (unhosted.Unloaded number why)) old new count 
     let within = (stopped_count history faults old new number why un).1 in omega (arith, within, e)
 
 -- where nobody was served, an office is as it was but for its disks
-pub shut_of : {S K D C A I T L : Type 0} (tells : L → ListenTells) (old new : Office S K D C A I T)
-    (resources back : ServerResources D A T C L I) (hosted : Result Hosted NotHosted)
+pub shut_of : {S K D C A I T L : Type 0} (tells : L → ListenTells) (job : Job) (old new : Office S K D C A I T)
+    (resources back : ServerResources D A T C L I) (logged : List ℕ) (hosted : Result Hosted NotHosted)
+    → IsLog job.log job.stores (totals_told hosted) logged
     → resources.desk.dial ≡ old.dial → resources.desk.texts ≡ old.texts → resources.desk.clock ≡ old.clock
     → resources.inbox ≡ old.inbox
     → new ≡ record {
@@ -275,9 +287,9 @@ pub shut_of : {S K D C A I T L : Type 0} (tells : L → ListenTells) (old new : 
       texts = back.desk.texts;
     }
     → OnErr hosted (back ≡ record resources { disks = back.disks }) → OnErr hosted (new.wire.sink ≡ old.wire.sink)
-    → OnErr hosted (IsShut old new (tells resources.listen) (tells back.listen))
-shut_of tells old new resources back (Ok h) a b c d form same sink = tt
-shut_of {S} {K} {D} {C} {A} {I} {T} {L} tells old new resources back (Err why) a b c d form same sink = record {
+    → OnErr hosted (IsShut job old new (tells resources.listen) (tells back.listen) logged)
+shut_of tells job old new resources back logged (Ok h) log a b c d form same sink = tt
+shut_of {S} {K} {D} {C} {A} {I} {T} {L} tells job old new resources back logged (Err why) log a b c d form same sink = record {
   stays = form
       ∙ ap (λ (s : ServerResources D A T C L I). record {
         wire = record old.wire { sink = new.wire.sink };
@@ -289,24 +301,27 @@ shut_of {S} {K} {D} {C} {A} {I} {T} {L} tells old new resources back (Err why) a
       }) same
       ∙ rw (a, b, c, d, sink) refl;
   door_stays = ap (λ (s : ServerResources D A T C L I). tells s.listen) same;
+  log = log;
 }
 
 -- all that was done, of what is told of it
 pub all_done : {S K D C A I T : Type 0} (seen : Seeing S K D C A I T) (job : Job) (status : Status)
-    (old new : Office S K D C A I T) (door door' : ListenTells) (hosted : Result Hosted NotHosted) (apart back : List D)
+    (old new : Office S K D C A I T) (door door' : ListenTells) (logged : List ℕ) (hosted : Result Hosted NotHosted)
+    (apart back : List D)
     → apart ≡ disks_of old.disks.items → back ≡ disks_of new.disks.items
     → IfOk hosted (λ h. IsHosted seen.disk.history seen.disk.faults (setup seen job old) h (place seen old door)
     (place seen new door') apart back)
     → IfErr hosted (λ why. IsUnhosted seen.disk.history seen.disk.faults why apart back)
-    → OnErr hosted (IsShut old new door door')
+    → OnErr hosted (IsShut job old new door door' logged)
+    → IsLog job.log job.stores (totals_told hosted) logged
     → TellsServeEnd hosted job.stores status (output seen old) (output seen new)
     → IfOk hosted (λ h. h.inbox_fault ≡ true → InboxFails seen old new)
     → (status ≡ WriteFault → WriteFails seen old new) → names_of new.disks.items ≡ names_of old.disks.items
     → moment seen new ≡ moment seen old
     → ((file : List ℕ) → seen.texts.text new.texts file ≡ seen.texts.text old.texts file)
-    → new.wire.source ≡ old.wire.source → ServeDoes seen job status old new door door'
-all_done {D = D} seen job status old new door door' hosted apart back a b is un shut tells inbox write names told texts
-    source =
+    → new.wire.source ≡ old.wire.source → ServeDoes seen job status old new door door' logged
+all_done {D = D} seen job status old new door door' logged hosted apart back a b is un shut log tells inbox write names
+    told texts source =
     let Is : List D → List D → Type 0 = λ l m. IfOk hosted (λ h. IsHosted seen.disk.history seen.disk.faults
     (setup seen job old) h (place seen old door) (place seen new door') l m) in
     let Un : List D → List D → Type 0 = λ l m. IfErr hosted (λ why. IsUnhosted seen.disk.history seen.disk.faults
@@ -315,16 +330,16 @@ all_done {D = D} seen job status old new door door' hosted apart back a b is un 
     let now = disks_of new.disks.items in
     let is' : Is was now = subst (λ (m : List D). Is was m) b (subst (λ (l : List D). Is l back) a is) in
     let un' : Un was now = subst (λ (m : List D). Un was m) b (subst (λ (l : List D). Un l back) a un) in
-    let serves = end_told seen job status old new door door' hosted is' un' shut inbox tells in
+    let serves = end_told seen job status old new door door' logged hosted is' un' shut inbox log tells in
     let causes : HasServeCauses seen status old new door door' = record {
-      listen_fault = λ e. listen_risen seen job status old new door door' hosted is' tells e;
-      inbox_fault = λ e. inbox_risen seen job status old new door door' hosted inbox tells e;
+      listen_fault = λ e. listen_risen seen job status old new door door' logged hosted is' tells e;
+      inbox_fault = λ e. inbox_risen seen job status old new door door' logged hosted inbox tells e;
       write_fault = write;
-      disk_fault = λ map e. disk_risen seen job status old new door door' hosted map un' tells e;
+      disk_fault = λ map e. disk_risen seen job status old new door door' logged hosted map un' tells e;
     } in
     record {
       serves = serves;
-      complete = λ sound listen inbox disk write'. completes seen job old new door door' status serves causes sound
+      complete = λ sound listen inbox disk write'. completes seen job old new door door' logged status serves causes sound
           listen inbox disk write';
       causes = causes;
       names = names;

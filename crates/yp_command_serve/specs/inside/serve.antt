@@ -1,2 +1,3 @@
 pub mod Hosting
+pub mod Log
 pub mod Serve

@@ -1,5 +1,5 @@
 -- What `serve` does: it serves stored maps to many callers at once.
-use Rattle.std.specs.Prelude.{◌≡◌, ◌⊎◌, ℕ, Bool, true, false, List, All, ◌++◌, map, Option, Some}
+use Rattle.std.specs.Prelude.{◌≡◌, ◌⊎◌, ℕ, Bool, true, false, List, All, ◌++◌, map, Option, Some, None}
 use Rattle.std.specs.Prelude.{slice_get, codes, decimal}
 use Rattle.std.specs.List.{AllZip}
 use Rattle.std.specs.Io.KnownBytes.{Appends}
@@ -27,21 +27,23 @@ use Rattle.yp_command.specs.office.Seeing.{Seeing, output, moment, WriteFails, D
 use Rattle.yp_command_serve.specs.declared.serve.tally.Hosted.{Hosted}
 use Rattle.yp_command_serve.specs.serve.Hosting.{ServeSetup, ServerTells, Supply, setup_of, server_tells, supply_of}
 use Rattle.yp_command_serve.specs.serve.Hosting.{IsHosted}
+use Rattle.yp_command_serve.specs.serve.Log.{IsLog}
 
 -- ---- what is asked for
 
--- the own name, how many connections are to be accepted, how many turns there are at the datagrams, the maps, and the
--- hosts that are known
+-- the own name, how many connections are to be accepted, how many turns there are at the datagrams, the maps, the hosts
+-- that are known, and whether it tells what it does
 pub record Job : Type 0 where
   pub own : List ℕ
   pub connections : ℕ
   pub turns : ℕ
   pub stores : List Name
   pub hosts : HostList
+  pub log : Bool
 
-abbrev pub serve_job_of : List ℕ → (connections turns : ℕ) → List Name → HostList → Job
-serve_job_of own connections turns stores hosts =
-    record { own = own; connections = connections; turns = turns; stores = stores; hosts = hosts }
+abbrev pub serve_job_of : List ℕ → (connections turns : ℕ) → List Name → HostList → (log : Bool) → Job
+serve_job_of own connections turns stores hosts log =
+    record { own = own; connections = connections; turns = turns; stores = stores; hosts = hosts; log = log }
 
 abbrev pub catalogue_of : Job → Catalogue
 catalogue_of job = record { own = job.own; maps = job.stores }
@@ -93,9 +95,10 @@ pub record IsToAccept (connections : ℕ) (door : ListenTells) : Type 0 where
 
 -- The maps were served, and that is told. Where the listener was to accept as many connections as were asked for, and
 -- hasn't failed, so many came. Where the inbox failed before all its turns were taken, its count rose, whatever
--- is told. What the listener, the inbox and the status tell fixes what came of it, but for the totals.
+-- is told. What the listener, the inbox and the status tell fixes what came of it, but for the totals. The last line of
+-- a log tells these.
 pub record ServesMaps {S K D C A I T : Type 0} (seen : Seeing S K D C A I T) (job : Job) (status : Status)
-    (old new : Office S K D C A I T) (door door' : ListenTells) : Type 0 where
+    (old new : Office S K D C A I T) (door door' : ListenTells) (logged : List ℕ) : Type 0 where
   pub hosted : Hosted
   pub is_hosted : IsHosted seen.disk.history seen.disk.faults (setup seen job old) hosted
       (place seen old door) (place seen new door') (disks_of old.disks.items) (disks_of new.disks.items)
@@ -103,36 +106,40 @@ pub record ServesMaps {S K D C A I T : Type 0} (seen : Seeing S K D C A I T) (jo
       → hosted.tally.connections ≡ capped 0 job.connections
   pub inbox : hosted.inbox_fault ≡ true → InboxFails seen old new
   pub tells : TellsServed hosted status (output seen old) (output seen new)
+  pub log : IsLog job.log job.stores (Some hosted.totals) logged
 
--- Nothing was accepted, received or told: of the office the disks alone were touched.
-pub record IsShut {S K D C A I T : Type 0} (old new : Office S K D C A I T) (door door' : ListenTells) : Type 0 where
+-- Nothing was accepted, received or told: of the office the disks alone were touched. A log has no line of totals.
+pub record IsShut {S K D C A I T : Type 0} (job : Job) (old new : Office S K D C A I T) (door door' : ListenTells)
+    (logged : List ℕ) : Type 0 where
   pub stays : new ≡ record old { disks = new.disks }
   pub door_stays : door' ≡ door
+  pub log : IsLog job.log job.stores None logged
 
 -- The file of a map of this name wasn't loaded, the first one, and nothing was served.
 pub record IsUnloaded {S K D C A I T : Type 0} (seen : Seeing S K D C A I T) (job : Job) (map : MapName)
-    (why : SlotFault) (old new : Office S K D C A I T) (door door' : ListenTells) : Type 0 where
+    (why : SlotFault) (old new : Office S K D C A I T) (door door' : ListenTells) (logged : List ℕ) : Type 0 where
   pub number : ℕ
   pub named : slice_get job.stores number ≡ Some (name_view map)
   pub stopped : OpeningStopped seen.disk.history seen.disk.faults (disks_of old.disks.items) (disks_of new.disks.items)
       number why
-  pub shut : IsShut old new door door'
+  pub shut : IsShut job old new door door' logged
 
 -- Memory ran out, and nothing was served: nothing was written to a disk.
-pub record IsUnserved {S K D C A I T : Type 0} (seen : Seeing S K D C A I T) (old new : Office S K D C A I T)
-    (door door' : ListenTells) : Type 0 where
+pub record IsUnserved {S K D C A I T : Type 0} (seen : Seeing S K D C A I T) (job : Job)
+    (old new : Office S K D C A I T) (door door' : ListenTells) (logged : List ℕ) : Type 0 where
   pub disks : AllZip (IsUnwritten seen.disk.history seen.disk.faults)
       (disks_of old.disks.items) (disks_of new.disks.items)
-  pub shut : IsShut old new door door'
+  pub shut : IsShut job old new door door' logged
 
 -- What is done, for each status.
 abbrev pub ServesOrRefuses : {S K D C A I T : Type 0} → Seeing S K D C A I T → Job → Status
-    → (old new : Office S K D C A I T) → (door door' : ListenTells) → Type 0
-ServesOrRefuses seen job (Damaged map at rule) old new door door' =
-    IsUnloaded seen job map (fault.Damaged at rule) old new door door'
-ServesOrRefuses seen job (DiskFault map) old new door door' = IsUnloaded seen job map fault.DiskFault old new door door'
-ServesOrRefuses seen job NoMemory old new door door' = IsUnserved seen old new door door'
-ServesOrRefuses seen job status old new door door' = ServesMaps seen job status old new door door'
+    → (old new : Office S K D C A I T) → (door door' : ListenTells) → (logged : List ℕ) → Type 0
+ServesOrRefuses seen job (Damaged map at rule) old new door door' logged =
+    IsUnloaded seen job map (fault.Damaged at rule) old new door door' logged
+ServesOrRefuses seen job (DiskFault map) old new door door' logged =
+    IsUnloaded seen job map fault.DiskFault old new door door' logged
+ServesOrRefuses seen job NoMemory old new door door' logged = IsUnserved seen job old new door door' logged
+ServesOrRefuses seen job status old new door door' logged = ServesMaps seen job status old new door door' logged
 
 -- the statuses with which `serve` may end
 abbrev pub serve_may_end : Status → Bool
@@ -159,12 +166,12 @@ pub record HasServeCauses {S K D C A I T : Type 0} (seen : Seeing S K D C A I T)
   pub write_fault : status ≡ WriteFault → WriteFails seen old new
   pub disk_fault : (map : MapName) → status ≡ DiskFault map → DiskFails seen old new
 
--- What `serve` does to an office and to what a listener tells: the stored maps are served to all who call, by
--- connections and by datagrams, and what was served is told; or the first reason why not is, and then nobody was
--- served. Over files that aren't damaged, with no fault, all is done, unless memory ran out.
+-- What `serve` does to an office and to what a listener tells, and what it logs: the stored maps are served to all who
+-- call, by connections and by datagrams, and what was served is told; or the first reason why not is, and then nobody
+-- was served. Over files that aren't damaged, with no fault, all is done, unless memory ran out.
 pub record ServeDoes {S K D C A I T : Type 0} (seen : Seeing S K D C A I T) (job : Job) (status : Status)
-    (old new : Office S K D C A I T) (door door' : ListenTells) : Type 0 where
-  pub serves : ServesOrRefuses seen job status old new door door'
+    (old new : Office S K D C A I T) (door door' : ListenTells) (logged : List ℕ) : Type 0 where
+  pub serves : ServesOrRefuses seen job status old new door door' logged
   pub complete : All (IsUndamaged seen.disk.history) (disks_of old.disks.items) → ¬ HasRisen door.faults door'.faults
       → ¬ InboxFails seen old new → ¬ DiskFails seen old new → ¬ WriteFails seen old new
       → (status ≡ Done) ⊎ (status ≡ NoMemory)

@@ -22,11 +22,12 @@ use crate::serve::tally::Hosted;
 use std::alloc::Global;
 use std::marker::Brand;
 use std::random::RandomSource;
-use std::sync::{Arc, Wait};
+use std::sync::{Arc, Mutex, Wait};
 use std::thread::Threads;
 use yp_board::readers::{Naming, Opened, board};
 use yp_board::{Catalog, Show};
 use yp_host::Desk;
+use yp_host::workers::Journal;
 use yp_io::{Clock, Dial, Disk, Hall, Inbox, NoMemory, Texts};
 use yp_map_file::SlotFault;
 use yp_publisher::laws::{beginning_is_start, starts_are_shown};
@@ -123,13 +124,15 @@ fn unshared<M: ClockMoment, A, T, C: Clock>(desk: Desk<A, T, SharedClock<M, C>>)
 }
 
 /// Serves maps over these resources, by workers in threads and a worker of datagrams, until all connections were served
-/// and all turns taken. Where a file isn't loaded, or memory runs out, nobody is served.
+/// and all turns taken. Where a file isn't loaded, or memory runs out, nobody is served. Where there is a journal, the
+/// workers tell it what they do.
 pub(crate) fn host<D, A, T, C, L, I, R>(
     alloc: Global,
     rt: &R,
     catalog: Catalog,
     spec: &ServeSpec,
     resources: ServerResources<D, A, T, C, L, I>,
+    journal: Option<&Mutex<Journal>>,
 ) -> (Result<Hosted, NotHosted>, ServerResources<D, A, T, C, L, I>)
 where
     D: Disk + Send + Drop,
@@ -173,7 +176,9 @@ where
     // A catalogue has at most 64 maps.
     prove!(disks.len() <= catalog.len() as usize);
     match load_all(alloc, rt, disks) {
-        Ok(loaded) => host_loaded(alloc, rt, catalog, spec, loaded, desk, listen, inbox),
+        Ok(loaded) => host_loaded(
+            alloc, rt, catalog, spec, loaded, desk, listen, inbox, journal,
+        ),
         Err(StartRefused { disks, map, fault }) => {
             let resources = ServerResources {
                 disks,
@@ -196,6 +201,7 @@ fn host_loaded<D, A, T, C, L, I, R>(
     desk: Desk<A, T, C>,
     listen: L,
     inbox: I,
+    journal: Option<&Mutex<Journal>>,
 ) -> (Result<Hosted, NotHosted>, ServerResources<D, A, T, C, L, I>)
 where
     D: Disk + Send + Drop,
@@ -243,7 +249,7 @@ where
     };
     let opened = Opened::new();
     host_shown::<Brand, Brand, D, A, T, C, L, I, R>(
-        alloc, rt, opened, copy, start, catalog, spec, loaded, desk, listen, inbox,
+        alloc, rt, opened, copy, start, catalog, spec, loaded, desk, listen, inbox, journal,
     )
 }
 
@@ -260,6 +266,7 @@ fn host_shown<J, M, D, A, T, C, L, I, R>(
     desk: Desk<A, T, C>,
     listen: L,
     inbox: I,
+    journal: Option<&Mutex<Journal>>,
 ) -> (Result<Hosted, NotHosted>, ServerResources<D, A, T, C, L, I>)
 where
     J: Naming + Send + Sync,
@@ -315,7 +322,7 @@ where
     let publisher = publisher_of(loaded, catalog, writer);
     let desk = shared::<M, A, T, C>(desk);
     match serve(
-        alloc, rt, publisher, readers, desk, listen, inbox, spec, &OpenGate,
+        alloc, rt, publisher, readers, desk, listen, inbox, spec, journal, &OpenGate,
     ) {
         Ok(served) => {
             let hosted = Hosted {

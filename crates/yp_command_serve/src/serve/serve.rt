@@ -1,6 +1,7 @@
 //! The command `serve`: stored maps for many callers at once.
 
-ghost use Rattle.std.specs.Prelude.{◌≡◌, ◌≢◌, ℕ, ◌≤◌, ◌<◌, None, IsTrue, All, map, length, IfErr, OnErr};
+ghost use Rattle.std.specs.Prelude.{◌≡◌, ◌≢◌, ℕ, ◌≤◌, ◌<◌, List, None, IsTrue, All, map, length, IfErr, OnErr};
+ghost use Rattle.std.specs.Io.KnownBytes.{Appends};
 ghost use Rattle.yp_io.specs.Counts.{HasRisen};
 ghost use Rattle.yp_board.specs.Catalogues.{name_view, maps_max};
 ghost use Rattle.yp_board.specs.inside.Catalogues.{catalog_fault};
@@ -15,12 +16,14 @@ ghost use Rattle.yp_command_serve.specs.inside.serve.Serve.{serve_job_view};
 ghost use Rattle.yp_command_serve.specs.inside.serve.Serve.{TellsServeEnd};
 ghost use Rattle.yp_command_serve.specs.inside.serve.Serve.{IsWithin};
 
-use crate::serve::resources::{NotHosted, ServerResources, host};
+use crate::serve::resources::{NotHosted, ServerResources};
 use crate::serve::tally::{Hosted, tell_served};
+use crate::serve::telling::host_told;
 use std::alloc::Global;
 use std::random::RandomSource;
 use std::sync::Wait;
 use std::thread::Threads;
+use std::time;
 use yp_answer::session::CALLS_MAX;
 use yp_board::{Catalog, CatalogFault, MapName};
 use yp_command::ServeJob;
@@ -56,15 +59,17 @@ fn tell_end<K: Sink>(
 }
 
 /// Serves the maps of a catalogue from the disks of an office, and tells what was served.
-fn serve_catalog<S, K, D, C, A, I, T, L, R>(
+fn serve_catalog<S, K, D, C, A, I, T, L, N, R>(
     alloc: Global,
     rt: &R,
     catalog: Catalog,
     spec: &ServeSpec,
     hosts: Hosts,
+    log: bool,
     office: Office<S, K, D, C, A, I, T>,
     listen: L,
-) -> (Status, Office<S, K, D, C, A, I, T>, L)
+    notes: N,
+) -> (Status, Office<S, K, D, C, A, I, T>, L, N)
 where
     S: Source,
     K: Sink,
@@ -80,14 +85,19 @@ where
     L::Out: Send,
     L::Closer: Send,
     L::Watch: Send,
-    R: Threads + Wait + RandomSource + Sync,
+    N: Sink + Send + Drop,
+    R: Threads + Wait + RandomSource + time::Clock + Sync,
     requires named { All IsNamed catalog.maps }
     requires disks { names_of office.disks.items ≡ catalog.maps }
     requires workers { (1 ≤ spec.now.workers) × (spec.now.workers ≤ workers_max) }
     requires most { spec.now.most ≡ CALLS_MAX }
-    ensures does { (connections : ℕ) → ServeDoes (seeing S.Source K.Sink D.Disk C.Clock A.Dial I.Inbox T.Texts)
-        (serve_job_of catalog.own connections spec.now.turns catalog.maps hosts) result.0 office result.1
-        (opening_by L.Hall listen) (opening_by L.Hall result.2) }
+    ensures does { (logged : List ℕ)
+        × ((connections : ℕ) → ServeDoes (seeing S.Source K.Sink D.Disk C.Clock A.Dial I.Inbox T.Texts)
+        (serve_job_of catalog.own connections spec.now.turns catalog.maps hosts log) result.0 office result.1
+        (opening_by L.Hall listen) (opening_by L.Hall result.2) logged)
+        × (¬ HasRisen (N.faults notes) (N.faults result.3)
+        → Appends (N.output notes) (N.output result.3) logged) }
+    ensures never_falls { N.faults notes ≤ N.faults result.3 }
     ensures may_end { IsTrue (serve_may_end result.0) }
     ensures passed_on { IsPassedOn (seeing S.Source K.Sink D.Disk C.Clock A.Dial I.Inbox T.Texts)
         result.0 office result.1 }
@@ -96,7 +106,7 @@ where
     let mut office = office;
     let Apart { names, disks } = match take_apart(alloc, &mut office.disks) {
         Ok(apart) => apart,
-        Err(NoMemory) => return (Status::NoMemory, office, listen),
+        Err(NoMemory) => return (Status::NoMemory, office, listen, notes),
     };
     let Office {
         mut wire,
@@ -118,7 +128,9 @@ where
         listen,
         inbox,
     };
-    let (hosted, resources) = host(alloc, rt, catalog, spec, resources);
+    let (hosted, resources, notes) = host_told(
+        alloc, rt, catalog, spec, resources, log, &names, notes,
+    );
     let status = tell_end(alloc, &mut wire.sink, hosted, &names);
     let ServerResources {
         disks,
@@ -141,18 +153,20 @@ where
         inbox,
         texts,
     };
-    (status, office, listen)
+    (status, office, listen, notes)
 }
 
 /// Serves stored maps to all who call, and tells how many connections came and how many of their records were read.
-/// Where the file of a map can't be loaded, or memory runs out, nobody is served.
-pub fn serve_maps<S, K, D, C, A, I, T, L, R>(
+/// Where the file of a map can't be loaded, or memory runs out, nobody is served. Where the job says so, the notes are
+/// told what is done, each second at most ten lines, and at the end what was counted.
+pub fn serve_maps<S, K, D, C, A, I, T, L, N, R>(
     alloc: Global,
     rt: &R,
     job: ServeJob,
     office: Office<S, K, D, C, A, I, T>,
     listen: L,
-) -> (Status, Office<S, K, D, C, A, I, T>, L)
+    notes: N,
+) -> (Status, Office<S, K, D, C, A, I, T>, L, N)
 where
     S: Source,
     K: Sink,
@@ -168,13 +182,17 @@ where
     L::Out: Send,
     L::Closer: Send,
     L::Watch: Send,
-    R: Threads + Wait + RandomSource + Sync,
+    N: Sink + Send + Drop,
+    R: Threads + Wait + RandomSource + time::Clock + Sync,
     requires catalogue { catalog_fault job.name.items (map name_view job.stores.items) ≡ None }
     requires named { All IsNamed (map name_view job.stores.items) }
     requires disks { names_of office.disks.items ≡ map name_view job.stores.items }
     requires workers { (1 ≤ job.workers) × (job.workers ≤ workers_max) }
-    ensures does { ServeDoes (seeing S.Source K.Sink D.Disk C.Clock A.Dial I.Inbox T.Texts)
-        (serve_job_view job) result.0 office result.1 (opening_by L.Hall listen) (opening_by L.Hall result.2) }
+    ensures does { (logged : List ℕ) × ServeDoes (seeing S.Source K.Sink D.Disk C.Clock A.Dial I.Inbox T.Texts)
+        (serve_job_view job) result.0 office result.1 (opening_by L.Hall listen) (opening_by L.Hall result.2) logged
+        × (¬ HasRisen (N.faults notes) (N.faults result.3)
+        → Appends (N.output notes) (N.output result.3) logged) }
+    ensures never_falls { N.faults notes ≤ N.faults result.3 }
     ensures may_end { IsTrue (serve_may_end result.0) }
     ensures passed_on { IsPassedOn (seeing S.Source K.Sink D.Disk C.Clock A.Dial I.Inbox T.Texts)
         result.0 office result.1 }
@@ -188,13 +206,14 @@ where
         turns,
         stores,
         hosts,
+        log,
     } = job;
     let Ok(hosts) = table_of(alloc, hosts) else {
-        return (Status::NoMemory, office, listen);
+        return (Status::NoMemory, office, listen, notes);
     };
     let catalog = match Catalog::new(alloc, name, stores) {
         Ok(catalog) => catalog,
-        Err(CatalogFault::NoMemory) => return (Status::NoMemory, office, listen),
+        Err(CatalogFault::NoMemory) => return (Status::NoMemory, office, listen, notes),
         Err(_) => unreachable!(),
     };
     let spec = ServeSpec {
@@ -202,5 +221,5 @@ where
         most: CALLS_MAX,
         turns,
     };
-    serve_catalog(alloc, rt, catalog, &spec, hosts, office, listen)
+    serve_catalog(alloc, rt, catalog, &spec, hosts, log, office, listen, notes)
 }

@@ -6,6 +6,7 @@ use std::process::Abort;
 use std::random::RandomSource;
 use std::sync::Wait;
 use std::thread::Threads;
+use std::time::Clock;
 use yp_stage::{After, DiskCalls, FAIR, Row, Stands, strings_of, try_made};
 
 const SECURE: &[&str] = &["load", "m1", "lab/auto.home", "secure"];
@@ -214,7 +215,11 @@ fn long_text<R: Abort>(rt: &R, alloc: Global, front: &str, len: usize, back: &st
     format!(in alloc; "{front}{middle}{back}").expect(rt, "memory")
 }
 
-fn try_long<R: Threads + Wait + RandomSource + Abort + Sync>(rt: &R, alloc: Global, long: &Long) {
+fn try_long<R: Threads + Wait + RandomSource + Clock + Abort + Sync>(
+    rt: &R,
+    alloc: Global,
+    long: &Long,
+) {
     let (row, front, len, back) = long;
     let text = long_text(rt, alloc, *front, *len, *back);
     let words = strings_of(alloc, row.words).expect(rt, "memory");

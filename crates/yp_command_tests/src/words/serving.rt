@@ -18,6 +18,22 @@ static WRONG_NUMBERS: [Wrong; 9] = [
     (&["serve", "m1", "7001", "1", "0", "00", "lab/a"], 5),
 ];
 
+/// The same of `log`, which is the last word, once.
+static WRONG_LOGS: [Wrong; 4] = [
+    (&["serve", "m1", "7001", "1", "0", "log"], 5),
+    (&["serve", "m1", "7001", "1", "0", "0", "log"], 6),
+    (
+        &[
+            "serve", "m1", "7001", "1", "0", "0", "lab/a", "log", "lab/b",
+        ],
+        7,
+    ),
+    (
+        &["serve", "m1", "7001", "1", "0", "0", "lab/a", "log", "log"],
+        7,
+    ),
+];
+
 /// The same of the maps and hosts behind them.
 static WRONG_MAPS: [Wrong; 5] = [
     (&["serve", "m1", "7001", "1", "0"], 5),
@@ -45,17 +61,24 @@ fn wrong_serving_numbers(rt: HostRuntime) {
 }
 
 #[test]
+fn wrong_logs(rt: HostRuntime) {
+    check_wrong(&rt, rt.alloc(), &WRONG_LOGS);
+}
+
+#[test]
 fn wrong_served_maps(rt: HostRuntime) {
     check_wrong(&rt, rt.alloc(), &WRONG_MAPS);
 }
 
-/// The own name, the port, how many workers, connections and turns there are, two maps and a host.
+/// The own name, the port, how many workers, connections and turns there are, two maps, a host, and whether it tells
+/// what it does.
 type Serving<'a> = (
     &'a [u8],
     Option<u16>,
     (u32, u64, u64),
     [Names<'a>; 2],
     (&'a [u8], Peer),
+    bool,
 );
 
 fn served<'a>(port: Option<u16>, job: &'a ServeJob) -> Option<Serving<'a>> {
@@ -66,6 +89,7 @@ fn served<'a>(port: Option<u16>, job: &'a ServeJob) -> Option<Serving<'a>> {
             (job.workers, job.connections, job.turns),
             [names_of(first), names_of(second)],
             host_of(host),
+            job.log,
         )),
         _ => None,
     }
@@ -90,6 +114,19 @@ static WORDS: [&str; 9] = [
     "dom/a",
 ];
 
+static LOGGING: [&str; 10] = [
+    "serve",
+    "m1",
+    "7001",
+    "8",
+    "4294967295",
+    "0",
+    "lab/a",
+    "m2@127.0.0.1:7001",
+    "dom/a",
+    "log",
+];
+
 const HOST: Peer = Peer {
     addr: [127, 0, 0, 1],
     port: 7_001,
@@ -98,14 +135,19 @@ const HOST: Peer = Peer {
 #[test]
 fn serve_parsed(rt: HostRuntime) {
     let command = parsed(&rt, rt.alloc(), &WORDS);
-    let wanted: Serving = (
-        b"m1",
-        Some(7_001),
-        (8, 4_294_967_295, 18_446_744_073_709_551_615),
-        [(b"lab", b"a"), (b"dom", b"a")],
-        (b"m2", HOST),
-    );
-    assert_same(&rt, &serving(&command), &Some(wanted), "serve");
+    let logging = parsed(&rt, rt.alloc(), &LOGGING);
+    let wanted = |log: bool| -> Serving {
+        (
+            b"m1",
+            Some(7_001),
+            (8, 4_294_967_295, 18_446_744_073_709_551_615),
+            [(b"lab", b"a"), (b"dom", b"a")],
+            (b"m2", HOST),
+            log,
+        )
+    };
+    assert_same(&rt, &serving(&command), &Some(wanted(false)), "serve");
+    assert_same(&rt, &serving(&logging), &Some(wanted(true)), "log");
 }
 
 #[test]

@@ -4,3 +4,6 @@ pub mod Makings
 pub mod Charges
 pub mod Wires
 pub mod Uses
+pub mod Journal
+pub mod Events
+pub mod Statuses

@@ -6,6 +6,7 @@ ghost use Rattle.yp_publisher.specs.sharing.Shares.{Learns};
 ghost use Rattle.yp_host.specs.workers.Workers.{IsCarriedTo, IsInstalledTo};
 ghost use Rattle.yp_host.specs.inside.workers.Charges.{ChargesMore, cost_of_install, cost_of_transfer};
 ghost use Rattle.yp_host.specs.inside.workers.Charges.{files_at, orders_at, sources_at};
+ghost use Rattle.yp_host.specs.inside.workers.Statuses.{HasStatus, IsInstalledAs};
 ghost use Rattle.yp_host.specs.inside.workers.Wires.{orders_in, sources_in, IsAgedBy};
 
 use crate::workers::charges::Charges;
@@ -24,8 +25,8 @@ use yp_transfer::{Asker, XfrFault};
 use yp_version::Version;
 
 /// Fetches the map of a transfer job and installs it, and tells the caller at `peer` what came of it, where it wants to
-/// be told. The desk's lock is held while it is fetched, and again while the caller is told, which may wait for its
-/// port mapper; no look-up takes that lock.
+/// be told: what that came to, and its status. The desk's lock is held while it is fetched, and again while the caller
+/// is told, which may wait for its port mapper; no look-up takes that lock.
 pub(crate) fn carry_out<S, D, B, A, T, C, R>(
     alloc: Global,
     rt: &R,
@@ -35,7 +36,7 @@ pub(crate) fn carry_out<S, D, B, A, T, C, R>(
     charges: &mut Charges<S>,
     job: &TransferJob<'_>,
     peer: Peer,
-) -> Group
+) -> (Group, XfrStat)
 where
     S: Site + Accounts + Supplies,
     D: Disk,
@@ -47,10 +48,12 @@ where
     requires map { job.now.map < length S.catalogue.maps }
     requires named { 0 < length job.now.source.now }
     requires catalogue { (B.Reader.seen reader.old).catalogue ≡ S.catalogue }
-    ensures outcome { IsCarriedTo S.catalogue.own S.hosts (taken_view job.now) result
+    ensures outcome { IsCarriedTo S.catalogue.own S.hosts (taken_view job.now) result.0
+        (B.Reader.seen reader.old).known (B.Reader.seen reader.new).known }
+    ensures status { HasStatus S.catalogue S.hosts (taken_view job.now) result.1
         (B.Reader.seen reader.old).known (B.Reader.seen reader.new).known }
     ensures learned { Learns (B.Reader.seen reader.old) (B.Reader.seen reader.new) }
-    ensures charged { ChargesMore (cost_of_transfer result) charges.old charges.new }
+    ensures charged { ChargesMore (cost_of_transfer result.0) charges.old charges.new }
 {
     let (group, stat) = fetch_and_install(alloc, rt, publisher, desk, reader, charges, job);
     let addr = peer.addr;
@@ -61,7 +64,7 @@ where
         transid: job.transid,
     };
     desk.lock(rt).tell_back(&asker, stat);
-    group
+    (group, stat)
 }
 
 /// Fetches the map of a transfer job and installs it: what that came to, and the status that the caller is told.
@@ -87,6 +90,8 @@ where
     requires catalogue { (B.Reader.seen reader.old).catalogue ≡ S.catalogue }
     ensures outcome { IsCarriedTo S.catalogue.own S.hosts (taken_view job.now) result.0
         (B.Reader.seen reader.old).known (B.Reader.seen reader.new).known }
+    ensures status { HasStatus S.catalogue S.hosts (taken_view job.now) result.1
+        (B.Reader.seen reader.old).known (B.Reader.seen reader.new).known }
     ensures learned { Learns (B.Reader.seen reader.old) (B.Reader.seen reader.new) }
     ensures charged { ChargesMore (cost_of_transfer result.0) charges.old charges.new }
 {
@@ -105,7 +110,7 @@ where
 }
 
 /// The order of the version that is held.
-fn order_of(held: Option<&Version>) -> Option<u32>
+pub(crate) fn order_of(held: Option<&Version>) -> Option<u32>
     ensures { result ≡ option_map (λ version. version.order) (option_map (λ version. version.now) held.entry) }
 {
     Some(held?.order())
@@ -145,6 +150,8 @@ where
     requires map { map < length S.catalogue.maps }
     requires fetched { 0 < charges.old.versions }
     ensures outcome { IsInstalledTo S.catalogue.own map result.0
+        (B.Reader.seen reader.old).known (B.Reader.seen reader.new).known }
+    ensures status { IsInstalledAs S.catalogue.own map version result.1
         (B.Reader.seen reader.old).known (B.Reader.seen reader.new).known }
     ensures learned { Learns (B.Reader.seen reader.old) (B.Reader.seen reader.new) }
     ensures charged { ChargesMore (cost_of_install result.0) charges.old charges.new }

@@ -1,13 +1,16 @@
 //! A desk that threads share, under one lock.
 
 ghost use Rattle.std.specs.Prelude.{◌≡◌, ℕ, ◌+◌, ◌<◌, ◌≤◌, ◌↔◌, None, length, option_map, IfSome, IfOk, IfErr};
-ghost use Rattle.std.specs.Prelude.{IsNone};
+ghost use Rattle.std.specs.Prelude.{IsNone, false};
 ghost use Rattle.std.specs.Option.{option_map_or};
 ghost use Rattle.yp_texts.specs.After.{HasLaterOrder};
 ghost use Rattle.yp_answer.specs.Causes.{IsAnew, task_of};
+ghost use Rattle.yp_io.specs.Dials.{wires_told};
 ghost use Rattle.yp_transfer.specs.inside.Dials.{dial_by};
 ghost use Rattle.yp_messages.specs.Numbers.{name_max};
 ghost use Rattle.yp_transfer.specs.CallBack.{wants_call, CallsBack};
+ghost use Rattle.yp_transfer.specs.Dialing.{FetchesFrom};
+ghost use Rattle.yp_transfer.specs.Fetching.{wanted_of};
 ghost use Rattle.yp_transfer.specs.HostTable.{find};
 ghost use Rattle.yp_host.specs.Locals.{IsUsed, LeavesDial};
 ghost use Rattle.yp_host.specs.inside.Locals.{telling_by};
@@ -265,6 +268,9 @@ impl<S: Site + Accounts + Supplies, A: Dial, T: Texts, C: Clock> SharedDesk<S, A
         requires domain { (0 < length name.now.domain.items) × (length name.now.domain.items ≤ name_max) }
         requires map { (0 < length name.now.map.items) × (length name.now.map.items ≤ name_max) }
         ensures none { IsNone result ↔ (find source.now S.hosts ≡ None) }
+        ensures fetches { IfSome result (λ outcome. FetchesFrom S.hosts source.now
+            (wanted_of (name_view name.now).0 (name_view name.now).1 shown false) outcome
+            (wires_told (dial_by A.Dial self.old.dial)) (wires_told (dial_by A.Dial self.new.dial))) }
         ensures aged { IfSome result (IsAgedBy shown) }
         ensures charged { charges.new ≡ record charges.old {
           orders = charges.old.orders + option_map_or orders_in result 0;

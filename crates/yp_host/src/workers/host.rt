@@ -1,16 +1,19 @@
 //! The host of a worker.
 
-ghost use Rattle.std.specs.Prelude.{◌≡◌, OnErr};
+ghost use Rattle.std.specs.Prelude.{◌≡◌, ◌<◌, length, option_map, OnErr};
 ghost use Rattle.std.proofs.Common.{ap};
+ghost use Rattle.yp_board.specs.Logs.{shown};
 ghost use Rattle.yp_publisher.specs.sharing.Shares.{Learns};
 ghost use Rattle.yp_host.specs.workers.Desks.{texts_alone};
+ghost use Rattle.yp_host.specs.inside.workers.Events.{made_event, fetched_event, replied_event};
 ghost use Rattle.yp_host.specs.inside.workers.Makings.{SiteBuilds};
 ghost use Rattle.yp_host.specs.workers.Workers.{counts_of, Stepped, WorkerMakesMap, WorkerTransfersMap};
 ghost use Rattle.yp_host.specs.workers.Charges.{no_totals, totals_of, totals_plus};
 
-use crate::workers::carrying::carry_out;
+use crate::workers::carrying::{carry_out, order_of};
 use crate::workers::charges::{Account, Charges};
 use crate::workers::desk::{SharedDesk, Supplies};
+use crate::workers::journal::{Event, Journal};
 use crate::workers::making::make_shared;
 use crate::workers::outcome::{Outcomes, Totals, files_after, made_after};
 use std::alloc::Global;
@@ -18,7 +21,7 @@ use std::marker::Model;
 use std::random::RandomSource;
 use std::sync::{Arc, Mutex, Wait};
 use yp_answer::session::Host;
-use yp_answer::{MakeJob, TransferJob};
+use yp_answer::{MakeJob, Outcome, TransferJob, make_check, outcome_of};
 use yp_board::{Catalog, Tell, View};
 use yp_io::{Clock, Dial, Disk, NoMemory, Peer, Texts};
 use yp_messages::XfrStat;
@@ -46,6 +49,7 @@ pub struct WorkerHost<
     desk: &'a Mutex<SharedDesk<S, A, T, C>>,
     totals: Totals,
     charges: Charges<S>,
+    journal: Option<&'a Mutex<Journal>>,
     alloc: Global,
     rt: R,
 }
@@ -89,9 +93,9 @@ impl<
     C: Clock,
     R: RandomSource + Wait,
 > WorkerHost<'a, S, D, B, A, T, C, R> {
-    /// A host with this reader of the maps of its site, which is charged by these. What it builds has to be what the
-    /// site says of a built version. Its memory is taken by `alloc`, the tables of its builds are made with the
-    /// randomness of `rt`, and it waits for the locks by that.
+    /// A host with this reader of the maps of its site, which is charged by these, and tells the journal what it does,
+    /// where there is one. What it builds has to be what the site says of a built version. Its memory is taken by
+    /// `alloc`, the tables of its builds are made with the randomness of `rt`, and it waits for the locks by that.
     pub fn new(
         alloc: Global,
         rt: R,
@@ -99,6 +103,7 @@ impl<
         publisher: &'a Mutex<Locked<S, D, B>>,
         desk: &'a Mutex<SharedDesk<S, A, T, C>>,
         charges: Charges<S>,
+        journal: Option<&'a Mutex<Journal>>,
     ) -> WorkerHost<'a, S, D, B, A, T, C, R>
         requires catalogue { (B.Reader.seen reader).catalogue ≡ S.catalogue }
         requires builds { SiteBuilds S.text S.catalogue S.built }
@@ -116,6 +121,7 @@ impl<
             desk,
             totals: Totals::none(),
             charges,
+            journal,
             alloc,
             rt,
         }
@@ -133,6 +139,7 @@ impl<
             desk: _,
             totals: _,
             charges: _,
+            journal: _,
             alloc: _,
             rt: _,
         } = self;
@@ -153,6 +160,59 @@ impl<
         ensures refused { OnErr result (self.new ≡ self.old) }
     {
         tell_shared(&self.rt, self.publisher, &mut self.reader)
+    }
+
+    /// Tells what happened, where there is a journal.
+    fn tell(&self, event: Event) {
+        if let Some(journal) = self.journal {
+            journal.lock(&self.rt).push(event);
+        }
+    }
+
+    /// What happened where a call by `peer` had a map made, with this status.
+    fn made_event(&self, map: u32, stat: XfrStat, peer: Peer) -> Event
+        requires { map < length (B.Reader.seen self.now.reader).catalogue.maps }
+        ensures { result ≡ made_event map stat (shown map (B.Reader.seen self.now.reader).known) peer }
+    {
+        match (stat, order_of(self.reader.held(map))) {
+            (XfrStat::Succ, Some(order)) => Event::Made { map, order, peer },
+            _ => Event::NotMade { map, stat, peer },
+        }
+    }
+
+    /// What happened where a call by `peer` had a map fetched, with this status.
+    fn fetched_event(&self, map: u32, stat: XfrStat, peer: Peer) -> Event
+        requires { map < length (B.Reader.seen self.now.reader).catalogue.maps }
+        ensures { result ≡ fetched_event map stat (shown map (B.Reader.seen self.now.reader).known) peer }
+    {
+        match (stat, order_of(self.reader.held(map))) {
+            (XfrStat::Succ, Some(order)) => Event::Fetched { map, order, peer },
+            _ => Event::NotFetched { map, stat, peer },
+        }
+    }
+
+    /// What is told of a call that `peer` was answered, where it had a map made or was refused. A transfer that was
+    /// taken is told of once it was carried out.
+    fn replied_event(&self, peer: Peer, outcome: &Outcome<'_>) -> Option<Event>
+        ensures { result ≡ replied_event (B.Reader.seen self.now.reader) peer outcome.now.is_make
+            outcome.now.domain.now (option_map (λ name. name.now) outcome.now.map) outcome.now.stat }
+    {
+        let catalog = self.reader.catalog();
+        let stat = outcome.stat;
+        let map = match outcome.map {
+            Some(name) => catalog.find(outcome.domain, name),
+            None => None,
+        };
+        if !outcome.is_make {
+            return match stat {
+                XfrStat::Succ => None,
+                _ => Some(Event::RefusedXfr { map, stat, peer }),
+            };
+        }
+        match make_check(catalog, peer, outcome.domain, outcome.map) {
+            Ok(job) => Some(self.made_event(job.map, stat, peer)),
+            Err(_) => Some(Event::RefusedMake { map, stat, peer }),
+        }
     }
 }
 
@@ -222,7 +282,7 @@ impl<
     ghost carried = { λ taken peer. WorkerTransfersMap B.Reader.seen S.hosts taken };
 
     fn transfer(&mut self, job: &TransferJob<'_>, peer: Peer) {
-        let group = carry_out(
+        let (group, stat) = carry_out(
             self.alloc,
             &self.rt,
             self.publisher,
@@ -234,6 +294,18 @@ impl<
         );
         self.totals.transfers = self.totals.transfers.saturating_add(1);
         self.totals.outcomes.count(group);
+        self.tell(self.fetched_event(job.map, stat, peer));
+    }
+
+    fn replied(&self, peer: Peer, message: &[u8], reply: &[u8]) {
+        if self.journal.is_none() {
+            return;
+        }
+        if let Some(outcome) = outcome_of(message, reply)
+            && let Some(event) = self.replied_event(peer, &outcome)
+        {
+            self.tell(event);
+        }
     }
 
     ghost step_counts_nothing = { λ old new h. ap (λ host. counts_of host) h.1 };
@@ -278,6 +350,10 @@ impl<
     ghost none = { no_totals };
 
     ghost plus = { totals_plus };
+
+    fn late(&self, peer: Peer) {
+        self.tell(Event::Late { peer });
+    }
 
     fn hand_over(&mut self, sum: &mut Account<S, B>) {
         sum.take_in(self.totals, &mut self.charges, &self.reader);

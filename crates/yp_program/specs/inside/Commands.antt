@@ -8,7 +8,7 @@ use Rattle.yp_command.specs.declared.office.status.Status.TheVariants.{Usage, No
 
 -- the command serves no listener
 abbrev pub IsAlone : Meaning → Type 0
-IsAlone (Serve own port workers connections turns stores hosts) = ⊥
+IsAlone (Serve own port workers connections turns stores hosts log) = ⊥
 IsAlone meaning = ⊤
 
 -- the status of words that weren't parsed

@@ -104,7 +104,9 @@ fn served<J: Naming + Send + Sync, R: Threads + Wait + RandomSource + Abort + Sy
     let inbox = Behind::new(inbox, gate, case.until);
     let desk = desk_of(rt, alloc, TEXT, 200, case.unread);
     let (maps, readers) = publisher::<J, R>(rt, alloc, opened, b"m1", file, spec.workers + 1);
-    let served = serve(alloc, rt, maps, readers, desk, listen, inbox, &spec, gate);
+    let served = serve(
+        alloc, rt, maps, readers, desk, listen, inbox, &spec, None, gate,
+    );
     seen(rt, alloc, &served.ok().expect(rt, "memory for workers"))
 }
 

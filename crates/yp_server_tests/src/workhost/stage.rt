@@ -150,6 +150,7 @@ fn play<
 
 /// Two workers, made of their readers and the locks, play.
 fn meet<
+    'm,
     'r,
     S: Site + Accounts + Supplies,
     J: Naming,
@@ -158,8 +159,8 @@ fn meet<
 >(
     rt: &'r R,
     alloc: Global,
-    maps: &SharedMaps<S, J, &'r R>,
-    tools: &Tools<S, T>,
+    maps: &'m SharedMaps<S, J, &'r R>,
+    tools: &'m Tools<S, T>,
     readers: (Reader<J>, Reader<J>),
     charges: Charges<S>,
     script: Script<'_>,
@@ -172,8 +173,8 @@ fn meet<
     let mut charges = charges;
     let (one, other) = (charges.split_off(), charges.split_off());
     let front = Writer::<J, &'r R>::known(&readers.0);
-    let mut first = WorkerHost::new(alloc, rt, readers.0, maps, tools, one);
-    let mut second = WorkerHost::new(alloc, rt, readers.1, maps, tools, other);
+    let mut first = WorkerHost::new(alloc, rt, readers.0, maps, tools, one, None);
+    let mut second = WorkerHost::new(alloc, rt, readers.1, maps, tools, other, None);
     let mut account = Account::new(charges, front);
     let came = play(rt, alloc, &mut first, &mut second, script);
     first.hand_over(&mut account);

@@ -92,11 +92,16 @@ fn reply_to<H: Host>(
 {
     match answer_datagram(host, mail, peer, buf) {
         Answered::Silent => (0, None),
-        Answered::Reply { len } => (len, None),
+        Answered::Reply { len } => {
+            host.replied(peer, mail, &buf[..len]);
+            (len, None)
+        }
         Answered::Transfer { len, job } => (len, Some((Errand::new(&job), peer))),
         Answered::Make { xid, job } => {
             let stat = host.make(job);
-            (make_reply(buf, xid, stat), None)
+            let len = make_reply(buf, xid, stat);
+            host.replied(peer, mail, &buf[..len]);
+            (len, None)
         }
         Answered::Stream(_) => unreachable!(),
     }

@@ -17,7 +17,7 @@ use Rattle.yp_command_serve.specs.serve.Serve.{Job, serve_job_of, TellsServed}
 abbrev pub serve_job_view : ServeJob → Job
 serve_job_view job =
     serve_job_of job.name.items job.connections job.turns (map name_view job.stores.items)
-    (map host_view job.hosts.items)
+    (map host_view job.hosts.items) job.log
 
 -- ---- what is told
 

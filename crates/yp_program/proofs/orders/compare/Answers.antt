@@ -1,8 +1,4 @@
-use Rattle.std.proofs.Common.{◌≡◌, ◌∙◌, refl, sym, subst}
-use Rattle.std.specs.Prelude.{◌≢◌}
-use Rattle.yp_client.specs.query.Scenes.{query_tells}
-use Rattle.yp_command.specs.declared.office.status.Status.{Status}
-use Rattle.yp_command.specs.declared.office.status.Status.TheVariants.{WriteFault}
+use Rattle.std.proofs.Common.{◌∙◌, refl, sym, subst}
 use Rattle.yp_command.specs.office.Seeing.{seeing}
 use Rattle.yp_program.specs.Asking.{scene, IsClientAnswer}
 use Rattle.yp_program.proofs.Comparing.{answered, read_cause, write_cause, dial_cause, not_output}

@@ -1,4 +1,5 @@
-use Rattle.std.proofs.Common.{◌≡◌, List, map, length, refl, sym, ap, subst, ◌∙◌}
+use Rattle.std.proofs.Common.{◌≡◌, List, [], map, length, refl, sym, ap, subst, ◌∙◌}
+use Rattle.std.proofs.KnownBytes.{Appends-nil}
 use Rattle.std.specs.Prelude.{All}
 use Rattle.yp_board.specs.Catalogues.{Name, name_view}
 use Rattle.yp_board.specs.declared.catalog.MapName.{MapName}
@@ -8,67 +9,82 @@ use Rattle.yp_command.specs.declared.office.office.Office.{Office}
 use Rattle.yp_command.specs.office.Seeing.{Seeing, seeing, output}
 use Rattle.yp_command_serve.specs.declared.serve.resources.ServerResources.{ServerResources}
 use Rattle.yp_command_serve.specs.serve.Serve.{serve_job_of}
+use Rattle.yp_command_serve.specs.serve.Log.{IsLog}
 use Rattle.yp_command_serve.specs.inside.serve.Serve.{TellsServeEnd}
+use Rattle.yp_command_serve.specs.inside.serve.Log.{totals_told}
 use Rattle.yp_command_serve.proofs.serve.Disks.{same_count}
 use Rattle.yp_command_serve.proofs.serve.Told.{nothing_done, number_within, shut_of, all_done}
 use Rattle.yp_command_serve.proofs.serve.serve.serve_catalog.Goals as goal
 
 pub returns-in-Err-clause-does : goal.returns-in-Err-clause-does
-returns-in-Err-clause-does g c = λ connections.
-    rw c.in-Err.ensures.err
-    (nothing_done (seeing g.S.Source g.K.Sink g.D.Disk g.C.Clock g.A.Dial g.I.Inbox g.T.Texts)
-    (serve_job_of c.args.catalog.own connections c.args.spec.now.turns c.args.catalog.maps c.args.hosts) c.args.office
-    (opening_by g.L.Hall c.args.listen))
+returns-in-Err-clause-does g c = (
+  [],
+  λ connections. rw c.in-Err.ensures.err
+      (nothing_done (seeing g.S.Source g.K.Sink g.D.Disk g.C.Clock g.A.Dial g.I.Inbox g.T.Texts)
+      (serve_job_of c.args.catalog.own connections c.args.spec.now.turns c.args.catalog.maps c.args.hosts c.args.log)
+      c.args.office (opening_by g.L.Hall c.args.listen)),
+  λ fine. Appends-nil (g.N.Sink.output c.args.notes),
+)
 
 pub tell_end-status-requires-clause-number : goal.tell_end-status-requires-clause-number
 tell_end-status-requires-clause-number g c =
     let apart = c.in-Ok.apart in
-    let did = c.host-hosted in
+    let did = c.host_told-hosted in
     number_within g.D.Disk.history g.D.Disk.faults did.result.0 apart.disks.items did.result.1.disks.items
-    (length c.deref.result.now)
+    (length c.deref-2.result.now)
     (same_count c.args.office.disks.items apart.names.items apart.disks.items c.in-Ok.ensures.disks c.in-Ok.ensures.names
-    ∙ ap length (sym c.deref.ensures.value))
+    ∙ ap length (sym c.deref-2.ensures.value))
     did.ensures.unhosted
 
 pub tell_end-status-requires-clause-named : goal.tell_end-status-requires-clause-named
 tell_end-status-requires-clause-named g c =
-    let names : map name_view c.deref.result.now ≡ c.args.catalog.maps =
-    ap (λ (l : List MapName). map name_view l) c.deref.ensures.value ∙ c.in-Ok.ensures.names ∙ c.requires.disks in
+    let names : map name_view c.deref-2.result.now ≡ c.args.catalog.maps =
+    ap (λ (l : List MapName). map name_view l) c.deref-2.ensures.value ∙ c.in-Ok.ensures.names ∙ c.requires.disks in
     subst (λ (l : List Name). All IsNamed l) (sym names) c.requires.named
 
 pub returns-clause-does : goal.returns-clause-does
-returns-clause-does g c = λ connections.
-    let seen : Seeing g.row.S.Denot g.row.K.Denot g.row.D.Denot g.row.C.Denot g.row.A.Denot g.row.I.Denot g.row.T.Denot =
-    seeing g.S.Source g.K.Sink g.D.Disk g.C.Clock g.A.Dial g.I.Inbox g.T.Texts in
-    let did = c.host-hosted in
-    let told = c.tell_end-status in
-    let old = c.args.office in
-    let back = did.result.1 in
-    let apart = c.in-Ok.apart in
-    let job = serve_job_of c.args.catalog.own connections c.args.spec.now.turns c.args.catalog.maps c.args.hosts in
-    let new : Office g.row.S.Denot g.row.K.Denot g.row.D.Denot g.row.C.Denot g.row.A.Denot g.row.I.Denot g.row.T.Denot =
-    record {
-      wire = record { source = old.wire.source; sink = told.new.sink };
-      disks = c.put_together.new.named;
-      clock = back.desk.clock;
-      dial = back.desk.dial;
-      inbox = back.inbox;
-      texts = back.desk.texts;
-    } in
-    let resources : ServerResources g.row.D.Denot g.row.A.Denot g.row.T.Denot g.row.C.Denot g.row.L.Denot g.row.I.Denot = record {
-      disks = apart.disks;
-      desk = record { dial = old.dial; texts = old.texts; clock = old.clock; hosts = c.args.hosts };
-      listen = c.args.listen;
-      inbox = old.inbox;
-    } in
-    let tells = opening_by g.L.Hall in
-    let names : map name_view c.deref.result.now ≡ c.args.catalog.maps =
-    ap (λ (l : List MapName). map name_view l) c.deref.ensures.value ∙ c.in-Ok.ensures.names ∙ c.requires.disks in
-    let shut = shut_of tells old new resources back did.result.0 refl refl refl refl refl did.ensures.untouched
-    told.ensures.untold in
-    all_done seen job told.result old new (tells c.args.listen) (tells back.listen) did.result.0 apart.disks.items
-    back.disks.items c.in-Ok.ensures.disks (sym c.put_together.ensures.disks) did.ensures.hosted did.ensures.unhosted shut
-    (subst (λ (l : List Name). TellsServeEnd did.result.0 l told.result (output seen old) (output seen new)) names
-    told.ensures.tells)
-    did.ensures.inbox_fault told.ensures.cause (c.put_together.ensures.names ∙ c.in-Ok.ensures.names) did.ensures.moment
-    did.ensures.texts refl
+returns-clause-does g c =
+    let logged = c.host_told-hosted.ensures.logged in (
+      logged.0,
+      λ connections.
+          let seen : Seeing g.row.S.Denot g.row.K.Denot g.row.D.Denot g.row.C.Denot g.row.A.Denot g.row.I.Denot g.row.T.Denot =
+          seeing g.S.Source g.K.Sink g.D.Disk g.C.Clock g.A.Dial g.I.Inbox g.T.Texts in
+          let did = c.host_told-hosted in
+          let told = c.tell_end-status in
+          let old = c.args.office in
+          let back = did.result.1 in
+          let apart = c.in-Ok.apart in
+          let job = serve_job_of c.args.catalog.own connections c.args.spec.now.turns c.args.catalog.maps c.args.hosts c.args.log in
+          let new : Office g.row.S.Denot g.row.K.Denot g.row.D.Denot g.row.C.Denot g.row.A.Denot g.row.I.Denot g.row.T.Denot =
+          record {
+            wire = record { source = old.wire.source; sink = told.new.sink };
+            disks = c.put_together.new.named;
+            clock = back.desk.clock;
+            dial = back.desk.dial;
+            inbox = back.inbox;
+            texts = back.desk.texts;
+          } in
+          let resources : ServerResources g.row.D.Denot g.row.A.Denot g.row.T.Denot g.row.C.Denot g.row.L.Denot g.row.I.Denot = record {
+            disks = apart.disks;
+            desk = record { dial = old.dial; texts = old.texts; clock = old.clock; hosts = c.args.hosts };
+            listen = c.args.listen;
+            inbox = old.inbox;
+          } in
+          let tells = opening_by g.L.Hall in
+          let all : map name_view apart.names.items ≡ c.args.catalog.maps = c.in-Ok.ensures.names ∙ c.requires.disks in
+          let names : map name_view c.deref.result.now ≡ c.args.catalog.maps =
+          ap (λ (l : List MapName). map name_view l) c.deref.ensures.value ∙ all in
+          let names_told : map name_view c.deref-2.result.now ≡ c.args.catalog.maps =
+          ap (λ (l : List MapName). map name_view l) c.deref-2.ensures.value ∙ all in
+          let log : IsLog c.args.log c.args.catalog.maps (totals_told did.result.0) logged.0 =
+          subst (λ (l : List Name). IsLog c.args.log l (totals_told did.result.0) logged.0) names logged.1 in
+          let shut = shut_of tells job old new resources back logged.0 did.result.0 log refl refl refl refl refl did.ensures.untouched
+          told.ensures.untold in
+          all_done seen job told.result old new (tells c.args.listen) (tells back.listen) logged.0 did.result.0 apart.disks.items
+          back.disks.items c.in-Ok.ensures.disks (sym c.put_together.ensures.disks) did.ensures.hosted did.ensures.unhosted shut log
+          (subst (λ (l : List Name). TellsServeEnd did.result.0 l told.result (output seen old) (output seen new))
+          names_told told.ensures.tells)
+          did.ensures.inbox_fault told.ensures.cause (c.put_together.ensures.names ∙ c.in-Ok.ensures.names) did.ensures.moment
+          did.ensures.texts refl,
+      logged.2,
+    )

@@ -1,4 +1,5 @@
-use Rattle.std.proofs.Common.{◌≡◌, map, sym, ap, subst, ◌∙◌}
+use Rattle.std.proofs.Common.{◌≡◌, [], map, sym, ap, subst, ◌∙◌}
+use Rattle.std.proofs.KnownBytes.{Appends-nil}
 use Rattle.std.specs.Prelude.{All}
 use Rattle.yp_board.specs.Catalogues.{Catalogue, name_view}
 use Rattle.yp_worker.specs.Receptions.{opening_by}
@@ -11,14 +12,20 @@ use Rattle.yp_command_serve.proofs.serve.Told.{nothing_done}
 use Rattle.yp_command_serve.proofs.serve.serve.serve_maps.Goals as goal
 
 pub returns-in_default-clause-does : goal.returns-in_default-clause-does
-returns-in_default-clause-does g c =
-    nothing_done (seeing g.S.Source g.K.Sink g.D.Disk g.C.Clock g.A.Dial g.I.Inbox g.T.Texts) (serve_job_view c.args.job)
-    c.args.office (opening_by g.L.Hall c.args.listen)
+returns-in_default-clause-does g c = (
+  [],
+  nothing_done (seeing g.S.Source g.K.Sink g.D.Disk g.C.Clock g.A.Dial g.I.Inbox g.T.Texts) (serve_job_view c.args.job)
+      c.args.office (opening_by g.L.Hall c.args.listen),
+  λ fine. Appends-nil (g.N.Sink.output c.args.notes),
+)
 
 pub returns-in-Err-NoMemory-clause-does : goal.returns-in-Err-NoMemory-clause-does
-returns-in-Err-NoMemory-clause-does g c =
-    nothing_done (seeing g.S.Source g.K.Sink g.D.Disk g.C.Clock g.A.Dial g.I.Inbox g.T.Texts) (serve_job_view c.args.job)
-    c.args.office (opening_by g.L.Hall c.args.listen)
+returns-in-Err-NoMemory-clause-does g c = (
+  [],
+  nothing_done (seeing g.S.Source g.K.Sink g.D.Disk g.C.Clock g.A.Dial g.I.Inbox g.T.Texts) (serve_job_view c.args.job)
+      c.args.office (opening_by g.L.Hall c.args.listen),
+  λ fine. Appends-nil (g.N.Sink.output c.args.notes),
+)
 
 pub serve_catalog-requires-clause-named : goal.serve_catalog-requires-clause-named
 serve_catalog-requires-clause-named g c κs within =
@@ -31,10 +38,14 @@ returns-clause-does g c =
     let job = c.args.job in
     let did = c.serve_catalog in
     let tells = opening_by g.L.Hall in
-    let same : serve_job_of c.in-Ok-new.catalog.own job.connections job.turns c.in-Ok-new.catalog.maps c.in-Ok.hosts
+    let same : serve_job_of c.in-Ok-new.catalog.own job.connections job.turns c.in-Ok-new.catalog.maps c.in-Ok.hosts job.log
     ≡ serve_job_view job =
-    ap (λ (k : Catalogue). serve_job_of k.own job.connections job.turns k.maps c.in-Ok.hosts) c.in-Ok-new.ensures.ok
-    ∙ ap (λ (h : HostList). serve_job_of job.name.items job.connections job.turns (map name_view job.stores.items) h)
+    ap (λ (k : Catalogue). serve_job_of k.own job.connections job.turns k.maps c.in-Ok.hosts job.log) c.in-Ok-new.ensures.ok
+    ∙ ap (λ (h : HostList). serve_job_of job.name.items job.connections job.turns (map name_view job.stores.items) h job.log)
     c.in-Ok.ensures in
-    subst (λ (o : Job). ServeDoes seen o did.result.0 c.args.office did.result.1 (tells c.args.listen)
-    (tells did.result.2)) same (did.ensures.does job.connections)
+    let does = did.ensures.does in (
+      does.0,
+      subst (λ (o : Job). ServeDoes seen o did.result.0 c.args.office did.result.1 (tells c.args.listen)
+          (tells did.result.2) does.0) same (does.1 job.connections),
+      does.2,
+    )

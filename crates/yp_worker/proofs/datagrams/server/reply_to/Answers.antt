@@ -46,10 +46,10 @@ returns-in-Transfer-clause-replied g c =
 pub returns-in-Make-clause-replied : goal.returns-in-Make-clause-replied
 returns-in-Make-clause-replied g c =
     let conduct = conduct_of g.H.View.seen g.H.Host.told g.H.Host.counts g.H.View.stepped g.H.Host.made g.H.Host.carried in
-    let buf = c.make_reply.new.buf in (
+    let buf = c.make_reply-len.new.buf in (
       _,
       refl,
-      sym (reply_is c.make_reply.result buf c.make_reply.ensures.some ∙ ap (λ (l : List ℕ). Some l) c.make_reply.ensures.reply),
+      sym (reply_is c.make_reply-len.result buf c.make_reply-len.ensures.some ∙ ap (λ (l : List ℕ). Some l) c.make_reply-len.ensures.reply),
       refl,
       refl,
       link_open conduct c.args.peer c.args.mail.now g.met.H.Host.step_counts_nothing c.in-Make.xid c.in-Make.job c.make-stat.result

@@ -1,0 +1,37 @@
+-- What was logged, and the note behind it.
+use Rattle.std.proofs.Common.{◌≡◌, ℕ, ◌≤◌, List, [], Option, refl, arith}
+use Rattle.std.proofs.KnownBytes.{Appends-trans}
+use Rattle.std.specs.Io.KnownBytes.{Appends}
+use Rattle.yp_io.specs.Counts.{HasRisen}
+use Rattle.yp_answer.specs.session.Wires.{Wire}
+use Rattle.yp_command.specs.Words.{Meaning, Serve}
+use Rattle.yp_command.specs.declared.office.office.Office.{Office}
+use Rattle.yp_command.specs.declared.office.status.Status.{Status}
+use Rattle.yp_command.specs.office.Seeing.{Seeing}
+use Rattle.yp_command.specs.office.Status.{note}
+use Rattle.yp_worker.specs.Receptions.{ListenTells}
+use Rattle.yp_command_serve.specs.serve.Serve.{Job, ServeDoes}
+use Rattle.yp_program.specs.Commands.{AloneDoes, CommandDoes, IsNoted}
+
+pub noted : (status : Status) (logged : List ℕ) (a b c : Option (List ℕ)) (x y z : ℕ) → x ≤ y → y ≤ z
+    → (¬ HasRisen x y → Appends a b logged) → (¬ HasRisen y z → Appends b c (note status))
+    → IsNoted x z a c logged status
+noted status logged a b c x y z first later here behind = λ fine.
+    Appends-trans a b c logged (note status) (here (λ rose. fine (omega (arith, first, later, rose))))
+    (behind (λ rose. fine (omega (arith, first, later, rose))))
+
+module _ {S K D C A I T : Type 0} (seen : Seeing S K D C A I T) (status : Status) where
+  -- what was served, of the same office and the same listener
+  pub same_served : (job : Job) (logged : List ℕ) (old was new now : Office S K D C A I T) (a b c d : ListenTells)
+      → old ≡ was → new ≡ now → a ≡ b → c ≡ d → ServeDoes seen job status was now b d logged
+      → ServeDoes seen job status old new a c logged
+  same_served job logged old was new now a b c d p q r s does = rw (p, q, r, s) does
+
+  -- a command that serves no listener logs nothing
+  pub logs_nothing : (meaning : Meaning) (old new : Office S K D C A I T) (door door' : ListenTells)
+      (before after : List Wire) → door' ≡ door → AloneDoes seen meaning status old new before after
+      → CommandDoes seen meaning status old new door door' before after []
+  unfolding AloneDoes
+  logs_nothing (Serve own port workers connections turns stores hosts log) old new door door' before after same does =
+      absurd does
+  logs_nothing meaning old new door door' before after same does = (does, same, refl)
