@@ -1,15 +1,17 @@
 #!/usr/bin/env python3
 """Compares the sentences of the program with those of the documents and of the manual pages: sentences.py
 
-README.md, docs/FORMATS.md and man/yp.8 list all sentences, the pages man/yp-*.8 those of their commands, and
-docs/COMMANDS.md has each command in a heading. These have to be the same, and so do the sentences of the code, whose
-words are known by the functions that read them. What README.md, docs/COMMANDS.md, docs/ADMIN.md and the manual pages
-show to be typed has to be such sentences, and so have the words of `serve` in README.md, docs/ADMIN.md and yp.env. The
-completion for bash has to offer what a sentence goes on with. Then the program is asked. It is given words with which a
-sentence goes on, words with which it doesn't, and words of which the last ones are missing, and has to tell the number
-of the wrong word; nothing is done then. It is given each whole sentence, too, which has to be one: in the folder where
-this runs that finds or makes next to nothing. The statuses of docs/FORMATS.md are compared with those of man/yp.8 and
-of the code, and those of docs/ADMIN.md have to be among them.
+README.md, docs/FORMATS.md and man/yp.8 list all sentences, and docs/COMMANDS.md has each command in a heading. Each
+command has one page, man/yp-NAME.8, whose SYNOPSIS is its sentence, and to which man/yp.8 refers; pages and units refer
+to pages that there are. These sentences have to be the same, and so do those of the code, whose words are known by the
+functions that read them. What README.md, docs/COMMANDS.md, docs/ADMIN.md and the manual pages show to be typed has to
+be such sentences, and so have the words of `serve` in README.md, docs/ADMIN.md and yp.env. The completion for bash has
+to offer what a sentence goes on with. The statuses of docs/FORMATS.md are compared with those of man/yp.8 and of the
+code, and those of docs/ADMIN.md have to be among them. The statuses of each command in docs/FORMATS.md are compared
+with those of its page, and with those that the definitions of the code let it end with. Then the program is asked. It
+is given words with which a sentence goes on, words with which it doesn't, and words of which the last ones are missing,
+and has to tell the number of the wrong word; nothing is done then. It is given each whole sentence, too, which has to
+be one: in the folder where this runs that finds or makes next to nothing.
 
 The program has to be built. It prints what differs, and ends with status 1 where anything does.
 """
@@ -103,6 +105,10 @@ BEHIND = {("build", "STORE"): "KindStore", ("revnet", "STORE"): "ReverseStore", 
 BEHIND |= {("pull", "NAME"): "Text"}
 COMPARED = "[ADDR]*"
 FURTHER = {"[KEY=VALUE]*": "Each(Pair)", "[HOST]*": "Each(Host)", "[STORE or HOST]*": "StoresAndHosts"}
+# A word that may stand behind all others.
+LAST = "log"
+# The commands that call a port mapper, which are one meaning in the code.
+MAPPER = {"getport", "setport", "unsetport"}
 
 # The form that a function of the code reads a word by, and the further words.
 READ = {"name": "Name", "store": "Store", "kind_store": "KindStore", "reverse_store": "ReverseStore", "number": "Number"}
@@ -131,22 +137,26 @@ def between(source, begin, end):
 # The sentences, as the documents write them.
 
 
+def section(path, name):
+    """A section of a manual page, where a line that ends in a backslash goes on with the next."""
+    return between(read(path), f"\n.Sh {name}\n", "\n.Sh ").replace("\\\n", "") + "\n"
+
+
 def page_sentences(path):
     """The sentences of a page's SYNOPSIS, as README.md writes them."""
-    for line in re.findall(r"^\.Nm yp Cm (.*)$", between(read(path), ".Sh SYNOPSIS", ".Sh "), re.MULTILINE):
+    for line in re.findall(r"^\.Nm yp Cm (.*)$", section(path, "SYNOPSIS"), re.MULTILINE):
         line = re.sub(r" Op Ar (.*?)( \.\.\.)?$", lambda m: f" [{m[1]}]" + "*" * bool(m[2]), line)
         line = re.sub(r" Oo Ar (.*?) \.\.\. Oc", r" [\1]*", line)
+        line = line.replace(" Op Cm log", " [log]")
         yield line.replace(" | ", " or ").replace(" Ar ", " ")
 
 
 def listings():
     """Where sentences are listed, with them."""
-    commands = glob.glob(os.path.join(server.TOP, "man/yp-*.8"))
     yield "README.md", re.findall(r"^\| `yp (.*?)` \|", read("README.md"), re.MULTILINE)
     block = between(read("docs/FORMATS.md"), "\n## Words\n", "\n| ")
     yield "docs/FORMATS.md", re.findall(r"^    (.*)$", block, re.MULTILINE)
     yield "man/yp.8", list(page_sentences("man/yp.8"))
-    yield "man/yp-*.8", [sentence for page in sorted(commands) for sentence in page_sentences(page)]
 
 
 def same_listings():
@@ -167,12 +177,51 @@ def same_listings():
     return every
 
 
+# The manual pages, one for each command.
+
+
+def files(pattern):
+    """The files of this pattern."""
+    return sorted(os.path.relpath(path, server.TOP) for path in glob.glob(os.path.join(server.TOP, pattern)))
+
+
+def references():
+    """What pages and units refer to: each file, with the names and sections of this program's pages there."""
+    for path in files("man/*.[578]"):
+        yield path, re.findall(r"\bXr (yp(?:-\S+)? \d)", read(path))
+    for path in files("site/systemd/*"):
+        yield path, [f"{name} {part}" for name, part in re.findall(r"\b(yp[a-z-]*)\((\d)\)", read(path))]
+
+
+def same_pages(sentences):
+    """Tells where a command hasn't one page with its sentence, and what refers to a page that isn't there."""
+    pages = {re.sub(r"man/(.*)\.(\d)", r"\1 \2", path) for path in files("man/*.[578]")}
+    wanted = {f"yp-{sentence.split()[0]} 8": sentence for sentence in sentences}
+    for page in sorted(pages ^ {"yp 8", "yp-file 5", "yp-protocol 7", *wanted}):
+        tell(f"the manual page {page} is {'that of no command' if page in pages else 'missing'}")
+    for page in sorted(pages & set(wanted)):
+        name = page.removesuffix(" 8")
+        path = f"man/{name}.8"
+        if list(page_sentences(path)) != [wanted[page]]:
+            tell(f"the SYNOPSIS of {path} isn't `{wanted[page]}` alone")
+        if f"\n.Dt {name.upper()} 8\n.Os\n.Sh NAME\n.Nm {name}\n.Nd " not in read(path):
+            tell(f"the head of {path} isn't that of {name}")
+    for path, named in references():
+        for page in sorted(set(named) - pages):
+            tell(f"{path} refers to {page}, which is no page")
+        for page in sorted(pages - {"yp 8", *named} if path == "man/yp.8" else ()):
+            tell(f"man/yp.8 doesn't refer to {page}")
+
+
 # A sentence by its forms: its command, the forms of the words behind that, and what may stand behind these.
 
 
 def by_forms(sentence):
     """The sentences by their forms that one stands for: two where it has a word that may be left out."""
     command, *words = re.findall(r"\[.*?\]\*?|[^ ]+", sentence)
+    has_last = words[-1:] == [f"[{LAST}]"]
+    if has_last:
+        words.pop()
     further = FURTHER.get(words[-1], "NoMore") if words else "NoMore"
     if further != "NoMore":
         words.pop()
@@ -186,6 +235,8 @@ def by_forms(sentence):
         words.insert(1, words[0])
         further = "Compared"
     last = [words.pop().strip("[]")] if words and words[-1].startswith("[") else []
+    if has_last:
+        further += "AndLast"
     for each in [words, words + last] if last else [words]:
         yield command, tuple(BEHIND.get((command, word)) or WORDS.get(word, word) for word in each), further
 
@@ -202,6 +253,8 @@ def of_code():
             tell(f"the code reads the words of {command} by other numbers than their own")
         further = re.search("= (each_pair|each_host|stores_and_hosts|servers|peers_and_domain)\\(", body)
         ends = READ_FURTHER[further[1]] if further else "NoMore"
+        if "words.but_log()" in body:
+            ends += "AndLast"
         if ends == "Servers":
             forms.pop()
         if ends == "Compared":
@@ -248,8 +301,11 @@ def fitting(sentence, words):
         if at == len(words) or not check(words[at]):
             return at
     at = len(checks)
-    while at < len(words) and joins(further, words[len(checks):at], words[at - 1], words[at]):
+    each = further.removesuffix("AndLast")
+    while at < len(words) and joins(each, words[len(checks):at], words[at - 1], words[at]):
         at += 1
+    if each != further and words[at:] == [LAST]:
+        at += any("/" in word for word in words[len(checks):at])
     return at
 
 
@@ -257,14 +313,14 @@ def is_whole(sentence, words):
     """Whether words that fit are all that the sentence wants."""
     behind = words[1 + len(sentence[1]):]
     enough = {"StoresAndHosts": any("/" in word for word in behind), "Servers": bool(behind)}
-    return fitting(sentence, words) == len(words) > len(sentence[1]) and enough.get(sentence[2], True)
+    return fitting(sentence, words) == len(words) > len(sentence[1]) and enough.get(sentence[2].removesuffix("AndLast"), True)
 
 
 def further_words(sentence):
     """Words that may stand behind those of the sentence."""
     hosts = ["h@127.0.0.1:1", "g@127.0.0.1:2"]
     return {"NoMore": [], "Compared": [], "Each(Pair)": ["k=v", "k=w"], "Each(Host)": hosts, "Servers": hosts}.get(
-        sentence[2], ["lab/m", "h@127.0.0.1:1", "lab/n"])
+        sentence[2], ["lab/m", "h@127.0.0.1:1", "lab/n"] + [LAST] * sentence[2].endswith("AndLast"))
 
 
 # What is shown to be typed.
@@ -426,10 +482,11 @@ def asks(sentences):
 
 
 def same_statuses():
+    """The number of each status, where the documents, the page and the code have the same."""
     table = between(read("docs/FORMATS.md"), "\n## Statuses\n", "\n\nThe line ends")
     rows = re.findall(r"^\| (\d+) \| (\w+) \| .* \| (.*) \|$", table, re.MULTILINE)
     documents = {(code, line) for code, _, notes in rows for line in re.findall("`(.*?)`", notes) or [""]}
-    items = between(read("man/yp.8"), ".Sh EXIT STATUS", ".Sh ")
+    items = section("man/yp.8", "EXIT STATUS")
     page = set(re.findall(r'^\.It (\d+)(?: Ql "(.*)")?$', items, re.MULTILINE))
     for code, line in sorted(documents ^ page):
         tell(f"status {code} {line} is one of {'docs/FORMATS.md' if (code, line) in documents else 'man/yp.8'} alone")
@@ -440,13 +497,72 @@ def same_statuses():
     code = set(re.findall(r"Status::(\w+).*? => (\d+),", told))
     for name, number in sorted(code ^ {(name, number) for number, name, _ in rows}):
         tell(f"status {number} {name} is one of the code alone, or of docs/FORMATS.md alone")
+    return {name: int(number) for name, number in code}
+
+
+def of_commands():
+    """The statuses of each command, as docs/FORMATS.md has them."""
+    table = between(read("docs/FORMATS.md"), "\nA command ends with one of these statuses alone:\n\n", "\n\n")
+    for names, numbers in re.findall(r"^\| (`.*`) \| ([0-9, ]+) \|$", table, re.MULTILINE):
+        yield from ((name, {int(number) for number in numbers.split(", ")}) for name in re.findall("`(.*?)`", names))
+
+
+def may_end(path, table):
+    """The names of the statuses for which a table of the code's definitions is true."""
+    source = read(path)
+    found = re.search(rf"^use Rattle\.(\w+)\.specs\.([\w.]+)\.\{{[^}}]*\b{table}\b", source, re.MULTILINE)
+    if found:
+        return may_end(f"crates/{found[1]}/specs/{found[2].replace('.', '/')}.antt", table)
+    statuses = set(re.findall(rf"^{table} \(?(\w+)\b.* = true$", source, re.MULTILINE))
+    others = re.search(rf"^{table} status = (\w+) status$", source, re.MULTILINE)
+    return statuses | may_end(path, others[1]) if others else statuses
+
+
+def by_tables(names):
+    """The tables of the code's definitions, with the commands that end with a status of each."""
+    commands = "crates/yp_program/specs/Commands.antt"
+    tables = {}
+    for meaning, table in re.findall(r"^may_end \((\w+) .*\) status = (\w+) status$", read(commands), re.MULTILINE):
+        named = MAPPER if meaning == "CallMapper" else {meaning.lower()} & names
+        tables.setdefault(table, set()).update(named)
+    # Client commands are one meaning, and share a table.
+    tables["ask_may_end"] |= names.difference(*tables.values())
+    return [(may_end(commands, table), named) for table, named in tables.items()]
+
+
+def same_command_statuses(sentences, numbers):
+    """Tells where a command has other statuses in its page, or in the code, than in docs/FORMATS.md."""
+    listed = list(of_commands())
+    documents = dict(listed)
+    names = {sentence.split()[0] for sentence in sentences}
+    once = {name for name, _ in listed if [each for each, _ in listed].count(name) == 1}
+    for name in sorted(names ^ once):
+        tell(f"the statuses of {name} don't stand once in docs/FORMATS.md")
+    for name, statuses in listed:
+        path = f"man/yp-{name}.8"
+        if path not in files("man/*"):
+            continue
+        items = re.findall(r"^\.It (\d+(?: , \d+)*)$", section(path, "EXIT STATUS"), re.MULTILINE)
+        page = sorted(int(number) for item in items for number in item.split(" , "))
+        if page != sorted(statuses):
+            tell(f"{path} has the statuses {page}, and docs/FORMATS.md {sorted(statuses)}")
+    for statuses, named in by_tables(names):
+        code = {numbers["Usage"]} | {numbers[status] for status in statuses}
+        together = set().union(*(documents.get(name, ()) for name in named))
+        for number in sorted(code ^ together):
+            where = "the code" if number in code else "docs/FORMATS.md"
+            tell(f"status {number} of {', '.join(sorted(named))} is one of {where} alone")
 
 
 written = same_listings()
+same_pages(written)
 sentences = same_table(written)
 same_typed(sentences, written)
 same_completion(sentences)
-asks(sentences)
-same_statuses()
+same_command_statuses(written, same_statuses())
+if os.path.exists(server.PROGRAM):
+    asks(sentences)
+else:
+    tell("the program isn't built, and wasn't asked")
 print("\n".join(differences), end="\n" * bool(differences))
 sys.exit(bool(differences))
