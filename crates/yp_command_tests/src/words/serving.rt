@@ -2,6 +2,8 @@
 
 use crate::given::assert_same;
 use crate::words::sentences::{Names, Wrong, check_names, check_wrong, host_of, names_of, parsed};
+use std::alloc::Global;
+use std::process::Abort;
 use yp_command::{Command, ServeJob, port_of};
 use yp_io::Peer;
 
@@ -120,7 +122,7 @@ static LOGGING: [&str; 10] = [
     "7001",
     "8",
     "4294967295",
-    "0",
+    "forever",
     "lab/a",
     "m2@127.0.0.1:7001",
     "dom/a",
@@ -132,22 +134,24 @@ const HOST: Peer = Peer {
     port: 7_001,
 };
 
+/// Checks what words of `serve` are, with `log` behind them or not.
+fn check_served(rt: &impl Abort, alloc: Global, words: &[&str], log: bool) {
+    let command = parsed(rt, alloc, words);
+    let wanted: Serving = (
+        b"m1",
+        Some(7_001),
+        (8, 4_294_967_295, 18_446_744_073_709_551_615),
+        [(b"lab", b"a"), (b"dom", b"a")],
+        (b"m2", HOST),
+        log,
+    );
+    assert_same(rt, &serving(&command), &Some(wanted), "serve");
+}
+
 #[test]
 fn serve_parsed(rt: HostRuntime) {
-    let command = parsed(&rt, rt.alloc(), &WORDS);
-    let logging = parsed(&rt, rt.alloc(), &LOGGING);
-    let wanted = |log: bool| -> Serving {
-        (
-            b"m1",
-            Some(7_001),
-            (8, 4_294_967_295, 18_446_744_073_709_551_615),
-            [(b"lab", b"a"), (b"dom", b"a")],
-            (b"m2", HOST),
-            log,
-        )
-    };
-    assert_same(&rt, &serving(&command), &Some(wanted(false)), "serve");
-    assert_same(&rt, &serving(&logging), &Some(wanted(true)), "log");
+    check_served(&rt, rt.alloc(), &WORDS, false);
+    check_served(&rt, rt.alloc(), &LOGGING, true);
 }
 
 #[test]
