@@ -34,7 +34,8 @@ PROGRAM = INSTALLED if os.path.exists(INSTALLED) else "yp"
 SECONDS = 60
 # As many slaves are asked at once, and so many turns taken, at each push.
 WINDOW, TURNS = 10, 60
-# The text of each map whose text has another name.
+# The text of each map whose text has another name. The netgroups by users and by hosts are made of the netgroups, so
+# they come last.
 TEXTS = {
     "passwd.byname": "passwd",
     "passwd.byuid": "passwd",
@@ -44,6 +45,8 @@ TEXTS = {
     "hosts.byaddr": "hosts",
     "services.byname": "services",
     "protocols.bynumber": "protocols",
+    "netgroup.byuser": "netgroup",
+    "netgroup.byhost": "netgroup",
 }
 SUCC, AGE, YPERR = 1, 2, -6
 STATUSES = {2: "AGE", -1: "NOMAP", -2: "NODOM", -3: "RSRC", -4: "RPC", -5: "MADDR", -6: "YPERR", -7: "BADARGS"}
@@ -132,8 +135,12 @@ def is_made(store, changed):
     return changed == time_of(f"made/{store}") and os.path.exists(f"ypdata/{store}")
 
 
+def is_of_netgroups(store):
+    return store.split("/", 1)[1].startswith("netgroup.")
+
+
 def make(site, stores):
-    for store in stores or site.stores:
+    for store in stores or sorted(site.stores, key=is_of_netgroups):
         domain, name = store.split("/", 1)
         changed = time_of(f"ypsrc/{TEXTS.get(name, name)}")
         if not stores and (changed is None or is_made(store, changed)):

@@ -26,7 +26,7 @@ mod transfer;
 
 pub use calls::{Answered, answer, answer_datagram};
 pub use limits::RECORD_MAX;
-pub use make::{MakeJob, make_check, make_reply};
+pub use make::{MakeJob, Making, make_check, make_reply};
 pub use outcome::{Outcome, outcome_of};
 pub use procedure::{Path, Procedure};
 pub use stream::{AllStream, HeldStream};

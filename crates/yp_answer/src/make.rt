@@ -1,41 +1,84 @@
 //! The make program: a map is made anew where a caller on the server's own host asks for it.
 
-ghost use Rattle.std.specs.Prelude.{◌≡◌, ◌<◌, ◌≤◌, length, take, option_map, IfOk};
+ghost use Rattle.std.specs.Prelude.{◌≡◌, ◌<◌, ◌≤◌, length, take, option_map, IfOk, IfSome};
 ghost use Rattle.yp_rpc.specs.Turns.{datagram_max};
-ghost use Rattle.yp_answer.specs.Make.{map_numbered, job_of, text_for, is_nameless, make_check};
-ghost use Rattle.yp_answer.specs.inside.Make.{IsReadAsNamed};
+ghost use Rattle.yp_answer.specs.Make.{map_numbered, field_named, making_of, job_of, netgroups_for, is_nameless};
+ghost use Rattle.yp_answer.specs.Make.{make_check};
+ghost use Rattle.yp_answer.specs.inside.Make.{IsMadeAsNamed};
 ghost use Rattle.yp_answer.specs.Reply.{make_reply};
 
 use crate::caller::put_head;
 use yp_board::Catalog;
 use yp_io::{OWN_HOST, Peer};
 use yp_messages::{Message, RespMake, XfrStat};
+use yp_netgroup::reverse::Field;
 use yp_rpc::ReplyHead;
 use yp_texts::{Kind, Reading};
 
-/// A map that is made: its number from 0, and how its text is read.
+// The maps that have the netgroups by users and by hosts.
+const BY_USER: &[u8] = b"netgroup.byuser";
+
+const BY_HOST: &[u8] = b"netgroup.byhost";
+
+/// The part of a triple by which the map with this name has the netgroups.
+fn field_named(map: &[u8]) -> Option<Field>
+    ensures { result ≡ field_named map.now }
+{
+    if map == BY_USER {
+        Some(Field::User)
+    } else if map == BY_HOST {
+        Some(Field::Host)
+    } else {
+        None
+    }
+}
+
+/// What a map is made of.
+#[derive(Clone, Copy, Debug, PartialEq, Eq)]
+pub enum Making {
+    /// A text, which is read so.
+    Text(Reading),
+
+    /// What is shown of the netgroups in the map's domain, by this part of their triples.
+    Netgroups(Field),
+}
+
+impl Making {
+    /// What the map with this name is made of.
+    fn of_map(map: &[u8]) -> Making
+        ensures { result ≡ making_of map.now }
+    {
+        match field_named(map) {
+            Some(field) => Making::Netgroups(field),
+            None => Making::Text(Reading::of_map(map)),
+        }
+    }
+}
+
+/// A map that is made: its number from 0, and what it is made of.
 #[derive(Clone, Copy, Debug, PartialEq, Eq)]
 pub struct MakeJob {
     pub map: u32,
-    pub reading: Reading,
+    pub making: Making,
 }
 
 impl MakeJob {
-    /// The making of the map with this number. Its text is read as its name says.
+    /// The making of the map with this number, as its name says.
     pub fn of_map(catalog: &Catalog, map: u32) -> MakeJob
         requires { map < length catalog.now.maps }
         ensures { result ≡ job_of catalog.now map }
     {
-        let reading = Reading::of_map(&catalog.name(map).map);
-        MakeJob { map, reading }
+        let making = Making::of_map(&catalog.name(map).map);
+        MakeJob { map, making }
     }
 
-    /// The name of the text that the map is made of.
-    pub fn text(self, catalog: &Catalog) -> &[u8]
+    /// The number of the netgroups in the map's domain.
+    pub fn netgroups(self, catalog: &Catalog) -> Option<u32>
         requires { self.map < length catalog.now.maps }
-        ensures { result.now ≡ text_for catalog.now self }
+        ensures number { result ≡ netgroups_for catalog.now self }
+        ensures inside { IfSome result (λ map. map < length catalog.now.maps) }
     {
-        self.reading.source(&catalog.name(self.map).map)
+        catalog.find(&catalog.name(self.map).domain, Kind::Netgroup.name())
     }
 }
 
@@ -69,7 +112,7 @@ pub fn make_check(
 ) -> Result<MakeJob, XfrStat>
     ensures check { result ≡ make_check catalog.now peer domain.now (option_map (λ name. name.now) map.entry) }
     ensures inside { IfOk result (λ job. job.map < length catalog.now.maps) }
-    ensures read { IfOk result (λ job. IsReadAsNamed catalog.now job) }
+    ensures as_named { IfOk result (λ job. IsMadeAsNamed catalog.now job) }
 {
     if peer.addr != OWN_HOST {
         return Err(XfrStat::Refused);

@@ -8,9 +8,9 @@ use Rattle.yp_board.specs.Logs.{Log, shown}
 use Rattle.yp_board.specs.Views.{IsFront}
 use Rattle.yp_texts.specs.declared.reading.Reading.{Reading}
 use Rattle.yp_texts.specs.After.{Material, material_of, basis_of, other_master, built_after, HasLaterOrder}
-use Rattle.yp_answer.specs.declared.make.MakeJob.{MakeJob}
+use Rattle.yp_answer.specs.declared.make.Making.TheVariants.{Text}
 use Rattle.yp_board.specs.Catalogues.{Catalogue}
-use Rattle.yp_answer.specs.Causes.{IsCaused, task_at}
+use Rattle.yp_answer.specs.Causes.{IsCaused}
 use Rattle.yp_answer.specs.session.Hosts.{Counts, counts_after}
 
 pub front : (log : Log) → IsFront log log
@@ -31,15 +31,21 @@ built_so {own} {name} {last} {now} reading text moment version o l e over = (
 )
 
 -- a version that was built and is shown
-pub shown_anew : (catalogue : Catalogue) (job : MakeJob) (log : Log) (version : MapVersion) (new : Log)
-    → (material : Material) × (built_after (task_at catalogue job log).basis material ≡ Ok version) × HasLaterOrder (shown job.map log) version
-    → new ≡ log ++ (job.map, version) ∷ [] → IsCaused (record { text = λ file. None; moment = None }) catalogue job Succ log new
-shown_anew catalogue job log version new made is = record {
+pub shown_anew : (catalogue : Catalogue) (map : ℕ) (reading : Reading) (log : Log) (version : MapVersion) (new : Log)
+    → (material : Material) × (built_after (basis_of reading catalogue.own None (shown map log)) material ≡ Ok version) × HasLaterOrder (shown map log) version
+    → new ≡ log ++ (map, version) ∷ []
+    → IsCaused (record { text = λ file. None; moment = None }) catalogue (record { map = map; making = Text reading }) Succ log new
+shown_anew catalogue map reading log version new made is = record {
   version = version;
   before = log;
-  entry = ([], is ∙ sym (append-nil (log ++ (job.map, version) ∷ [])));
-  anew = record { material = made.0; of_told = record { text = tt; moment = tt }; built = made.1 };
-  over = record { log = log; begins = front log; goes_on = ((job.map, version) ∷ [], is); holds = made.2 };
+  entry = ([], is ∙ sym (append-nil (log ++ (map, version) ∷ [])));
+  anew = record {
+    log = log;
+    begins = front log;
+    goes_on = ((map, version) ∷ [], is);
+    holds = record { material = made.0; of_told = record { text = tt; moment = tt }; built = made.1 };
+  };
+  over = record { log = log; begins = front log; goes_on = ((map, version) ∷ [], is); holds = made.2 };
 }
 
 -- another status than FILE counts nothing

@@ -190,29 +190,31 @@ fn open_make(
     opened_by(rt, path, board, call, &mut buf)
 }
 
-// A call that is left open, the number of the map that it asks for, and how the text of that is read.
-type Open = (&'static str, u32, Reading);
+// A call that is left open, the number of the map that it asks for, and what that is made of.
+type Open = (&'static str, u32, Making);
 
-const AS_HOSTS: Reading = Reading::Text(Kind::HostsByname);
+const HOSTS_TEXT: Making = Making::Text(Reading::Text(Kind::HostsByname));
+
+const ROWS: Making = Making::Text(Reading::Rows);
 
 // Bytes behind the arguments aren't read.
 static OPEN: [Open; 8] = [
-    ("MAKE LAB HOSTS_KIND", 0, AS_HOSTS),
-    ("MAKE LAB HOSTS_KIND 01020304", 0, AS_HOSTS),
-    ("MAKE ZOO HOSTS_KIND", 1, AS_HOSTS),
-    ("NAMED LAB HOSTS", 0, AS_HOSTS),
-    ("NAMED LAB HOSTS 01020304", 0, AS_HOSTS),
-    ("NAMED ZOO HOSTS", 1, AS_HOSTS),
-    ("NAMED LAB BARE_MAP", 2, Reading::Rows),
-    ("NAMED LAB EMPTY_MAP", 3, Reading::Rows),
+    ("MAKE LAB HOSTS_KIND", 0, HOSTS_TEXT),
+    ("MAKE LAB HOSTS_KIND 01020304", 0, HOSTS_TEXT),
+    ("MAKE ZOO HOSTS_KIND", 1, HOSTS_TEXT),
+    ("NAMED LAB HOSTS", 0, HOSTS_TEXT),
+    ("NAMED LAB HOSTS 01020304", 0, HOSTS_TEXT),
+    ("NAMED ZOO HOSTS", 1, HOSTS_TEXT),
+    ("NAMED LAB BARE_MAP", 2, ROWS),
+    ("NAMED LAB EMPTY_MAP", 3, ROWS),
 ];
 
 fn try_open(rt: &impl Abort, alloc: Global, board: &mut PlainBoard, row: &Open) {
-    let (name, map, reading) = row;
+    let (name, map, making) = row;
     let call = words(rt, alloc, name);
     let job = MakeJob {
         map: *map,
-        reading: *reading,
+        making: *making,
     };
     let by_record = open_make(rt, alloc, Path::Stream, board, &call);
     assert_same(rt, &by_record, &(2, job), name);

@@ -14,6 +14,8 @@ mod orders;
 #[cfg(test)]
 mod question;
 #[cfg(test)]
+mod reversing;
+#[cfg(test)]
 mod sample;
 #[cfg(test)]
 mod session;

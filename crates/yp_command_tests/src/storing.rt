@@ -7,5 +7,5 @@ mod dump;
 mod faults;
 mod load;
 mod reverses;
-mod source;
+pub mod source;
 mod transfers;

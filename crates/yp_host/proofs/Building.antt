@@ -1,38 +1,47 @@
 -- A version that is built follows the one that is shown, and why one isn't built.
-use Rattle.std.proofs.Common.{◌≡◌, ◌⊎◌, inl, inr, ℕ, false, List, Option, Some, None, Result, Ok, Err, IfSome, OnOk, IfOk, IfErr, slice_get, refl, sym, subst}
+use Rattle.std.proofs.Common.{◌≡◌, ◌⊎◌, inl, inr, ℕ, false, List, Option, Some, None, Result, Ok, Err, IfSome, OnOk, IfOk, IfErr, slice_get, is_some, refl, sym, ap, subst}
 use Rattle.yp_version.specs.Versions.{MapVersion}
+use Rattle.yp_messages.specs.declared.transfer.XfrStat.{XfrStat}
+use Rattle.yp_texts.specs.declared.reading.Reading.{Reading}
 use Rattle.yp_texts.specs.declared.fault.BuildFault.{BuildFault}
 use Rattle.yp_texts.specs.declared.fault.BuildFault.TheVariants as fault
 use Rattle.yp_texts.specs.Builds.{order_max}
-use Rattle.yp_texts.specs.After.{Material, HasFault, last_order, built_after}
+use Rattle.yp_texts.specs.After.{Material, HasFault, basis_of, other_master, last_order, built_after}
 use Rattle.yp_publisher.specs.declared.install.Origin.TheVariants.{Built}
 use Rattle.yp_publisher.specs.Installs.{offer, not_following}
 use Rattle.yp_publisher.specs.Standing.{StoredMap, OfMap}
-use Rattle.yp_answer.specs.Causes.{Task, MaterialIsTold, is_of_another, HasBadRowAt}
+use Rattle.yp_answer.specs.Causes.{OfText, MaterialIsTold, is_of_another, HasBadLine}
 use Rattle.yp_answer.specs.inside.Causes.{build_stat}
 use Rattle.yp_host.specs.Locals.{Telling}
 use Rattle.yp_host.specs.Anew.{IsUnbuilt}
+use Rattle.yp_host.specs.inside.Anew.{task_from}
 
 -- ---- why a version isn't built
 
-pub unbuilt : {E : Type 0} (telling : Telling E) (task : Task) (material : Material) (why : BuildFault) (old new : E)
-    → is_of_another task.basis ≡ false → MaterialIsTold (telling.told old) task.source material → (why ≡ fault.NoMemory) ⊎ (built_after task.basis material ≡ Err (HasFault why))
-    → (why ≡ fault.OrderSpent → last_order task.basis.last ≡ Some order_max) → IsUnbuilt telling task (build_stat why) old new
-unbuilt telling task material why old new own told cause spent = by_fault why cause spent where
-  row : (f : BuildFault) → (f ≡ fault.NoMemory → ⊥) → (f ≡ fault.OrderSpent → ⊥) → (f ≡ fault.NoMemory) ⊎ (built_after task.basis material ≡ Err (HasFault f)) → HasBadRowAt (telling.told old) task
-  row f memory spent cause = elim cause [
+module _ {E : Type 0} (telling : Telling E) (reading : Reading) (name own : List ℕ) (last : Option MapVersion) (material : Material) (old new : E)
+    (same : other_master own last ≡ None) (told : MaterialIsTold (telling.told old) name material) where
+  abbrev Unbuilt : XfrStat → Type 0
+  Unbuilt stat = IsUnbuilt telling (task_from (OfText reading name) own last) stat old new
+
+  of_own : is_of_another (task_from (OfText reading name) own last) ≡ false
+  of_own = ap (λ (o : Option (List ℕ)). is_some o) same
+
+  line : (f : BuildFault) → (f ≡ fault.NoMemory → ⊥) → (f ≡ fault.OrderSpent → ⊥)
+      → (f ≡ fault.NoMemory) ⊎ (built_after (basis_of reading own None last) material ≡ Err (HasFault f))
+      → HasBadLine (telling.told old) reading name own last
+  line f memory spent cause = elim cause [
     | inl e ↦ absurd (memory e)
     | inr e ↦ record { material = material; of_told = told; fault = f; of_row = spent; cause = e }
   ]
 
-  by_fault : (f : BuildFault) → (f ≡ fault.NoMemory) ⊎ (built_after task.basis material ≡ Err (HasFault f)) → (f ≡ fault.OrderSpent → last_order task.basis.last ≡ Some order_max)
-      → IsUnbuilt telling task (build_stat f) old new
-  by_fault fault.OrderSpent cause spent = (own, spent refl)
-  by_fault fault.NoMemory cause spent = own
-  by_fault (fault.KeyLong line) cause spent = (own, row (fault.KeyLong line) (λ e. cc) (λ e. cc) cause)
-  by_fault (fault.ValueLong line) cause spent = (own, row (fault.ValueLong line) (λ e. cc) (λ e. cc) cause)
-  by_fault (fault.TooManyRows line) cause spent = (own, row (fault.TooManyRows line) (λ e. cc) (λ e. cc) cause)
-  by_fault (fault.TooBig line) cause spent = (own, row (fault.TooBig line) (λ e. cc) (λ e. cc) cause)
+  pub unbuilt : (f : BuildFault) → (f ≡ fault.NoMemory) ⊎ (built_after (basis_of reading own None last) material ≡ Err (HasFault f))
+      → (f ≡ fault.OrderSpent → last_order last ≡ Some order_max) → Unbuilt (build_stat f)
+  unbuilt fault.OrderSpent cause spent = (of_own, spent refl)
+  unbuilt fault.NoMemory cause spent = of_own
+  unbuilt (fault.KeyLong at) cause spent = (of_own, line (fault.KeyLong at) (λ e. cc) (λ e. cc) cause)
+  unbuilt (fault.ValueLong at) cause spent = (of_own, line (fault.ValueLong at) (λ e. cc) (λ e. cc) cause)
+  unbuilt (fault.TooManyRows at) cause spent = (of_own, line (fault.TooManyRows at) (λ e. cc) (λ e. cc) cause)
+  unbuilt (fault.TooBig at) cause spent = (of_own, line (fault.TooBig at) (λ e. cc) (λ e. cc) cause)
 
 -- ---- results
 

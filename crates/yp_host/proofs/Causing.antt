@@ -1,5 +1,5 @@
 -- Why a map that was made has its status.
-use Rattle.std.proofs.Common.{◌≡◌, inl, inr, ℕ, ◌<◌, true, List, [], ◌∷◌, ◌++◌, length, Option, Some, None, Err, IfSome, refl, sym, ◌∙◌, ap, subst, arith, is_some}
+use Rattle.std.proofs.Common.{◌≡◌, inl, inr, ℕ, ◌<◌, true, List, [], ◌∷◌, ◌++◌, length, Option, Some, None, refl, sym, ◌∙◌, ap, subst, arith, is_some}
 use Rattle.std.proofs.lemmas.List.{append-nil, length-append}
 use Rattle.yp_messages.specs.declared.transfer.XfrStat.{XfrStat}
 use Rattle.yp_messages.specs.declared.transfer.XfrStat.TheVariants.{Succ, Age, Nomap, Nodom, Rsrc, Rpc, Maddr, Yperr, Badargs, Dbm, File, Skew, Clear, Force, Xfrerr, Refused}
@@ -9,7 +9,7 @@ use Rattle.yp_map_file.specs.declared.fault.SlotFault.TheVariants as slot
 use Rattle.yp_board.specs.Catalogues.{Catalogue}
 use Rattle.yp_board.specs.Logs.{Log, shown}
 use Rattle.yp_board.specs.Views.{IsFront}
-use Rattle.yp_texts.specs.After.{HasFault, other_master, built_after, HasLaterOrder}
+use Rattle.yp_texts.specs.After.{other_master, HasLaterOrder}
 use Rattle.yp_answer.specs.declared.make.MakeJob.{MakeJob}
 use Rattle.yp_publisher.specs.declared.install.InstallFault.{InstallFault}
 use Rattle.yp_publisher.specs.declared.install.InstallFault.TheVariants as install
@@ -18,9 +18,7 @@ use Rattle.yp_publisher.specs.Rising.{PublisherState, with_shown}
 use Rattle.yp_publisher.specs.Keeping.{Keeping}
 use Rattle.yp_publisher.specs.Installs.{Installs}
 use Rattle.yp_publisher.specs.Opens.{Opens}
-use Rattle.yp_answer.specs.Make.{text_for}
-use Rattle.yp_answer.specs.Causes.{IsAnew, IsCaused, task_at, HasBadRowAt}
-use Rattle.yp_answer.specs.Causes as causes
+use Rattle.yp_answer.specs.Causes.{IsAnew, IsCaused, RowIsBad, NetgroupsAreMissing, task_at}
 use Rattle.yp_answer.specs.session.Hosts.{Fulfils, counts_after}
 use Rattle.yp_host.specs.Locals.{Local, Telling}
 use Rattle.yp_host.specs.Anew.{IsUnbuilt}
@@ -28,6 +26,7 @@ use Rattle.yp_host.specs.Making.{open_stat, IsInstallStat, built_offer}
 use Rattle.yp_host.specs.Making.{task_on, Makes, OpensAndTries}
 use Rattle.yp_host.specs.Connections.{local_conduct}
 use Rattle.yp_host.proofs.Growing.{opened_front}
+use Rattle.yp_host.proofs.Reversing.{row_is_bad, none_shown}
 
 -- a master is another's
 another : (master : Option (List ℕ)) → is_some master ≡ true → (name : List ℕ) × (master ≡ Some name)
@@ -61,6 +60,10 @@ module _ {D B E : Type 0} (keeping : Keeping D B) (telling : Telling E) (job : M
     | inr stores ↦ stores.0
   ]
 
+  opens_on : job.map < length old.published.maps → (middle : Published D B) → Opens keeping job.map old.published middle
+      → IsFront (keeping.log old.published.board) (keeping.log middle.board)
+  opens_on kept middle opens = opened_front keeping.log job.map old.published middle kept opens.upheld.elsewhere opens.shown
+
   shown_anew : job.map < length old.published.maps → (version : MapVersion) (middle : Published D B) → Opens keeping job.map old.published middle
       → IsAnew (telling.told old.desk) (task_on keeping job middle) version → Installs keeping job.map (built_offer version) middle new.published → Caused Succ
   shown_anew kept version middle opens anew installs =
@@ -69,50 +72,50 @@ module _ {D B E : Type 0} (keeping : Keeping D B) (telling : Telling E) (job : M
         version = version;
         before = log;
         entry = ([], installs.log ∙ sym (append-nil (with_shown job.map version log)));
-        anew = of_old (λ k. IsAnew (telling.told old.desk) (task_at k job log) version) middle opens anew;
+        anew = record {
+          log = log;
+          begins = opens_on kept middle opens;
+          goes_on = ((job.map, version) ∷ [], installs.log);
+          holds = of_old (λ k. IsAnew (telling.told old.desk) (task_at k job log) version) middle opens anew;
+        };
         over = record {
           log = log;
-          begins = opened_front keeping.log job.map old.published middle kept opens.upheld.elsewhere opens.shown;
+          begins = opens_on kept middle opens;
           goes_on = ((job.map, version) ∷ [], installs.log);
           holds = over version middle installs;
         };
       }
 
-  bad_row : (k : Catalogue) (log : Log) (bad : HasBadRowAt (telling.told old.desk) (task_at k job log)) (told : Option (List ℕ))
-      → IfSome told (λ known. bad.material.text ≡ known) → IfSome told (causes.HasBadRow k job)
-  bad_row k log bad None h = tt
-  bad_row k log bad (Some text) h = record {
-    log = log;
-    moment = bad.material.moment;
-    fault = bad.fault;
-    of_row = bad.of_row;
-    refused = subst (λ (t : List ℕ). built_after (task_at k job log).basis (record { text = t; moment = bad.material.moment }) ≡ Err (HasFault bad.fault)) h bad.cause;
-  }
-
-  unbuilt : (stat : XfrStat) (middle : Published D B) → Opens keeping job.map old.published middle → new.published ≡ middle
+  unbuilt : job.map < length old.published.maps → (stat : XfrStat) (middle : Published D B) → Opens keeping job.map old.published middle → new.published ≡ middle
       → IsUnbuilt telling (task_on keeping job middle) stat old.desk new.desk → Caused stat
-  unbuilt Refused middle opens same none =
+  unbuilt kept Refused middle opens same none =
       let log = keeping.log middle.board in
       let master = of_old (λ k. (master : List ℕ) × (other_master k.own (shown job.map log) ≡ Some master)) middle opens
       (another (other_master middle.catalogue.own (shown job.map log)) none) in
       (log, front_to middle same, master.0, master.1)
-  unbuilt Age middle opens same none = (keeping.log middle.board, front_to middle same, none.1)
-  unbuilt Dbm middle opens same none =
-      of_old (λ k. IfSome ((telling.told old.desk).text (text_for k job)) (causes.HasBadRow k job)) middle opens
-      (bad_row middle.catalogue (keeping.log middle.board) none.1 ((telling.told old.desk).text (text_for middle.catalogue job)) none.1.of_told.text)
-  unbuilt File middle opens same none = tt
-  unbuilt Rsrc middle opens same none = tt
-  unbuilt Succ middle opens same none = absurd none
-  unbuilt Nomap middle opens same none = absurd none
-  unbuilt Nodom middle opens same none = absurd none
-  unbuilt Rpc middle opens same none = absurd none
-  unbuilt Maddr middle opens same none = absurd none
-  unbuilt Yperr middle opens same none = absurd none
-  unbuilt Badargs middle opens same none = absurd none
-  unbuilt Skew middle opens same none = absurd none
-  unbuilt Clear middle opens same none = absurd none
-  unbuilt Force middle opens same none = absurd none
-  unbuilt Xfrerr middle opens same none = absurd none
+  unbuilt kept Age middle opens same none = (keeping.log middle.board, front_to middle same, none.1)
+  unbuilt kept Dbm middle opens same none =
+      let log = keeping.log middle.board in
+      of_old (λ k. RowIsBad (telling.told old.desk) k job job.making (keeping.log old.published.board) (keeping.log new.published.board)) middle opens
+      (row_is_bad (telling.told old.desk) middle.catalogue job job.making (keeping.log old.published.board) log (keeping.log new.published.board) (opens_on kept middle opens)
+      (front_to middle same) none.1)
+  unbuilt kept File middle opens same none = tt
+  unbuilt kept Rsrc middle opens same none = tt
+  unbuilt kept Succ middle opens same none = absurd none
+  unbuilt kept Nomap middle opens same none =
+      let log = keeping.log middle.board in
+      of_old (λ k. NetgroupsAreMissing k job job.making (keeping.log old.published.board) (keeping.log new.published.board)) middle opens
+      (none_shown middle.catalogue job job.making (keeping.log old.published.board) log (keeping.log new.published.board) (opens_on kept middle opens)
+      (front_to middle same) none.1)
+  unbuilt kept Nodom middle opens same none = absurd none
+  unbuilt kept Rpc middle opens same none = absurd none
+  unbuilt kept Maddr middle opens same none = absurd none
+  unbuilt kept Yperr middle opens same none = absurd none
+  unbuilt kept Badargs middle opens same none = absurd none
+  unbuilt kept Skew middle opens same none = absurd none
+  unbuilt kept Clear middle opens same none = absurd none
+  unbuilt kept Force middle opens same none = absurd none
+  unbuilt kept Xfrerr middle opens same none = absurd none
 
   uninstalled : (fault : InstallFault) (stat : XfrStat) → IsInstallStat fault stat → Caused stat
   uninstalled install.GenerationsSpent stat is = subst Caused (sym is) tt
@@ -124,7 +127,7 @@ module _ {D B E : Type 0} (keeping : Keeping D B) (telling : Telling E) (job : M
 
   tried : job.map < length old.published.maps → (stat : XfrStat) → OpensAndTries keeping telling job stat old new → Caused stat
   tried kept stat step = elim step.tries [
-    | inl none ↦ unbuilt stat step.middle step.opens none.1 none.0
+    | inl none ↦ unbuilt kept stat step.middle step.opens none.1 none.0
     | inr made ↦ elim made.2 [
       | inl done ↦ subst Caused (sym done.0) (shown_anew kept made.0 step.middle step.opens made.1 done.1)
       | inr failed ↦ uninstalled failed.fault stat failed.stat_is

@@ -6,7 +6,6 @@ use Rattle.yp_io.specs.Counts.{next_count}
 use Rattle.yp_messages.specs.declared.transfer.XfrStat.{XfrStat}
 use Rattle.yp_version.specs.Versions.{MapVersion}
 use Rattle.yp_board.specs.Catalogues.{Catalogue}
-use Rattle.yp_board.specs.Logs.{shown}
 use Rattle.yp_publisher.specs.Standing.{Published}
 use Rattle.yp_answer.specs.declared.procedure.Path.TheVariants.{Stream}
 use Rattle.yp_answer.specs.Answers.{StepsWhere}
@@ -28,10 +27,11 @@ use Rattle.yp_transfer.specs.Fetching.{FetchOutcome}
 use Rattle.yp_transfer.specs.Installing.{OpensAndOffers, marking, fetched_offer}
 use Rattle.yp_transfer.specs.Transfers.{InstallsOutcome}
 use Rattle.yp_host.specs.Transferring.{MapIsTransferred, request_for}
-use Rattle.yp_answer.specs.Causes.{Told, Task, IsAnew, TellsSame, task_of, task_at}
+use Rattle.yp_texts.specs.After.{Material}
+use Rattle.yp_answer.specs.Causes.{Told, Matter, OfText, OfNetgroups, Task, MaterialIsTold, IsMadeOf, IsAnew, TellsSame, task_of, task_at}
 use Rattle.yp_host.specs.Making.{MapIsMade, OpensAndTries}
 use Rattle.yp_host.specs.Connections.{Service, IsCalledFor, Transition, transition_of, transitions_of, GaveVersion, IsGiven, local_conduct}
-use Rattle.yp_host.proofs.Passing.{Respects, Sound, Passes, passes_none, passes_then, stays_on, opens_on, offered_on, fetched_on}
+use Rattle.yp_host.proofs.Passing.{front_none, front_then, Respects, Sound, Passes, passes_none, passes_then, stays_on, opens_on, offered_on, fetched_on}
 
 -- ---- desks
 
@@ -49,25 +49,45 @@ used_then telling a b c first second = record {
 pub told_then : {a b c : Told} → TellsSame a b → TellsSame b c → TellsSame a c
 told_then first second = record { texts = λ file. second.texts file ∙ first.texts file; moment = second.moment ∙ first.moment }
 
--- what is built of what is told later is built of what is told now
-anew_before : (first now : Told) (task : Task) (version : MapVersion) → TellsSame first now → IsAnew now task version → IsAnew first task version
-anew_before first now task version same anew = record {
-  material = anew.material;
-  of_told = record {
-    text = subst (λ (o : Option (List ℕ)). IfSome o (λ text. anew.material.text ≡ text)) (same.texts task.source) anew.of_told.text;
-    moment = subst (λ (o : Option ℕ). IfSome o (λ moment. anew.material.moment ≡ moment)) same.moment anew.of_told.moment;
-  };
-  built = anew.built;
+-- what is made of what is told later is made of what is told now
+material_before : (first now : Told) (name : List ℕ) (material : Material) → TellsSame first now → MaterialIsTold now name material
+    → MaterialIsTold first name material
+material_before first now name material same told = record {
+  text = subst (λ (o : Option (List ℕ)). IfSome o (λ text. material.text ≡ text)) (same.texts name) told.text;
+  moment = subst (λ (o : Option ℕ). IfSome o (λ moment. material.moment ≡ moment)) same.moment told.moment;
 }
+
+made_before : (first now : Told) (matter : Matter) (own : List ℕ) (last : Option MapVersion) (version : MapVersion) → TellsSame first now
+    → IsMadeOf now matter own last version → IsMadeOf first matter own last version
+made_before first now (OfText reading name) own last version same made = record {
+  material = made.material;
+  of_told = material_before first now name made.material same made.of_told;
+  built = made.built;
+}
+made_before first now (OfNetgroups field None) own last version same made = absurd made
+made_before first now (OfNetgroups field (Some netgroups)) own last version same made = record {
+  moment = made.moment;
+  of_told = subst (λ (o : Option ℕ). IfSome o (λ known. made.moment ≡ known)) same.moment made.of_told;
+  of_own = made.of_own;
+  next = made.next;
+  is = made.is;
+  reverse = made.reverse;
+  fits = made.fits;
+}
+
+anew_before : (first now : Told) (task : Task) (version : MapVersion) → TellsSame first now → IsAnew now task version → IsAnew first task version
+anew_before first now task version same anew = made_before first now task.matter task.own task.last version same anew
 
 module _ {D B E : Type 0} (service : Service D B E) (turns : List Turn) (transitions : List (Transition (Local D B E))) (first : Told) (table : HostList) where
   pub respects : Respects (IsGiven service turns transitions first table)
-  respects number log other version e given = elim given [
+  respects number log other version front e given = elim given [
     | inl made ↦ inl (record {
       job = made.job;
       of_map = made.of_map;
       called = made.called;
-      anew = subst (λ (s : Option MapVersion). IsAnew first (task_of service.catalogue made.job s) version) e made.anew;
+      at = made.at;
+      front = front_then made.at log other made.front front;
+      anew = subst (λ (s : Option MapVersion). IsAnew first (task_of service.catalogue made.job made.at s) version) e made.anew;
     })
     | inr fetched ↦ inr (record {
       taken = fetched.taken;
@@ -129,6 +149,8 @@ module _ {D B E : Type 0} (service : Service D B E) (turns : List Turn) (transit
     job = job;
     of_map = refl;
     called = called;
+    at = service.keeping.log middle.board;
+    front = front_none (service.keeping.log middle.board) (service.keeping.log middle.board) refl;
     anew =
         anew_before first (service.telling.told old.desk) (task_at service.catalogue job (service.keeping.log middle.board)) version sound.told
         (subst (λ (k : Catalogue). IsAnew (service.telling.told old.desk) (task_at k job (service.keeping.log middle.board)) version) (same ∙ sound.catalogue) anew);

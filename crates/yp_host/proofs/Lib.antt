@@ -8,4 +8,5 @@ pub mod Leading
 pub mod Passing
 pub mod Hosting
 pub mod Serving
+pub mod Reversing
 pub mod Causing

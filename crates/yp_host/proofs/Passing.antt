@@ -28,16 +28,16 @@ use Rattle.yp_host.proofs.Leaving.{weaker, left_alone, both_leave_or, told_on, t
 
 -- ---- logs
 
-front_none : (log other : Log) → other ≡ log → IsFront log other
+pub front_none : (log other : Log) → other ≡ log → IsFront log other
 front_none log other e = ([], e ∙ sym (append-nil log))
 
-front_then : (a b c : Log) → IsFront a b → IsFront b c → IsFront a c
+pub front_then : (a b c : Log) → IsFront a b → IsFront b c → IsFront a c
 front_then a b c first second =
     (first.0 ++ second.0, second.1 ∙ ap (λ (l : Log). l ++ second.0) first.1 ∙ append_assoc a first.0 second.0)
 
--- what is made behind a log rests on what the log shows of its map
+-- what is made behind a log rests on what the log shows of its map, and on fronts of the log
 abbrev pub Respects : Making → Type 0
-Respects Is = (number : ℕ) (log other : Log) (version : MapVersion) → shown number log ≡ shown number other → Is number log version → Is number other version
+Respects Is = (number : ℕ) (log other : Log) (version : MapVersion) → IsFront log other → shown number log ≡ shown number other → Is number log version → Is number other version
 
 made_then : (Is : Making) (log more last : Log) → AreMade Is log more → AreMade Is (log ++ more) last → AreMade Is log (more ++ last)
 made_then Is log [] last first second = subst (λ (l : Log). AreMade Is l last) (append-nil log) second
@@ -59,10 +59,10 @@ grows_then Is a b c first second = record {
 
 -- ---- how a map stands
 
-behind_again : (Is : Making) → Respects Is → (standing : MapStanding) (number : ℕ) (log other : Log) → shown number log ≡ shown number other
+behind_again : (Is : Making) → Respects Is → (standing : MapStanding) (number : ℕ) (log other : Log) → IsFront log other → shown number log ≡ shown number other
     → IsBehindMade Is number log standing → IsBehindMade Is number other standing
-behind_again Is same Level number log other e made = tt
-behind_again Is same (Behind version) number log other e made = same number log other version e made
+behind_again Is same Level number log other front e made = tt
+behind_again Is same (Behind version) number log other front e made = same number log other version front e made
 
 -- bytes that stand as a map stands
 stands_so : (Is : Making) (standing : MapStanding) (number : ℕ) (log last : Log) (version : Option MapVersion) → shown number log ≡ version
@@ -241,9 +241,9 @@ module _ {D B : Type 0} (keeping : Keeping D B) (Is : Making) (same : Respects I
     leads = λ told. leads_one (rising.publisher_state keeping.log old) (rising.publisher_state keeping.log new) (steps (told number));
   }
 
-  step_sound : (number : ℕ) (old new : Published D B) → Sound old → Upholds keeping number old new
+  step_sound : (number : ℕ) (old new : Published D B) → IsFront (keeping.log old.board) (keeping.log new.board) → Sound old → Upholds keeping number old new
       → OfMap number new.maps (λ kept. IsSome (keeping.history kept.disk) → IsBehindMade Is number (keeping.log new.board) kept.standing) → Sound new
-  step_sound number old new sound keeps at = record {
+  step_sound number old new front sound keeps at = record {
     shows = keeps.shows;
     behind = λ other. elim (cases_eq other number) [
       | inl e ↦ subst (λ (n : ℕ). OfMap n new.maps (λ kept. IsSome (keeping.history kept.disk) → IsBehindMade Is n (keeping.log new.board) kept.standing)) (sym e) at
@@ -255,7 +255,7 @@ module _ {D B : Type 0} (keeping : Keeping D B) (Is : Making) (same : Respects I
     kept_elsewhere other e =
         subst (λ (o : Option (StoredMap D)). IfSome o (λ kept. IsSome (keeping.history kept.disk) → IsBehindMade Is other (keeping.log new.board) kept.standing)) (sym e)
         (opt_one (slice_get old.maps other)
-        (λ kept there made told. behind_again Is same kept.standing other (keeping.log old.board) (keeping.log new.board)
+        (λ kept there made told. behind_again Is same kept.standing other (keeping.log old.board) (keeping.log new.board) front
         (shown_is (keeping.log old.board) old.maps other kept sound.shows there ∙ sym (shown_is (keeping.log new.board) new.maps other kept keeps.shows (e ∙ there)))
         (made told))
         (sound.behind other))
@@ -265,7 +265,7 @@ module _ {D B : Type 0} (keeping : Keeping D B) (Is : Making) (same : Respects I
   stays_on number fault old new sound step =
       let same_log : keeping.log new.board ≡ keeping.log old.board = ap keeping.log step.not_shown in
       let front : IsFront (keeping.log old.board) (keeping.log new.board) = front_none (keeping.log old.board) (keeping.log new.board) same_log in (
-        step_sound number old new sound step.upheld
+        step_sound number old new front sound step.upheld
             (opt_second (slice_get old.maps number) (slice_get new.maps number) (same_places new.maps old.maps number step.upheld.elsewhere.count)
             (λ before after there here is told. still_behind before after there here is told)
             step.still),
@@ -303,7 +303,7 @@ module _ {D B : Type 0} (keeping : Keeping D B) (Is : Making) (same : Respects I
       number old.maps new.maps within step.upheld.elsewhere.count
       (λ before after one. elim one [ inl none ↦ front_same keeping.log old.board new.board none.0 | inr more ↦ front_more number more.0 (keeping.log old.board) (keeping.log new.board) more.2 ])
       step.shown in (
-        step_sound number old new sound step.upheld
+        step_sound number old new front sound step.upheld
             (opt_one (slice_get new.maps number) (λ kept there level told. subst (λ (s : MapStanding). IsBehindMade Is number (keeping.log new.board) s) (sym level) tt) step.level),
         step_passes number old new step.upheld front (stands_meanwhile number old new sound front step.meanwhile)
             (λ told. reopened (the_map old.maps number within) told)
@@ -352,7 +352,7 @@ module _ {D B : Type 0} (keeping : Keeping D B) (Is : Making) (same : Respects I
           | inr e ↦ grows_none Is (keeping.log old.board) (keeping.log new.board) (ap (λ (m : rising.PublisherState). m.log) e)
         ]
       ] in (
-        step_sound number old new sound upheld
+        step_sound number old new front sound upheld
             (opt_one {P = λ kept. IsStanding keeping.history kept} (slice_get new.maps number) (λ kept there standing told. standing_so (the_map old.maps number within) kept there) upheld.standing),
         step_passes number old new upheld front
             (meanwhile number old new sound front

@@ -7,6 +7,7 @@ use Rattle.yp_io.specs.declared.stream.Peer.{Peer}
 use Rattle.yp_version.specs.Versions.{MapVersion}
 use Rattle.yp_board.specs.Catalogues.{Catalogue}
 use Rattle.yp_board.specs.Logs.{Log, shown, starts}
+use Rattle.yp_board.specs.Views.{IsFront}
 use Rattle.yp_answer.specs.declared.procedure.Path.TheVariants.{Stream}
 use Rattle.yp_answer.specs.Maps.{Maps}
 use Rattle.yp_answer.specs.Served.{AreServed, maps_on}
@@ -96,14 +97,16 @@ pub record GotResponse {D B E : Type 0} (service : Service D B E) (turns : List 
 abbrev pub IsCalledFor : {D B E : Type 0} → Service D B E → List Turn → MakeJob → Type 0
 IsCalledFor service turns job = (turn : Turn) × (xid : ℕ) × GotResponse service turns turn (Open xid job)
 
--- A version was made of a map behind a log: one of these records called for this map, and the version was built, of
--- what the desk tells, for what the log shows of the map.
+-- A version was made of a map behind a log: one of these records called for this map, and the version was made, of
+-- what the desk tells or of the netgroups that a front of the log shows, for what the log shows of the map.
 pub record WasMade {D B E : Type 0} (service : Service D B E) (turns : List Turn) (told : Told)
     (number : ℕ) (log : Log) (version : MapVersion) : Type 0 where
   pub job : MakeJob
   pub of_map : job.map ≡ number
   pub called : IsCalledFor service turns job
-  pub anew : IsAnew told (task_of service.catalogue job (shown number log)) version
+  pub at : Log
+  pub front : IsFront at log
+  pub anew : IsAnew told (task_of service.catalogue job at (shown number log)) version
 
 -- a record of a run: the host before it and the one behind it, and what came of it
 pub record Transition (H : Type 0) : Type 0 where

@@ -1,3 +1,4 @@
+pub mod Anew
 pub mod Locals
 pub mod Connections
 pub mod workers

@@ -12,6 +12,7 @@ ghost use Rattle.yp_publisher.specs.Standing.{Level, OfMap};
 ghost use Rattle.yp_publisher.specs.Keeping.{keeping_of};
 ghost use Rattle.yp_host.specs.Locals.{seen_of, told_by, IsUsed, LeavesDial};
 ghost use Rattle.yp_host.specs.inside.Locals.{telling_by};
+ghost use Rattle.yp_answer.specs.Make.{netgroups_at};
 ghost use Rattle.yp_answer.specs.Causes.{IsAnew};
 ghost use Rattle.yp_host.specs.Anew.{IsUnbuilt};
 ghost use Rattle.yp_host.specs.Making.{task_on, Tries, Makes, MapIsMade};
@@ -162,6 +163,7 @@ fn build_for<D: Disk, B: Show, A: Dial, T: Texts, C: Clock>(
 ) -> Result<Version, XfrStat>
     requires map { job.map < length publisher.now.maps }
     requires named { job.map < length publisher.now.catalogue.maps }
+    requires all { length publisher.now.maps ≡ length publisher.now.catalogue.maps }
     ensures anew { IfOk result (IsAnew (told_by T.Texts C.Clock desk.old)
         (task_on (keeping_of D.history D.faults B.log) job publisher.now)) }
     ensures follows { IfOk result (λ version. OfMap job.map publisher.now.maps (λ kept.
@@ -172,7 +174,19 @@ fn build_for<D: Disk, B: Show, A: Dial, T: Texts, C: Clock>(
     ensures dial { LeavesDial (telling_by T.Texts C.Clock A.Dial) desk.old desk.new }
 {
     let shown = held(publisher, job.map);
-    build_anew(alloc, rt, desk, publisher.catalog(), job, shown)
+    let netgroups = netgroups(publisher, job);
+    build_anew(alloc, rt, desk, publisher.catalog(), job, netgroups, shown)
+}
+
+/// The version that is shown of the netgroups in the domain of a map.
+fn netgroups<D: Disk, B: Show>(publisher: &Publisher<D, B>, job: MakeJob) -> Option<&Version>
+    requires map { job.map < length publisher.now.catalogue.maps }
+    requires all { length publisher.now.maps ≡ length publisher.now.catalogue.maps }
+    ensures { option_map (λ version. version.now) result
+        ≡ netgroups_at publisher.now.catalogue job (B.log publisher.now.board) }
+{
+    let map = job.netgroups(publisher.catalog())?;
+    held(publisher, map)
 }
 
 /// The version that is shown of a map.

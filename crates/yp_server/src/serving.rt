@@ -15,7 +15,7 @@ ghost use Rattle.yp_publisher.specs.inside.Rising.{IsStart};
 ghost use Rattle.yp_publisher.specs.sharing.Failures.{disks_of, faults_over};
 ghost use Rattle.yp_server.specs.Serving.{conduct_at, IsAtStart, DisksStand, ServesDatagrams};
 ghost use Rattle.yp_host.specs.workers.Charges.{totals_of};
-ghost use Rattle.yp_host.specs.workers.Makings.{IsBuiltOfText};
+ghost use Rattle.yp_host.specs.workers.Makings.{IsBuiltAsNamed};
 ghost use Rattle.yp_host.specs.inside.workers.Makings.{SiteBuilds};
 ghost use Rattle.yp_host.specs.workers.Wires.{CoversOrders, CoversSources};
 ghost use Rattle.yp_transfer.specs.inside.Dials.{dial_by};
@@ -132,7 +132,7 @@ where
     // Where what was shown came from: so many makes were answered SUCC, and all else was fetched.
     ensures origins { IfOk result (λ served. IsStart (publisher_state B.log publisher)
         → AreTold D.history served.disks.items → ComesFrom D.history
-        (IsBuiltOfText (T.text desk.texts) publisher.catalogue) (publisher_state B.log publisher) publisher.catalogue
+        (IsBuiltAsNamed (T.text desk.texts) publisher.catalogue) (publisher_state B.log publisher) publisher.catalogue
         (B.log served.writer) served.disks.items served.totals.made (A.past desk.dial) (A.past served.desk.dial)) }
 
     // Whom the dial asked, what for, and whom it told what: it was used for transfers of the maps alone.

@@ -265,7 +265,16 @@ fn made_maps(rt: HostRuntime) {
     }
 }
 
-static UNMADE_MAPS: [Making<'static>; 15] = [
+static UNMADE_MAPS: [Making<'static>; 16] = [
+    Making {
+        row: "netgroups by users where no netgroups are served, whatever texts there are",
+        map: (b"lab", b"netgroup.byuser"),
+        text: b"a\t(-,joe,)\n",
+        source: b"netgroup.byuser",
+        make: "80000044 00000002 NAMED 0000000f 6e657467 726f7570 2e627975 73657200",
+        made: NOMAP,
+        ..UNMADE
+    },
     Making {
         row: "a call from another host",
         peer: Peer {

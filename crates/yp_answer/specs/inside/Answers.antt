@@ -8,7 +8,7 @@ use Rattle.yp_answer.specs.declared.procedure.Path.{Path}
 use Rattle.yp_answer.specs.declared.procedure.Procedure.{Procedure}
 use Rattle.yp_answer.specs.declared.caller.Caller.{Caller}
 use Rattle.yp_answer.specs.declared.calls.Answered.{Answered}
-use Rattle.yp_answer.specs.inside.Make.{IsReadAsNamed}
+use Rattle.yp_answer.specs.inside.Make.{IsMadeAsNamed}
 use Rattle.yp_answer.specs.declared.make.MakeJob.{MakeJob}
 use Rattle.yp_answer.specs.declared.transfer.TransferJob.{TransferJob}
 use Rattle.yp_answer.specs.inside.Transfer.{taken_view}
@@ -45,10 +45,10 @@ pub record TakesTransfer (maps : Maps) (expected : Response) (len : ℕ) (job : 
   pub within : len ≤ length buf
   pub takes : expected ≡ Takes (take len buf) (taken_view job)
 
--- The reply waits for a map, one of the catalogue, that is made first, of the text that its name says.
+-- The reply waits for a map, one of the catalogue, that is made first, of what its name says.
 pub record WaitsForMake (maps : Maps) (expected : Response) (xid : ℕ) (job : MakeJob) : Type 0 where
   pub inside : job.map < length maps.catalogue.maps
-  pub read : IsReadAsNamed maps.catalogue job
+  pub read : IsMadeAsNamed maps.catalogue job
   pub left_open : expected ≡ Open xid job
 
 -- an answer has this reply: silence, the front of the buffer, which may take a transfer, or a stream; or it has the map

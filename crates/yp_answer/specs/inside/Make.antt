@@ -1,10 +1,9 @@
--- That a map is made of the text that its name says.
+-- That a map is made of what its name says.
 use Rattle.std.specs.Prelude.{◌≡◌}
 use Rattle.yp_board.specs.Catalogues.{Catalogue}
-use Rattle.yp_texts.specs.Readings.{reading_of}
 use Rattle.yp_answer.specs.declared.make.MakeJob.{MakeJob}
-use Rattle.yp_answer.specs.Make.{map_name}
+use Rattle.yp_answer.specs.Make.{map_name, making_of}
 
--- The text of a map is read as the map's name says.
-abbrev pub IsReadAsNamed : Catalogue → MakeJob → Type 0
-IsReadAsNamed catalogue job = job.reading ≡ reading_of (map_name job.map catalogue)
+-- A map is made of what its name says.
+abbrev pub IsMadeAsNamed : Catalogue → MakeJob → Type 0
+IsMadeAsNamed catalogue job = job.making ≡ making_of (map_name job.map catalogue)

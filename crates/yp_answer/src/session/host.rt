@@ -5,7 +5,7 @@ ghost use Rattle.yp_io.specs.declared.stream.Peer.{Peer};
 ghost use Rattle.yp_messages.specs.declared.transfer.XfrStat.{XfrStat};
 ghost use Rattle.yp_answer.specs.declared.make.MakeJob.{MakeJob};
 ghost use Rattle.yp_answer.specs.Causes.{Told};
-ghost use Rattle.yp_answer.specs.inside.Make.{IsReadAsNamed};
+ghost use Rattle.yp_answer.specs.inside.Make.{IsMadeAsNamed};
 ghost use Rattle.yp_messages.specs.Numbers.{name_max};
 ghost use Rattle.yp_answer.specs.Transfer.{Taken};
 ghost use Rattle.yp_answer.specs.inside.Transfer.{taken_view};
@@ -27,10 +27,10 @@ pub trait Host: View {
     /// What the making of a map does to the whole value: the map, the status, before and after.
     ghost made: { MakeJob → XfrStat → Self → Self → Type 0 };
 
-    /// Makes a map of the catalogue anew, and answers how that went: SUCC, REFUSED, AGE, DBM, FILE or RSRC.
+    /// Makes a map of the catalogue anew, and answers how that went: SUCC, REFUSED, NOMAP, AGE, DBM, FILE or RSRC.
     fn make(&mut self, job: MakeJob) -> XfrStat
         requires inside { job.map < length (Self.seen self.old).catalogue.maps }
-        requires read { IsReadAsNamed (Self.seen self.old).catalogue job }
+        requires as_named { IsMadeAsNamed (Self.seen self.old).catalogue job }
         ensures { Fulfils (conduct_of Self.seen told counts Self.stepped made carried) job result self.old self.new };
 
     /// What the carrying out of a transfer does to the whole value: the transfer, its caller, before and after.

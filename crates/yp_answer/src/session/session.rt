@@ -3,7 +3,7 @@
 ghost use Rattle.std.specs.Prelude.{◌≡◌, ◌≢◌, ℕ, ◌<◌, ◌≤◌, true, false, IsTrue, [], length, take, IfOk, OnOk, OnErr};
 ghost use Rattle.yp_io.specs.Counts.{CountsFaults, HasRisen};
 ghost use Rattle.yp_messages.specs.declared.transfer.XfrStat.{XfrStat};
-ghost use Rattle.yp_answer.specs.inside.Make.{IsReadAsNamed};
+ghost use Rattle.yp_answer.specs.inside.Make.{IsMadeAsNamed};
 ghost use Rattle.yp_answer.specs.Numbers.{record_max};
 ghost use Rattle.yp_answer.specs.Reply.{make_reply};
 ghost use Rattle.yp_answer.specs.session.Wires.{NeverFalls, SeesMore, sink_of, wire_of};
@@ -213,7 +213,7 @@ fn reply_to<K: Sink, H: Host>(
 pub(crate) fn make<H: Host>(host: &mut H, job: MakeJob, xid: u32, buf: &mut [u8]) -> usize
     requires room { record_max ≤ length buf.old }
     requires inside { job.map < length (H.seen host.old).catalogue.maps }
-    requires read { IsReadAsNamed (H.seen host.old).catalogue job }
+    requires as_named { IsMadeAsNamed (H.seen host.old).catalogue job }
     ensures made { (stat : XfrStat) × (take result buf.new ≡ make_reply xid stat)
         × Fulfils (conduct_by H.Host) job stat host.old host.new }
     ensures some { 0 < result }

@@ -6,13 +6,13 @@ ghost use Rattle.yp_io.specs.Counts.{next_count};
 ghost use Rattle.yp_io.specs.Texts.{text_max};
 ghost use Rattle.yp_board.specs.Logs.{shown};
 ghost use Rattle.yp_board.specs.Views.{IsFront};
-ghost use Rattle.yp_texts.specs.After.{Material, built_after, HasLaterOrder};
-ghost use Rattle.yp_answer.specs.Causes.{IsCaused, task_at};
+ghost use Rattle.yp_texts.specs.After.{Material, basis_of, built_after, HasLaterOrder};
+ghost use Rattle.yp_answer.specs.Causes.{IsCaused};
 
 use std::alloc::Global;
 use std::sync::Arc;
 use yp_answer::session::Host;
-use yp_answer::{MakeJob, TransferJob};
+use yp_answer::{MakeJob, Making, TransferJob};
 use yp_board::{Catalog, PlainBoard, Show, View};
 use yp_io::{NoMemory, Peer};
 use yp_messages::XfrStat;
@@ -22,8 +22,8 @@ use yp_version::Version;
 // The text of each map.
 const TEXT: &[u8] = b"alpha:1";
 
-// It tells no text and no moment, so that group.bygid has DBM. hosts.byname has FILE and hosts.byaddr RSRC, and the
-// others are built of the text.
+// It tells no text and no moment, so that group.bygid has DBM. hosts.byname has FILE, hosts.byaddr and what is made of
+// netgroups RSRC, and the others are built of the text.
 #[derive(Drop)]
 pub struct TestHost {
     pub board: PlainBoard,
@@ -44,12 +44,15 @@ fn build_next(
     alloc: Global,
     rt: HostRuntime,
     job: MakeJob,
+    reading: Reading,
     text: &[u8],
 ) -> Result<Version, XfrStat>
     requires inside { job.map < length board.now.catalogue.maps }
+    requires read { job.making ≡ Making.Text reading }
     requires limit { length text.now ≤ text_max }
     ensures built { IfOk result (λ version. (material : Material)
-        × (built_after (task_at board.now.catalogue job board.now.known).basis material ≡ Ok version)
+        × (built_after (basis_of reading board.now.catalogue.own None (shown job.map board.now.known)) material
+        ≡ Ok version)
         × HasLaterOrder (shown job.map board.now.known) version) }
     ensures unbuilt { IfErr result (λ stat. IsCaused (record { text = λ file. None; moment = None })
         board.now.catalogue job stat board.now.known board.now.known) }
@@ -63,7 +66,7 @@ fn build_next(
     let Ok(text) = Vec::from_slice(alloc, text) else {
         return Err(XfrStat::Rsrc);
     };
-    match build_after(alloc, &rt, job.reading, text, last, None, 100, own) {
+    match build_after(alloc, &rt, reading, text, last, None, 100, own) {
         Ok(version) => Ok(version),
         Err(AfterFault::Build(BuildFault::OrderSpent)) => Err(XfrStat::Age),
         Err(_) => Err(XfrStat::Rsrc),
@@ -71,15 +74,22 @@ fn build_next(
 }
 
 // Builds a map anew, and shows that.
-fn make_next(board: &mut PlainBoard, alloc: Global, rt: HostRuntime, job: MakeJob) -> XfrStat
-    requires { job.map < length board.old.catalogue.maps }
+fn make_next(
+    board: &mut PlainBoard,
+    alloc: Global,
+    rt: HostRuntime,
+    job: MakeJob,
+    reading: Reading,
+) -> XfrStat
+    requires inside { job.map < length board.old.catalogue.maps }
+    requires read { job.making ≡ Making.Text reading }
     ensures caused { IsCaused (record { text = λ file. None; moment = None })
         board.old.catalogue job result board.old.known board.new.known }
     ensures counted { result ≢ XfrStat.File }
     ensures grown { IsFront board.old.known board.new.known }
     ensures catalogue { board.new.catalogue ≡ board.old.catalogue }
 {
-    let version = match build_next(board, alloc, rt, job, TEXT) {
+    let version = match build_next(board, alloc, rt, job, reading, TEXT) {
         Ok(version) => version,
         Err(stat) => return stat,
     };
@@ -123,15 +133,15 @@ impl Host for TestHost {
 
     fn make(&mut self, job: MakeJob) -> XfrStat {
         self.makes = self.makes.saturating_add(1);
-        match job.reading {
-            Reading::Text(Kind::GroupBygid) => XfrStat::Dbm,
-            Reading::Text(Kind::HostsByname) => {
+        match job.making {
+            Making::Text(Reading::Text(Kind::GroupBygid)) => XfrStat::Dbm,
+            Making::Text(Reading::Text(Kind::HostsByname)) => {
                 self.files = self.files.saturating_add(1);
                 XfrStat::File
             }
-            Reading::Text(Kind::HostsByaddr) => XfrStat::Rsrc,
-            _ => {
-                let stat = make_next(&mut self.board, self.alloc, self.rt, job);
+            Making::Text(Reading::Text(Kind::HostsByaddr)) | Making::Netgroups(_) => XfrStat::Rsrc,
+            Making::Text(reading) => {
+                let stat = make_next(&mut self.board, self.alloc, self.rt, job, reading);
                 self.shown = self.shown || stat == XfrStat::Succ;
                 stat
             }

@@ -17,7 +17,7 @@ use Rattle.yp_rpc.specs.Turns.{InboxTells}
 use Rattle.yp_publisher.specs.sharing.Failures.{disks_of}
 use Rattle.yp_host.specs.workers.Workers.{WorkerState}
 use Rattle.yp_host.specs.workers.Charges.{totals_of}
-use Rattle.yp_host.specs.workers.Makings.{IsBuiltOfText}
+use Rattle.yp_host.specs.workers.Makings.{IsBuiltAsNamed}
 use Rattle.yp_host.specs.workers.Wires.{CoversOrders, CoversSources}
 use Rattle.yp_host.specs.workers.Uses.{IsUsedForTransfers}
 use Rattle.yp_worker.specs.Receptions.{ListenTells, IsListenerState, terms_of}
@@ -67,10 +67,11 @@ first_of maps = record { log = starts 0 (versions maps); standings = map (λ kep
 -- log. So many records of the connections were read, and this is what all workers counted of makes and transfers,
 -- summed up. The FILEs are at most as many as the faults of the texts and of the disks, the orders that were reached at
 -- most as many as the wires that begin with one, and the failed sources at most as many as the faults of the dial and
--- the wires that give no version. At least as many versions were shown as makes were answered SUCC, each built of the
--- text of its map's kind behind what was shown of the map. The other versions that were shown, with the maps that are
--- behind a version that wasn't built so, are at most as many as the wires that give a version. The dial was used for
--- transfers of the maps alone: to fetch one from a host of the table, and to tell a caller.
+-- the wires that give no version. At least as many versions were shown as makes were answered SUCC, each made of the
+-- text of its map, or of netgroups that the log shows up to there, behind what was shown of the map. The other versions
+-- that were shown, with the maps that are behind a version that wasn't built so, are at most as many as the wires that
+-- give a version. The dial was used for transfers of the maps alone: to fetch one from a host of the table, and to tell
+-- a caller.
 pub record IsAccounted {D : Type 0} (history : D → Option History) (faults : D → ℕ) (setup : ServeSetup)
     (first : PublisherState)
     (maps : List (StoredMap D)) (most : ℕ) (hosted : Hosted) (old new : ServerTells) (log : Log)
@@ -81,7 +82,7 @@ pub record IsAccounted {D : Type 0} (history : D → Option History) (faults : D
   pub orders : CoversOrders old.supply.dial.past new.supply.dial.past hosted.totals.outcomes.reached
   pub sources : CoversSources old.supply.dial.past new.supply.dial.past old.supply.dial.faults new.supply.dial.faults
       hosted.totals.outcomes.source
-  pub origins : AreTold history disks → ComesFrom history (IsBuiltOfText setup.text setup.catalogue) first
+  pub origins : AreTold history disks → ComesFrom history (IsBuiltAsNamed setup.text setup.catalogue) first
       setup.catalogue log disks hosted.totals.made old.supply.dial.past new.supply.dial.past
   pub dialed : IsUsedForTransfers setup.hosts setup.catalogue.maps old.supply.dial new.supply.dial
 

@@ -1,5 +1,5 @@
 -- Why a map that a worker made has its status.
-use Rattle.std.proofs.Common.{◌≡◌, ◌≢◌, ℕ, ◌+◌, ◌≤◌, true, List, [], ◌∷◌, Option, Some, None, Err, IfSome, is_some}
+use Rattle.std.proofs.Common.{◌≡◌, ◌≢◌, ℕ, ◌+◌, ◌≤◌, true, List, [], ◌∷◌, Option, Some, None, is_some}
 use Rattle.std.proofs.Common.{arith, refl, sym, ◌∙◌, ap, subst, false}
 use Rattle.std.proofs.lemmas.List.{append-nil}
 use Rattle.std.specs.Option.{option_map_or}
@@ -10,19 +10,19 @@ use Rattle.yp_map_file.specs.declared.fault.SlotFault.TheVariants as slot
 use Rattle.yp_board.specs.Catalogues.{Catalogue}
 use Rattle.yp_board.specs.Logs.{Log, shown}
 use Rattle.yp_board.specs.Views.{IsFront}
+use Rattle.yp_board.specs.Between.{Between}
 use Rattle.yp_texts.specs.Builds.{order_max}
-use Rattle.yp_texts.specs.declared.reading.Reading.{Reading}
-use Rattle.yp_texts.specs.After.{HasFault, other_master, built_after, HasLaterOrder}
+use Rattle.yp_texts.specs.After.{other_master, HasLaterOrder}
 use Rattle.yp_texts.specs.inside.Laws.{BuiltIsBuiltBehind}
 use Rattle.yp_publisher.specs.declared.install.Origin.TheVariants.{Built}
 use Rattle.yp_publisher.specs.declared.install.InstallFault.TheVariants as fault
 use Rattle.yp_publisher.specs.Installs.{offer, not_following}
 use Rattle.yp_publisher.specs.Rising.{with_shown}
-use Rattle.yp_answer.specs.Make.{job_of, text_for}
-use Rattle.yp_answer.specs.inside.Make.{IsReadAsNamed}
+use Rattle.yp_answer.specs.declared.make.Making.{Making}
+use Rattle.yp_answer.specs.declared.make.Making.TheVariants.{Text, Netgroups}
+use Rattle.yp_answer.specs.inside.Make.{IsMadeAsNamed}
 use Rattle.yp_answer.specs.declared.make.MakeJob.{MakeJob}
-use Rattle.yp_answer.specs.Causes.{Told, IsAnew, IsCaused, task_of, task_at, HasBadRowAt}
-use Rattle.yp_answer.specs.Causes as causes
+use Rattle.yp_answer.specs.Causes.{Told, IsAnew, IsCaused, RowIsBad, NetgroupsAreMissing, task_of, task_at}
 use Rattle.yp_host.specs.Locals.{Telling}
 use Rattle.yp_host.specs.Anew.{IsUnbuilt}
 use Rattle.yp_publisher.specs.declared.sharing.locked.ShareFault.{ShareFault}
@@ -36,6 +36,7 @@ use Rattle.yp_host.specs.inside.workers.Desks.{telling_texts}
 use Rattle.yp_host.specs.inside.workers.Outcomes.{shared_stat}
 use Rattle.yp_host.specs.workers.Makings.{IsShownLast, IsMadeSo}
 use Rattle.yp_host.specs.inside.workers.Makings.{SiteBuilds, height, IsOvertaken}
+use Rattle.yp_host.proofs.Reversing.{row_is_bad, none_shown, made_behind}
 use Rattle.yp_host.proofs.workers.Reasons.{followed, of_another, not_lower}
 use Rattle.yp_host.proofs.workers.Learning.{front_same, front_then}
 
@@ -46,17 +47,6 @@ another (Some name) e = (name, refl)
 
 -- ---- why none is built
 
-bad_row : (told : Told) (served : Catalogue) (job : MakeJob) (log : Log) (bad : HasBadRowAt told (task_at served job log)) (text : Option (List ℕ))
-    → IfSome text (λ known. bad.material.text ≡ known) → IfSome text (causes.HasBadRow served job)
-bad_row told served job log bad None h = tt
-bad_row told served job log bad (Some text) h = record {
-  log = log;
-  moment = bad.material.moment;
-  fault = bad.fault;
-  of_row = bad.of_row;
-  refused = subst (λ (t : List ℕ). built_after (task_at served job log).basis (record { text = t; moment = bad.material.moment }) ≡ Err (HasFault bad.fault)) h bad.cause;
-}
-
 pub unmade : {E : Type 0} (text : List ℕ → Option (List ℕ)) (telling : Telling E) (served : Catalogue) (job : MakeJob) (log : Log) (stat : XfrStat)
     (old new : E) → IsUnbuilt (telling_texts text telling) (task_at served job log) stat old new
     → IsMadeSo (texts_alone text) served job stat log log
@@ -64,11 +54,12 @@ unmade text telling served job log Refused old new none =
     let master = another (other_master served.own (shown job.map log)) none in (log, front_same log, master.0, master.1)
 unmade text telling served job log Age old new none = (log, front_same log, none.1)
 unmade text telling served job log Dbm old new none =
-    bad_row (texts_alone text) served job log none.1 (text (text_for served job)) none.1.of_told.text
+    row_is_bad (texts_alone text) served job job.making log log log (front_same log) (front_same log) none.1
 unmade text telling served job log File old new none = tt
 unmade text telling served job log Rsrc old new none = tt
 unmade text telling served job log Succ old new none = absurd none
-unmade text telling served job log Nomap old new none = absurd none
+unmade text telling served job log Nomap old new none =
+    none_shown served job job.making log log log (front_same log) (front_same log) none.1
 unmade text telling served job log Nodom old new none = absurd none
 unmade text telling served job log Rpc old new none = absurd none
 unmade text telling served job log Maddr old new none = absurd none
@@ -81,29 +72,29 @@ unmade text telling served job log Xfrerr old new none = absurd none
 
 -- ---- what is shown
 
--- a version that was built of the texts was built behind whatever it follows
-module _ (law : BuiltIsBuiltBehind) (text : List ℕ → Option (List ℕ)) (served : Catalogue) (job : MakeJob) (before : Option MapVersion)
-    (version : MapVersion) (anew : IsAnew (texts_alone text) (task_of served job before) version)
+-- a version that was made of what a log shows was made so behind whatever it follows
+module _ (law : BuiltIsBuiltBehind) (text : List ℕ → Option (List ℕ)) (served : Catalogue) (job : MakeJob) (at : Log) (before : Option MapVersion)
+    (version : MapVersion) (anew : IsAnew (texts_alone text) (task_of served job at before) version)
     (most : version.order ≤ order_max) where
   anew_behind : (last : Option MapVersion) → not_following served.own (offer (marked_behind version last) Built false) last ≡ None
-      → IsAnew (texts_alone text) (task_of served job last) (marked_behind version last)
+      → IsAnew (texts_alone text) (task_of served job at last) (marked_behind version last)
   anew_behind last follows =
-      let found = followed served.own (marked_behind version last) last follows in record {
-        material = record anew.material { moment = version.order };
-        of_told = record { text = anew.of_told.text; moment = tt };
-        built = law (task_of served job before).basis anew.material version last anew.built most found.0 found.1;
-      }
+      let found = followed served.own (marked_behind version last) last follows in
+      made_behind law (texts_alone text) refl (task_of served job at before).matter served.own before last version anew most found.0 found.1
 
-pub built_there : BuiltIsBuiltBehind → (text : List ℕ → Option (List ℕ)) (served : Catalogue) (job : MakeJob)
-    (before : Option MapVersion) (version : MapVersion)
-    → IsAnew (texts_alone text) (task_of served job before) version → version.order ≤ order_max
-    → IsReadAsNamed served job → (Is : Building) → SiteBuilds text served Is
-    → IsBuiltThere Is job.map served.own version Built
-built_there law text served job before version anew most read Is builds last follows =
-    builds job.map last (marked_behind version last) (
-    subst (λ (r : Reading). IsAnew (texts_alone text) (task_of served (record job { reading = r }) last) (marked_behind version last)) read
-    (anew_behind law text served job before version anew most last follows)
-    )
+pub built_there : BuiltIsBuiltBehind → (text : List ℕ → Option (List ℕ)) (served : Catalogue) (job : MakeJob) (at : Log)
+    (version : MapVersion)
+    → IsAnew (texts_alone text) (task_at served job at) version → version.order ≤ order_max
+    → IsMadeAsNamed served job → (Is : Building) → SiteBuilds text served Is
+    → IsBuiltThere Is at job.map served.own version Built
+built_there law text served job at version anew most named Is builds = (
+  at,
+  front_same at,
+  λ last follows. builds at job.map last (marked_behind version last) (
+      subst (λ (m : Making). IsAnew (texts_alone text) (task_of served (record job { making = m }) at last) (marked_behind version last)) named
+      (anew_behind law text served job at (shown job.map at) version anew most last follows)
+      ),
+)
 
 pub shown_last : BuiltIsBuiltBehind → (text : List ℕ → Option (List ℕ)) (served : Catalogue) (job : MakeJob) (version : MapVersion) (old new : Log)
     → IsAnew (texts_alone text) (task_at served job old) version → version.order ≤ order_max
@@ -114,7 +105,12 @@ shown_last law text served job version old new anew most s =
       version = offered;
       before = s.before;
       begins = s.begins;
-      anew = anew_behind law text served job (shown job.map old) version anew most last s.follows;
+      anew = record {
+        log = old;
+        begins = front_same old;
+        goes_on = s.begins;
+        holds = anew_behind law text served job old (shown job.map old) version anew most last s.follows;
+      };
       over = (followed served.own offered last s.follows).1;
       entry = s.entry;
     }
@@ -163,25 +159,48 @@ overtaken own number version (Unfit fault.DiskFault) old new over most h e = abs
 
 -- ---- a log before
 
+between_later : {P : Log → Type 0} (first old new : Log) → IsFront first old → Between old new P → Between first new P
+between_later first old new front h = record {
+  log = h.log;
+  begins = front_then first old h.log front h.begins;
+  goes_on = h.goes_on;
+  holds = h.holds;
+}
+
+missing_later : (served : Catalogue) (job : MakeJob) (making : Making) (first old new : Log) → IsFront first old
+    → NetgroupsAreMissing served job making old new → NetgroupsAreMissing served job making first new
+missing_later served job (Text reading) first old new front h = absurd h
+missing_later served job (Netgroups field) first old new front h = between_later first old new front h
+
+bad_later : (told : Told) (served : Catalogue) (job : MakeJob) (making : Making) (first old new : Log) → IsFront first old
+    → RowIsBad told served job making old new → RowIsBad told served job making first new
+bad_later told served job (Text reading) first old new front h = h
+bad_later told served job (Netgroups field) first old new front h = between_later first old new front h
+
 pub made_later : (told : Told) (served : Catalogue) (job : MakeJob) (stat : XfrStat) (first old new : Log) → IsFront first old
     → IsMadeSo told served job stat old new → IsMadeSo told served job stat first new
 made_later told served job Succ first old new front h = record {
   version = h.version;
   before = h.before;
   begins = front_then first old h.before front h.begins;
-  anew = h.anew;
+  anew = record {
+    log = h.anew.log;
+    begins = front_then first old h.anew.log front h.anew.begins;
+    goes_on = h.anew.goes_on;
+    holds = h.anew.holds;
+  };
   over = h.over;
   entry = h.entry;
 }
 made_later told served job Age first old new front h = h
-made_later told served job Nomap first old new front h = h
+made_later told served job Nomap first old new front h = missing_later served job job.making first old new front h
 made_later told served job Nodom first old new front h = h
 made_later told served job Rsrc first old new front h = h
 made_later told served job Rpc first old new front h = h
 made_later told served job Maddr first old new front h = h
 made_later told served job Yperr first old new front h = h
 made_later told served job Badargs first old new front h = h
-made_later told served job Dbm first old new front h = h
+made_later told served job Dbm first old new front h = bad_later told served job job.making first old new front h
 made_later told served job File first old new front h = h
 made_later told served job Skew first old new front h = h
 made_later told served job Clear first old new front h = h
@@ -195,7 +214,12 @@ is_caused told served job Succ old new h = record {
   version = h.version;
   before = h.before;
   entry = ([], h.entry ∙ sym (append-nil (with_shown job.map h.version h.before)));
-  anew = h.anew;
+  anew = record {
+    log = h.anew.log;
+    begins = h.anew.begins;
+    goes_on = front_then h.anew.log h.before new h.anew.goes_on ((job.map, h.version) ∷ [], h.entry);
+    holds = h.anew.holds;
+  };
   over = record { log = h.before; begins = h.begins; goes_on = ((job.map, h.version) ∷ [], h.entry); holds = h.over };
 }
 is_caused told served job Age old new h = h

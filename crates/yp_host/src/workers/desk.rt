@@ -4,7 +4,7 @@ ghost use Rattle.std.specs.Prelude.{◌≡◌, ℕ, ◌+◌, ◌<◌, ◌≤◌,
 ghost use Rattle.std.specs.Prelude.{IsNone, false};
 ghost use Rattle.std.specs.Option.{option_map_or};
 ghost use Rattle.yp_texts.specs.After.{HasLaterOrder};
-ghost use Rattle.yp_answer.specs.Causes.{IsAnew, task_of};
+ghost use Rattle.yp_answer.specs.Causes.{IsAnew, task_with};
 ghost use Rattle.yp_io.specs.Dials.{wires_told};
 ghost use Rattle.yp_transfer.specs.inside.Dials.{dial_by};
 ghost use Rattle.yp_messages.specs.Numbers.{name_max};
@@ -234,20 +234,23 @@ impl<S: Site + Accounts + Supplies, A: Dial, T: Texts, C: Clock> SharedDesk<S, A
         rt: &impl RandomSource,
         catalog: &Catalog,
         job: MakeJob,
+        netgroups: Option<&Version>,
         shown: Option<&Version>,
         charges: &mut Charges<S>,
     ) -> Result<Version, XfrStat>
         requires { job.map < length catalog.now.maps }
         ensures anew { IfOk result (IsAnew (texts_alone S.text)
-            (task_of catalog.now job (option_map (λ version. version.now) shown.entry))) }
+            (task_with catalog.now job (option_map (λ version. version.now) netgroups.entry)
+            (option_map (λ version. version.now) shown.entry))) }
         ensures over { IfOk result (HasLaterOrder (option_map (λ version. version.now) shown.entry)) }
         ensures unbuilt { IfErr result (λ stat. IsUnbuilt (telling_texts S.text (telling_by T.Texts C.Clock A.Dial))
-            (task_of catalog.now job (option_map (λ version. version.now) shown.entry)) stat self.old self.new) }
+            (task_with catalog.now job (option_map (λ version. version.now) netgroups.entry)
+            (option_map (λ version. version.now) shown.entry)) stat self.old self.new) }
         ensures desk { IsUsed (telling_by T.Texts C.Clock A.Dial) self.old self.new }
         ensures dial { LeavesDial (telling_by T.Texts C.Clock A.Dial) self.old self.new }
         ensures charged { charges.new ≡ record charges.old { unread = charges.old.unread + unread_in result } }
     {
-        let built = build_anew(alloc, rt, &mut self.desk, catalog, job, shown);
+        let built = build_anew(alloc, rt, &mut self.desk, catalog, job, netgroups, shown);
         self.unread.add(&mut charges.unread, unread_in(&built));
         built
     }

@@ -1,8 +1,9 @@
 //! A map that a worker makes.
 
-ghost use Rattle.std.specs.Prelude.{◌≡◌, ◌<◌, None, length, IfSome};
+ghost use Rattle.std.specs.Prelude.{◌≡◌, ◌<◌, None, length, option_map, IfSome};
 ghost use Rattle.std.specs.Option.{option_map_or};
-ghost use Rattle.yp_answer.specs.inside.Make.{IsReadAsNamed};
+ghost use Rattle.yp_answer.specs.Make.{netgroups_at};
+ghost use Rattle.yp_answer.specs.inside.Make.{IsMadeAsNamed};
 ghost use Rattle.yp_publisher.specs.sharing.Shares.{Learns};
 ghost use Rattle.yp_host.specs.workers.Desks.{texts_alone};
 ghost use Rattle.yp_host.specs.workers.Makings.{IsMadeSo};
@@ -22,6 +23,7 @@ use yp_messages::XfrStat;
 use yp_publisher::Origin;
 use yp_publisher::sharing::{Accounts, Locked, Site, install_shared, tell_shared};
 use yp_texts::laws::built_is_built_behind;
+use yp_version::Version;
 
 /// Makes a map anew, behind all that was shown, and lets the reader know it. Where another version of the map is shown
 /// meanwhile, it is built again behind that, so the orders of the map rise with each round.
@@ -44,7 +46,7 @@ where
     R: RandomSource + Wait,
     requires builds { SiteBuilds S.text S.catalogue S.built }
     requires map { job.map < length S.catalogue.maps }
-    requires read { IsReadAsNamed S.catalogue job }
+    requires as_named { IsMadeAsNamed S.catalogue job }
     requires catalogue { (B.Reader.seen reader.old).catalogue ≡ S.catalogue }
     ensures made { IsMadeSo (texts_alone S.text) S.catalogue job result
         (B.Reader.seen reader.old).known (B.Reader.seen reader.new).known }
@@ -82,7 +84,7 @@ where
     R: RandomSource + Wait,
     requires builds { SiteBuilds S.text S.catalogue S.built }
     requires map { job.map < length S.catalogue.maps }
-    requires read { IsReadAsNamed S.catalogue job }
+    requires as_named { IsMadeAsNamed S.catalogue job }
     requires catalogue { (B.Reader.seen reader.old).catalogue ≡ S.catalogue }
     ensures made { IfSome result (λ stat. IsMadeSo (texts_alone S.text) S.catalogue job stat
         (B.Reader.seen reader.old).known (B.Reader.seen reader.new).known) }
@@ -92,7 +94,8 @@ where
     ensures charged { ChargesMore (option_map_or cost_of_make result no_cost) charges.old charges.new }
 {
     let shown = reader.held(job.map);
-    let version = match desk.build(alloc, rt, reader.catalog(), job, shown, charges) {
+    let netgroups = netgroups(reader, job);
+    let version = match desk.build(alloc, rt, reader.catalog(), job, netgroups, shown, charges) {
         Ok(version) => version,
         Err(stat) => return Some(stat),
     };
@@ -114,4 +117,14 @@ where
             stat => Some(stat),
         },
     }
+}
+
+/// The version of the netgroups in the domain of a map that a reader knows.
+fn netgroups<V: View>(reader: &V, job: MakeJob) -> Option<&Version>
+    requires { job.map < length (V.seen reader.now).catalogue.maps }
+    ensures { option_map (λ version. version.now) result
+        ≡ netgroups_at (V.seen reader.now).catalogue job (V.seen reader.now).known }
+{
+    let map = job.netgroups(reader.catalog())?;
+    reader.held(map)
 }

@@ -53,7 +53,7 @@ at_one {D} P number old new lt count f h =
 front_same : {B : Type 0} (log : B → Log) (old new : B) → new ≡ old → IsFront (log old) (log new)
 front_same log old new e = ([], ap log e ∙ sym (append-nil (log old)))
 
-front_then : (a b c : Log) → IsFront a b → IsFront b c → IsFront a c
+pub front_then : (a b c : Log) → IsFront a b → IsFront b c → IsFront a c
 front_then a b c first second =
     (first.0 ++ second.0, second.1 ∙ ap (λ (l : Log). l ++ second.0) first.1 ∙ append_assoc a first.0 second.0)
 

@@ -9,6 +9,7 @@ use Rattle.std.proofs.lemmas.Bool.{ne_eqb}
 use Rattle.yp_version.specs.Versions.{MapVersion}
 use Rattle.yp_board.specs.Catalogues.{Catalogue}
 use Rattle.yp_board.specs.Logs.{Log, shown}
+use Rattle.yp_board.specs.Views.{IsFront}
 use Rattle.yp_map_file.specs.declared.fault.SlotFault.{SlotFault}
 use Rattle.yp_publisher.specs.declared.install.Origin.{Origin}
 use Rattle.yp_publisher.specs.declared.install.Origin.TheVariants.{Built, Fetched}
@@ -27,22 +28,23 @@ use Rattle.yp_publisher.specs.sharing.Shares.{offer_behind}
 use Rattle.yp_publisher.specs.inside.sharing.Shares.{OpensAndInstalls, IsNotInstalled}
 use Rattle.yp_publisher.specs.sharing.Failures.{disks_of}
 use Rattle.yp_publisher.specs.inside.sharing.Failures.{made_by}
-use Rattle.yp_publisher.specs.sharing.Sources.{Building, AreFrom, AreBehind, IsSourced}
+use Rattle.yp_publisher.specs.sharing.Sources.{Building, IsBuiltBy, AreFrom, AreBehind, IsSourced}
 use Rattle.yp_publisher.specs.inside.sharing.Sources.{IsBuiltThere, fetched_in, IsSourcedAt}
 use Rattle.yp_publisher.proofs.sharing.Failing.{of_map, the_map, level_refusal}
+use Rattle.yp_publisher.proofs.sharing.Installing.{front_then, opened_front}
 use Rattle.yp_publisher.proofs.sharing.Telling.{opened_then, offered_then, shut_then}
 use Rattle.yp_publisher.proofs.sharing.Leading.{maps_tell}
 
 -- ---- one more entry
 
 from_built : (Is : Building) (log more : Log) (entry : ℕ × MapVersion) (built others : ℕ)
-    → Is entry.0 (shown entry.0 (log ++ more)) entry.1 → AreFrom Is log more built others
+    → IsBuiltBy Is (log ++ more) entry.0 (shown entry.0 (log ++ more)) entry.1 → AreFrom Is log more built others
     → AreFrom Is log (more ++ entry ∷ []) (suc built) others
 from_built Is log [] entry built others is from =
-    inl (subst (λ (l : Log). Is entry.0 (shown entry.0 l) entry.1) (append-nil log) is, (built, refl, from))
+    inl (subst (λ (l : Log). IsBuiltBy Is l entry.0 (shown entry.0 l) entry.1) (append-nil log) is, (built, refl, from))
 from_built Is log (next ∷ more) entry built others is from =
-    let there : Is entry.0 (shown entry.0 ((log ++ next ∷ []) ++ more)) entry.1 =
-    subst (λ (l : Log). Is entry.0 (shown entry.0 l) entry.1) (sym (append_assoc log (next ∷ []) more)) is in
+    let there : IsBuiltBy Is ((log ++ next ∷ []) ++ more) entry.0 (shown entry.0 ((log ++ next ∷ []) ++ more)) entry.1 =
+    subst (λ (l : Log). IsBuiltBy Is l entry.0 (shown entry.0 l) entry.1) (sym (append_assoc log (next ∷ []) more)) is in
     elim from [
       | inl first ↦ inl (
         first.0,
@@ -84,23 +86,32 @@ shown_elsewhere number other version log ne =
 
 -- ---- maps that are behind
 
--- by a log that shows the same of them
-behind_same : (Is : Building) (old new : Log) (number : ℕ) (standings : List MapStanding) (left : ℕ)
+-- what was built of what was shown up to a log was so up to a later one
+built_later : (Is : Building) (old new : Log) (number : ℕ) (last : Option MapVersion) (version : MapVersion) → IsFront old new
+    → IsBuiltBy Is old number last version → IsBuiltBy Is new number last version
+built_later Is old new number last version front built = (built.0, front_then built.0 old new built.1 front, built.2)
+
+-- by a later log that shows the same of them
+behind_same : (Is : Building) (old new : Log) (number : ℕ) (standings : List MapStanding) (left : ℕ) → IsFront old new
     → ((i : ℕ) (failed : MapVersion) → slice_get standings i ≡ Some (Behind failed)
     → shown (number + i) new ≡ shown (number + i) old)
     → AreBehind Is old number standings left → AreBehind Is new number standings left
-behind_same Is old new number [] left same behind = behind
-behind_same Is old new number (Level ∷ more) left same behind =
-    behind_same Is old new (suc number) more left
+behind_same Is old new number [] left front same behind = behind
+behind_same Is old new number (Level ∷ more) left front same behind =
+    behind_same Is old new (suc number) more left front
     (λ i failed is. subst (λ (n : ℕ). shown n new ≡ shown n old) (omega arith) (same (suc i) failed is)) behind
-behind_same Is old new number (Behind failed ∷ more) left same behind =
+behind_same Is old new number (Behind failed ∷ more) left front same behind =
     let here : shown number new ≡ shown number old =
     subst (λ (n : ℕ). shown n new ≡ shown n old) (omega arith) (same zero failed refl) in
     let rest : (left : ℕ) → AreBehind Is old (suc number) more left → AreBehind Is new (suc number) more left = λ left.
-    behind_same Is old new (suc number) more left
+    behind_same Is old new (suc number) more left front
     (λ i failed is. subst (λ (n : ℕ). shown n new ≡ shown n old) (omega arith) (same (suc i) failed is)) in
     elim behind [
-      | inl built ↦ inl (subst (λ (last : Option MapVersion). Is number last failed) (sym here) built.0, rest left built.1)
+      | inl built ↦ inl (
+        subst (λ (last : Option MapVersion). IsBuiltBy Is new number last failed) (sym here)
+            (built_later Is old new number (shown number old) failed front built.0),
+        rest left built.1,
+      )
       | inr other ↦ inr (other.0, other.1, rest other.0 other.2)
     ]
 
@@ -127,18 +138,18 @@ more_behind Is log number (suc i) version (Behind failed ∷ more) left here beh
 ]
 
 built_behind : (Is : Building) (log : Log) (number i : ℕ) (version : MapVersion) (standings : List MapStanding) (left : ℕ)
-    → slice_get standings i ≡ Some Level → Is (number + i) (shown (number + i) log) version
+    → slice_get standings i ≡ Some Level → IsBuiltBy Is log (number + i) (shown (number + i) log) version
     → AreBehind Is log number standings left
     → AreBehind Is log number (slice_set standings i (Behind version)) left
 built_behind Is log number i version [] left here is behind = absurd cc
 built_behind Is log number zero version (Level ∷ more) left here is behind =
-    inl (subst (λ (n : ℕ). Is n (shown n log) version) (omega arith) is, behind)
+    inl (subst (λ (n : ℕ). IsBuiltBy Is log n (shown n log) version) (omega arith) is, behind)
 built_behind Is log number zero version (Behind failed ∷ more) left here is behind = absurd cc
 built_behind Is log number (suc i) version (Level ∷ more) left here is behind =
     built_behind Is log (suc number) i version more left here
-    (subst (λ (n : ℕ). Is n (shown n log) version) (omega arith) is) behind
+    (subst (λ (n : ℕ). IsBuiltBy Is log n (shown n log) version) (omega arith) is) behind
 built_behind Is log number (suc i) version (Behind failed ∷ more) left here is behind =
-    let there : Is (suc number + i) (shown (suc number + i) log) version = subst (λ (n : ℕ). Is n (shown n log) version) (omega arith) is in
+    let there : IsBuiltBy Is log (suc number + i) (shown (suc number + i) log) version = subst (λ (n : ℕ). IsBuiltBy Is log n (shown n log) version) (omega arith) is in
     elim behind [
       | inl built ↦ inl (built.0, built_behind Is log (suc number) i version more left here there built.1)
       | inr other ↦ inr (other.0, other.1, built_behind Is log (suc number) i version more other.0 here there other.2)
@@ -147,7 +158,7 @@ built_behind Is log number (suc i) version (Behind failed ∷ more) left here is
 -- one map less is behind: it was behind a version that was built there, or one less is behind another
 abbrev FewerBehind : Building → Log → ℕ → ℕ → MapVersion → List MapStanding → ℕ → Type 0
 FewerBehind Is log number i failed standings left =
-    (Is (number + i) (shown (number + i) log) failed × AreBehind Is log number (slice_set standings i Level) left)
+    (IsBuiltBy Is log (number + i) (shown (number + i) log) failed × AreBehind Is log number (slice_set standings i Level) left)
     ⊎ ((fewer : ℕ) × (left ≡ suc fewer) × AreBehind Is log number (slice_set standings i Level) fewer)
 
 fewer_behind : (Is : Building) (log : Log) (number i : ℕ) (failed : MapVersion) (standings : List MapStanding) (left : ℕ)
@@ -159,24 +170,24 @@ fewer_behind Is log number zero failed (Behind version ∷ more) left here behin
     let same : version ≡ failed = cc in
     elim behind [
       | inl built ↦ inl (
-        subst (λ (n : ℕ). Is n (shown n log) failed) (omega arith)
-            (subst (λ (v : MapVersion). Is number (shown number log) v) same built.0),
+        subst (λ (n : ℕ). IsBuiltBy Is log n (shown n log) failed) (omega arith)
+            (subst (λ (v : MapVersion). IsBuiltBy Is log number (shown number log) v) same built.0),
         built.1,
       )
       | inr other ↦ inr other
     ]
 fewer_behind Is log number (suc i) failed (Level ∷ more) left here behind =
     elim (fewer_behind Is log (suc number) i failed more left here behind) [
-      | inl built ↦ inl (subst (λ (n : ℕ). Is n (shown n log) failed) (omega arith) built.0, built.1)
+      | inl built ↦ inl (subst (λ (n : ℕ). IsBuiltBy Is log n (shown n log) failed) (omega arith) built.0, built.1)
       | inr other ↦ inr other
     ]
 fewer_behind Is log number (suc i) failed (Behind version ∷ more) left here behind = elim behind [
   | inl first ↦ elim (fewer_behind Is log (suc number) i failed more left here first.1) [
-    | inl built ↦ inl (subst (λ (n : ℕ). Is n (shown n log) failed) (omega arith) built.0, inl (first.0, built.1))
+    | inl built ↦ inl (subst (λ (n : ℕ). IsBuiltBy Is log n (shown n log) failed) (omega arith) built.0, inl (first.0, built.1))
     | inr other ↦ inr (other.0, other.1, inl (first.0, other.2))
   ]
   | inr first ↦ elim (fewer_behind Is log (suc number) i failed more first.0 here first.2) [
-    | inl built ↦ inl (subst (λ (n : ℕ). Is n (shown n log) failed) (omega arith) built.0, inr (first.0, first.1, built.1))
+    | inl built ↦ inl (subst (λ (n : ℕ). IsBuiltBy Is log n (shown n log) failed) (omega arith) built.0, inr (first.0, first.1, built.1))
     | inr other ↦ inr (first.0, first.1, inr (other.0, other.1, other.2))
   ]
 ]
@@ -237,13 +248,13 @@ module _ (Is : Building) (first old : PublisherState) (made fetched : ℕ) (sour
 
   module _ (left : ℕ) (level : slice_get standings number ≡ Some Level) (behind : AreBehind Is old.log 0 standings left) where
     behind_then : AreBehind Is (with_shown number version old.log) 0 standings left
-    behind_then = behind_same Is old.log (with_shown number version old.log) 0 standings left
+    behind_then = behind_same Is old.log (with_shown number version old.log) 0 standings left ((number, version) ∷ [], refl)
         (λ i failed is. shown_elsewhere number (0 + i) version old.log (λ e.
         let same : i ≡ number = omega (arith, e) in
         let found : Some (Behind failed) ≡ Some Level = sym is ∙ ap (slice_get standings) same ∙ level in cc))
         behind
 
-    then_built : (limit : ℕ) → Is number (shown number old.log) version → sourced.others + left ≤ limit
+    then_built : (limit : ℕ) → IsBuiltBy Is old.log number (shown number old.log) version → sourced.others + left ≤ limit
         → IsSourced Is first then_shown (made + 1) limit
     then_built limit is le = record {
       more = sourced.more ++ (number, version) ∷ [];
@@ -252,7 +263,7 @@ module _ (Is : Building) (first old : PublisherState) (made fetched : ℕ) (sour
       others = sourced.others;
       left = left;
       entries = from_built Is first.log sourced.more (number, version) sourced.built sourced.others
-          (subst (λ (l : Log). Is number (shown number l) version) sourced.grown is) sourced.entries;
+          (subst (λ (l : Log). IsBuiltBy Is l number (shown number l) version) sourced.grown is) sourced.entries;
       behind = behind_then;
       least = let least = sourced.least in omega (arith, least);
       most = le;
@@ -293,7 +304,7 @@ sourced_reopened Is first old new made fetched number reopens sourced = elim reo
           | inl built ↦ sourced_less Is first (then_shown Is first old made fetched sourced number failed standings)
               (made + 1) made fetched fetched (omega arith) (omega arith)
               (then_built Is first old made fetched sourced number failed standings sourced.left level built.1 fetched
-              (subst (λ (n : ℕ). Is n (shown n old.log) failed) (omega arith) built.0) most)
+              (subst (λ (n : ℕ). IsBuiltBy Is old.log n (shown n old.log) failed) (omega arith) built.0) most)
           | inr other ↦
               let less : sourced.left ≡ suc other.0 = other.1 in
               then_other Is first old made fetched sourced number failed standings other.0 level other.2 fetched
@@ -328,7 +339,7 @@ module _ (Is : Building) (first old new : PublisherState) (made fetched number :
         ]
   ]
 
-  module _ (is : Is number (shown number old.log) version) where
+  module _ (is : IsBuiltBy Is old.log number (shown number old.log) version) where
     shows_one : slice_get old.standings number ≡ Some Level
         → new ≡ record old { log = with_shown number version old.log } → Now (made + 1) fetched
     shows_one level shows = subst (λ (m : PublisherState). IsSourced Is first m (made + 1) fetched) (sym shows)
@@ -348,7 +359,7 @@ module _ (Is : Building) (first old new : PublisherState) (made fetched number :
                 (then_stands Is first old made fetched sourced number version (slice_set old.standings number (Behind version))
                 sourced.left fetched
                 (built_behind Is old.log 0 number version old.standings sourced.left stores.0
-                (subst (λ (n : ℕ). Is n (shown n old.log) version) (omega arith) is) sourced.behind) sourced.most)
+                (subst (λ (n : ℕ). IsBuiltBy Is old.log n (shown n old.log) version) (omega arith) is) sourced.behind) sourced.most)
           ]
     ]
 
@@ -426,16 +437,19 @@ module _ {D B : Type 0} (keeping : Keeping D B) (Is : Building) (first : Publish
           (λ installs before. installs_other Is first (publisher_state keeping.log old) (publisher_state keeping.log new) made
           fetched number (offered Fetched).version before installs)
 
-      module _ (built : IsBuiltThere Is number own version Built) where
+      module _ (built : IsBuiltThere Is (keeping.log old.board) number own version Built) where
         built_there : IsUnopposed number (offered Built) old
-            → Is number (shown number (keeping.log old.board)) (offered Built).version
+            → IsBuiltBy Is (keeping.log old.board) number (shown number (keeping.log old.board)) (offered Built).version
         built_there unopposed =
             let kept = the_map old.maps number within in
             let last = shown number (keeping.log old.board) in
             let none = of_map (λ k. install_refusal old.catalogue.own (offered Built) k ≡ None) number old.maps kept.0 kept.1 unopposed in
-            let stands = of_map (λ m. m.standing ≡ Level) number old.maps kept.0 kept.1 level in
-            built last (subst (λ (name : List ℕ). not_following name (offered Built) last ≡ None) own_is
-            (follows_shown keeping number (offered Built) old kept.0 kept.1 stands shows none))
+            let stands = of_map (λ m. m.standing ≡ Level) number old.maps kept.0 kept.1 level in (
+              built.0,
+              built.1,
+              built.2 last (subst (λ (name : List ℕ). not_following name (offered Built) last ≡ None) own_is
+                  (follows_shown keeping number (offered Built) old kept.0 kept.1 stands shows none)),
+            )
 
         installed_built : Installs keeping number (offered Built) old new → SourcedAt new (made + 1) fetched
         installed_built installs = λ start.
@@ -474,11 +488,21 @@ module _ {D B : Type 0} (keeping : Keeping D B) (Is : Building) (first : Publish
         own_middle : middle.catalogue.own ≡ own
         own_middle = ap (λ (c : Catalogue). c.own) opens.upheld.catalogue ∙ own_is
 
-      installed_as_built : IsBuiltThere Is number own version Built → OpensAndInstalls keeping number version Built old new
+        built_middle : IsBuiltThere Is (keeping.log old.board) number own version Built
+            → IsBuiltThere Is (keeping.log middle.board) number own version Built
+        built_middle built = (
+          built.0,
+          front_then built.0 (keeping.log old.board) (keeping.log middle.board) built.1
+              (opened_front keeping number old middle within opens),
+          built.2,
+        )
+
+      installed_as_built : IsBuiltThere Is (keeping.log old.board) number own version Built → OpensAndInstalls keeping number version Built old new
           → SourcedAt new (made + 1) fetched
       installed_as_built built is =
           installed_built is.middle new (within_middle is.middle is.opens) is.opens.level is.opens.upheld.shows
-          (own_middle is.middle is.opens) (sourced_middle old is.middle within is.opens sourced) built is.installs
+          (own_middle is.middle is.opens) (sourced_middle old is.middle within is.opens sourced)
+          (built_middle is.middle is.opens built) is.installs
 
       installed_as_fetched : OpensAndInstalls keeping number version Fetched old new → SourcedAt new made (fetched + 1)
       installed_as_fetched is =
@@ -486,7 +510,7 @@ module _ {D B : Type 0} (keeping : Keeping D B) (Is : Building) (first : Publish
           (own_middle is.middle is.opens) (sourced_middle old is.middle within is.opens sourced)
           is.installs.upheld.elsewhere is.installs.meanwhile is.installs.rising
 
-      after_refusal : (origin : Origin) (why : ShareFault) → IsBuiltThere Is number own version origin
+      after_refusal : (origin : Origin) (why : ShareFault) → IsBuiltThere Is (keeping.log old.board) number own version origin
           → IsNotInstalled keeping number version origin why old new
           → SourcedAt new made (fetched + fetched_in origin)
       after_refusal origin (Shut why) built is =
@@ -495,7 +519,8 @@ module _ {D B : Type 0} (keeping : Keeping D B) (Is : Building) (first : Publish
       after_refusal Built (Unfit why) built is =
           at_less new made made fetched (fetched + 0) (omega arith) (omega arith)
           (refused_built is.middle new (within_middle is.middle is.opens) is.opens.level is.opens.upheld.shows
-          (own_middle is.middle is.opens) (sourced_middle old is.middle within is.opens sourced) built why is.refuses)
+          (own_middle is.middle is.opens) (sourced_middle old is.middle within is.opens sourced)
+          (built_middle is.middle is.opens built) why is.refuses)
       after_refusal Fetched (Unfit why) built is =
           offered_fetched is.middle new (within_middle is.middle is.opens) is.opens.level is.opens.upheld.shows
           (own_middle is.middle is.opens) (sourced_middle old is.middle within is.opens sourced)
@@ -506,7 +531,7 @@ module _ {D B : Type 0} (keeping : Keeping D B) (Is : Building) (first : Publish
 pub sourced_after : {T D B : Type 0} (keeping : Keeping D B) (Is : Building) (first : PublisherState) (number : ℕ)
     (version : MapVersion) (origin : Origin) (own : List ℕ) (made fetched : ℕ) (old new : Published D B)
     (r : Result T ShareFault) → number < length old.maps → old.catalogue.own ≡ own
-    → IsBuiltThere Is number own version origin → OnOk r (OpensAndInstalls keeping number version origin old new)
+    → IsBuiltThere Is (keeping.log old.board) number own version origin → OnOk r (OpensAndInstalls keeping number version origin old new)
     → IfErr r (λ why. IsNotInstalled keeping number version origin why old new)
     → IsSourcedAt keeping Is first old made fetched
     → IsSourcedAt keeping Is first new (made + made_by origin r) (fetched + fetched_in origin)

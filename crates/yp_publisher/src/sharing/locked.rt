@@ -53,10 +53,11 @@ impl Site for Brand {
 pub trait Accounts {
     ghost use Rattle.std.specs.Prelude.{ℕ, Option};
     ghost use Rattle.yp_version.specs.Versions.{MapVersion};
+    ghost use Rattle.yp_board.specs.Logs.{Log};
     ghost use Rattle.yp_publisher.specs.Rising.{PublisherState};
 
-    /// What it is that a version was built behind the last one of its map.
-    ghost built: { ℕ → Option MapVersion → MapVersion → Type 0 };
+    /// What it is that a version was built of what a log shows, behind the last one of its map.
+    ghost built: { Log → ℕ → Option MapVersion → MapVersion → Type 0 };
 
     /// What was shown, and how each map stood.
     ghost first: { PublisherState };
@@ -80,7 +81,7 @@ pub trait Accounts {
 impl Accounts for Brand {
     ghost use Rattle.std.specs.Prelude.{[]};
 
-    ghost built = { λ number last version. Unit {0} };
+    ghost built = { λ log number last version. Unit {0} };
 
     ghost first = { record { log = []; standings = [] } };
 
@@ -240,7 +241,7 @@ impl<S: Site + Accounts, D: Disk, B: Show> Locked<S, D, B> {
         charge: &mut Debits<S>,
     ) -> Result<(), ShareFault>
         requires map { map < length S.catalogue.maps }
-        requires built { IsBuiltThere S.built map S.catalogue.own version origin }
+        requires built { IsBuiltThere S.built (B.log self.old.board) map S.catalogue.own version origin }
         requires fetched { fetched_in origin ≤ charge.old.versions }
         ensures installed { OnOk result (OpensAndInstalls (keeping_of D.history D.faults B.log) map version origin
             self.old self.new) }
@@ -303,7 +304,8 @@ impl<S: Site + Accounts, D: Disk, B: Tell> Locked<S, D, B> {
         charge: &mut Debits<S>,
     ) -> Result<(), ShareFault>
         requires map { map < length S.catalogue.maps }
-        requires built { IsBuiltThere S.built map S.catalogue.own version origin }
+        requires built { IsBuiltThere S.built (B.Reader.seen reader.old).known
+            map S.catalogue.own version origin }
         requires fetched { fetched_in origin ≤ charge.old.versions }
         ensures shown { OnOk result (IsShownBehind S.catalogue.own map version origin
             (B.Reader.seen reader.old).known (B.Reader.seen reader.new).known) }

@@ -34,7 +34,7 @@ pub fn install_shared<S: Site + Accounts, D: Disk, B: Tell, R: RandomSource + Wa
     charge: &mut Debits<S>,
 ) -> Result<(), ShareFault>
     requires map { map < length S.catalogue.maps }
-    requires built { IsBuiltThere S.built map S.catalogue.own version origin }
+    requires built { IsBuiltThere S.built (B.Reader.seen reader.old).known map S.catalogue.own version origin }
     requires fetched { fetched_in origin ≤ charge.old.versions }
     ensures shown { OnOk result (IsShownBehind S.catalogue.own map version origin
         (B.Reader.seen reader.old).known (B.Reader.seen reader.new).known) }

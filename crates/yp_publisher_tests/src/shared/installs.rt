@@ -3,6 +3,7 @@
 ghost use Rattle.std.specs.Prelude.{◌≡◌, ℕ, ◌+◌, ◌<◌, ◌≤◌, length, Option};
 ghost use Rattle.yp_io.specs.inside.MemDisk.{Platter};
 ghost use Rattle.yp_version.specs.Versions.{MapVersion};
+ghost use Rattle.yp_board.specs.Logs.{Log};
 ghost use Rattle.yp_publisher.specs.Rising.{publisher_state};
 ghost use Rattle.yp_board.specs.inside.readers.Boards.{Written};
 ghost use Rattle.yp_publisher.specs.sharing.Failures.{disks_of, faults_over};
@@ -163,7 +164,8 @@ fn play_all<'r, J: Naming, S: Site + Accounts, R: Wait + RandomSource + Abort>(
 )
     requires site { maps.catalogue ≡ S.catalogue }
     requires some { 0 < length S.catalogue.maps }
-    requires any { (number : ℕ) → (last : Option MapVersion) → (version : MapVersion) → S.built number last version }
+    requires any { (log : Log) → (number : ℕ) → (last : Option MapVersion) → (version : MapVersion)
+        → S.built log number last version }
     requires first { publisher_state (λ (w : Written). w.log) maps ≡ S.first }
     requires disks { faults_over (λ (p : Platter). p.faults) (disks_of maps.maps) ≡ S.disk_faults }
     requires names { (failures.name ≡ S.failures) × (made.name ≡ S.made) × (versions.name ≡ S.versions) }
@@ -224,7 +226,8 @@ fn play_part<'r, J: Naming, S: Site + Accounts, R: Wait + RandomSource + Abort>(
     rows: &[Row],
 )
     requires maps { 0 < length S.catalogue.maps }
-    requires any { (number : ℕ) → (last : Option MapVersion) → (version : MapVersion) → S.built number last version }
+    requires any { (log : Log) → (number : ℕ) → (last : Option MapVersion) → (version : MapVersion)
+        → S.built log number last version }
     requires parts { 1 < charge.old.parts }
 {
     let mut mine = charge.split_off();
@@ -245,7 +248,8 @@ fn play<'r, J: Naming, S: Site + Accounts, R: Wait + RandomSource + Abort>(
     row: &Row,
 )
     requires maps { 0 < length S.catalogue.maps }
-    requires any { (number : ℕ) → (last : Option MapVersion) → (version : MapVersion) → S.built number last version }
+    requires any { (log : Log) → (number : ℕ) → (last : Option MapVersion) → (version : MapVersion)
+        → S.built log number last version }
 {
     let (origin, order, outcome, after) = *row;
     fetch(origin, charge, fetches);
@@ -283,7 +287,8 @@ fn installed<'r, J: Naming, S: Site + Accounts, R: Wait + RandomSource + Abort>(
     order: u32,
 ) -> Outcome
     requires maps { 0 < length S.catalogue.maps }
-    requires any { (number : ℕ) → (last : Option MapVersion) → (version : MapVersion) → S.built number last version }
+    requires any { (log : Log) → (number : ℕ) → (last : Option MapVersion) → (version : MapVersion)
+        → S.built log number last version }
     requires fetched { fetched_in origin ≤ charge.old.versions }
 {
     let version = version(rt, alloc, order, b"m1");

@@ -6,13 +6,13 @@ use Rattle.yp_board.specs.Catalogues.{Catalogue}
 use Rattle.yp_board.specs.Logs.{Log, shown}
 use Rattle.yp_texts.specs.Builds.{order_max}
 use Rattle.yp_publisher.specs.sharing.Sources.{Building}
-use Rattle.yp_host.specs.workers.Makings.{IsBuiltOfText}
+use Rattle.yp_host.specs.workers.Makings.{IsBuiltAsNamed}
 
 -- Each version that was built so is what a site says of it.
 abbrev pub SiteBuilds : (List ℕ → Option (List ℕ)) → Catalogue → Building → Type 0
 SiteBuilds text served Is =
-    (number : ℕ) (last : Option MapVersion) (version : MapVersion) → IsBuiltOfText text served number last version
-    → Is number last version
+    (at : Log) (number : ℕ) (last : Option MapVersion) (version : MapVersion)
+    → IsBuiltAsNamed text served at number last version → Is at number last version
 
 -- how high the order of what is shown of a map is, and 0 where nothing is
 abbrev pub height : ℕ → Log → ℕ

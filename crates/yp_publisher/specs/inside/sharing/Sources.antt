@@ -2,7 +2,8 @@
 use Rattle.std.specs.Prelude.{◌≡◌, ℕ, List, Option, None, false, ⊤}
 use Rattle.std.specs.Option.{option_map_or}
 use Rattle.yp_version.specs.Versions.{MapVersion}
-use Rattle.yp_board.specs.Logs.{shown}
+use Rattle.yp_board.specs.Logs.{Log}
+use Rattle.yp_board.specs.Views.{IsFront}
 use Rattle.yp_publisher.specs.declared.install.Origin.{Origin}
 use Rattle.yp_publisher.specs.declared.install.Origin.TheVariants.{Built, Fetched}
 use Rattle.yp_publisher.specs.Standing.{Published}
@@ -19,12 +20,14 @@ use Rattle.yp_publisher.specs.sharing.Sources.{Building, IsSourced}
 abbrev pub marked_behind : MapVersion → Option MapVersion → MapVersion
 marked_behind version last = record version { secure = option_map_or (λ shown. shown.secure) last false }
 
--- A version that is installed of a map as a built one was built behind whatever it follows.
-abbrev pub IsBuiltThere : Building → ℕ → List ℕ → MapVersion → Origin → Type 0
-IsBuiltThere Is number own version Built =
-    (last : Option MapVersion) → not_following own (offer (marked_behind version last) Built false) last ≡ None
-    → Is number last (marked_behind version last)
-IsBuiltThere Is number own version Fetched = ⊤
+-- A version that is installed of a map as a built one was built of what was shown at a moment up to a log, behind
+-- whatever it follows.
+abbrev pub IsBuiltThere : Building → Log → ℕ → List ℕ → MapVersion → Origin → Type 0
+IsBuiltThere Is log number own version Built =
+    (at : Log) × IsFront at log × ((last : Option MapVersion)
+    → not_following own (offer (marked_behind version last) Built false) last ≡ None
+    → Is at number last (marked_behind version last))
+IsBuiltThere Is log number own version Fetched = ⊤
 
 -- how many fetched versions an install takes
 abbrev pub fetched_in : Origin → ℕ

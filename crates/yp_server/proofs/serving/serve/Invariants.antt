@@ -1,7 +1,7 @@
 use Rattle.yp_worker.specs.Receptions.{opening_by}
 use Rattle.yp_publisher.specs.Rising.{publisher_state}
 use Rattle.yp_publisher.specs.sharing.Failures.{disks_of, faults_over}
-use Rattle.yp_host.specs.workers.Makings.{IsBuiltOfText}
+use Rattle.yp_host.specs.workers.Makings.{IsBuiltAsNamed}
 use Rattle.yp_server.proofs.serving.serve.Given as goal
 
 -- what is lent, as it is before the first connection
@@ -36,7 +36,7 @@ ghosts-under_locks-E-Ledger g a = record { name = a.ended.name; parts = a.ended.
 
 abbrev pub ghosts-under_locks-J-Accounts : goal.ghosts-under_locks-J-Accounts
 ghosts-under_locks-J-Accounts g a = record {
-  built = IsBuiltOfText (g.T.Texts.text a.resources.desk.texts) a.resources.publisher.catalogue;
+  built = IsBuiltAsNamed (g.T.Texts.text a.resources.desk.texts) a.resources.publisher.catalogue;
   first = publisher_state g.B.Show.log a.resources.publisher;
   disk_faults = faults_over g.D.Disk.faults (disks_of a.resources.publisher.maps);
   failures = a.blanks.failures.name;

@@ -13,4 +13,4 @@ returns-in-Some-clause-unbuilt c = (
 
 pub returns-in-Ok-build_after-clause-built : goal.returns-in-Ok-build_after-clause-built
 returns-in-Ok-build_after-clause-built c =
-    built_so c.args.job.reading c.in-Ok.text.items 100 c.in-Ok-build_after.version (c.own-own.ensures.own ∙ ap (λ (k : Catalogue). k.own) c.catalog.ensures) c.held-last.ensures c.in-Ok-build_after.ensures.version c.in-Ok-build_after.ensures.over
+    built_so c.args.reading c.in-Ok.text.items 100 c.in-Ok-build_after.version (c.own-own.ensures.own ∙ ap (λ (k : Catalogue). k.own) c.catalog.ensures) c.held-last.ensures c.in-Ok-build_after.ensures.version c.in-Ok-build_after.ensures.over

@@ -11,7 +11,7 @@ pub returns-in-Err-clause-made : goal.returns-in-Err-clause-made
 returns-in-Err-clause-made g c =
     let served = c.catalog.ensures ∙ c.requires.catalogue in
     unmade g.S.Supplies.text (telling_by g.T.Texts g.C.Clock g.A.Dial) _ c.args.job _ c.in-Err.stat _ _
-    (rw (served, c.held-shown.ensures) at c.in-Err.ensures.unbuilt)
+    (rw (served, c.held-shown.ensures, c.netgroups-netgroups.ensures, c.requires.catalogue) at c.in-Err.ensures.unbuilt)
 
 pub install_shared-requires-clause-built : goal.install_shared-requires-clause-built
 install_shared-requires-clause-built g c =
@@ -19,8 +19,8 @@ install_shared-requires-clause-built g c =
     let below = c.order-order.ensures.version.order in
     let most : c.in-Ok.version.order ≤ order_max = omega (arith, below) in
     built_there c.built_is_built_behind.ensures g.S.Supplies.text g.S.Site.catalogue c.args.job
-    (shown c.args.job.map (g.B.Reader.View.seen c.args.reader.now).known) c.in-Ok.version
-    (rw (served, c.held-shown.ensures) at c.in-Ok.ensures.anew) most c.requires.read g.S.Accounts.built c.requires.builds
+    (g.B.Reader.View.seen c.args.reader.now).known c.in-Ok.version
+    (rw (served, c.held-shown.ensures, c.netgroups-netgroups.ensures, c.requires.catalogue) at c.in-Ok.ensures.anew) most c.requires.as_named g.S.Accounts.built c.requires.builds
 
 pub returns-in-Ok-install_shared-clause-made : goal.returns-in-Ok-install_shared-clause-made
 returns-in-Ok-install_shared-clause-made g c =
@@ -28,7 +28,7 @@ returns-in-Ok-install_shared-clause-made g c =
     let below = c.order-order.ensures.version.order in
     let most : c.in-Ok.version.order ≤ order_max = omega (arith, below) in
     shown_last c.built_is_built_behind.ensures g.S.Supplies.text g.S.Site.catalogue c.args.job c.in-Ok.version _ _
-    (rw (served, c.held-shown.ensures) at c.in-Ok.ensures.anew) most c.in-Ok-install_shared.ensures.shown
+    (rw (served, c.held-shown.ensures, c.netgroups-netgroups.ensures, c.requires.catalogue) at c.in-Ok.ensures.anew) most c.in-Ok-install_shared.ensures.shown
 
 pub returns : goal.returns
 returns g c = record {

@@ -10,7 +10,7 @@ ghosts-play_all-S-Site g a = record { catalogue = a.maps.catalogue }
 
 abbrev pub ghosts-play_all-S-Accounts : goal.ghosts-play_all-S-Accounts
 ghosts-play_all-S-Accounts g a = record {
-  built = λ number last version. Unit {0};
+  built = λ log number last version. Unit {0};
   first = publisher_state (λ (w : Written). w.log) a.maps;
   disk_faults = faults_over (λ (p : Platter). p.faults) (disks_of a.maps.maps);
   failures = a.failures.name;

@@ -5,7 +5,7 @@ use Rattle.yp_io.specs.inside.MemDisk.{Platter}
 use Rattle.yp_publisher.specs.Rising.{publisher_state}
 use Rattle.yp_board.specs.inside.readers.Boards.{Written}
 use Rattle.yp_publisher.specs.sharing.Failures.{disks_of, faults_over}
-use Rattle.yp_host.specs.workers.Makings.{IsBuiltOfText}
+use Rattle.yp_host.specs.workers.Makings.{IsBuiltAsNamed}
 use Rattle.yp_server_tests.proofs.workhost.stage.staged.Given as goal
 
 abbrev pub ghosts-under_locks-S-Site : goal.ghosts-under_locks-S-Site
@@ -13,7 +13,7 @@ ghosts-under_locks-S-Site g a = record { catalogue = a.publisher.catalogue }
 
 abbrev pub ghosts-under_locks-S-Accounts : goal.ghosts-under_locks-S-Accounts
 ghosts-under_locks-S-Accounts g a = record {
-  built = IsBuiltOfText (g.T.Texts.text a.desk.texts) a.publisher.catalogue;
+  built = IsBuiltAsNamed (g.T.Texts.text a.desk.texts) a.publisher.catalogue;
   first = publisher_state (λ (w : Written). w.log) a.publisher;
   disk_faults = faults_over (λ (p : Platter). p.faults) (disks_of a.publisher.maps);
   failures = a.blanks.failures.name;

@@ -23,7 +23,7 @@ invariant_of-self g c =
           (keeping_of g.D.Disk.history g.D.Disk.faults g.B.Show.log) g.S.Accounts.built g.S.Accounts.first c.args.map
           c.args.version c.args.origin g.S.Site.catalogue.own c.self.inside.made.total c.self.inside.versions.amount
           c.self.inside.publisher step.new.publisher step.result within
-          (ap (λ (served : Catalogue). served.own) c.self.invariant.0) c.requires.built step.ensures.installed
+          (ap (λ (served : Catalogue). served.own) c.self.invariant.0) (rw c.self.view_is c.requires.built) step.ensures.installed
           step.ensures.refused c.self.invariant.3),
       rw c.transfer.ensures.parts_given c.self.invariant.4,
     )
