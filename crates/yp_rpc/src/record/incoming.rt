@@ -14,9 +14,6 @@ use yp_io::{Failed, SliceSource, TrySource};
 /// The most bytes that are read at once.
 const READ_MAX: usize = 4_096;
 
-/// The room for them.
-static ROOM: [u8; READ_MAX] = [0; READ_MAX];
-
 /// What the bytes that came begin with.
 #[derive(Clone, Copy)]
 pub enum First {
@@ -127,18 +124,20 @@ impl Incoming {
     }
 }
 
-/// Reads some of what is there behind these bytes.
+/// Reads some of what is there behind these bytes. Room for it is taken ahead.
 fn read_behind<S: TrySource>(bytes: &mut Vec<u8>, source: &mut S) -> Result<Option<usize>, Failed>
     ensures fills { Fills (S.input source.old) (S.input source.new) bytes.old.items bytes.new.items result }
     ensures cause { CountsFaults (S.faults source.old) (S.faults source.new) result }
 {
-    let len = bytes.len();
-    let Ok(()) = bytes.extend_from_slice(&ROOM) else {
+    let mut room = [0; READ_MAX];
+    let Ok(()) = bytes.reserve(READ_MAX) else {
         return Ok(None);
     };
-    let came = read_at(bytes, len, source);
+    let came = source.try_read(&mut room);
     let count = count_of(&came);
-    bytes.truncate(len + count);
+    let Ok(()) = bytes.extend_from_slice(&room[..count]) else {
+        unreachable!()
+    };
     came
 }
 
@@ -150,20 +149,4 @@ fn count_of(came: &Result<Option<usize>, Failed>) -> usize
         Ok(Some(count)) => *count,
         _ => 0,
     }
-}
-
-/// Reads some of what is there to a place of these bytes.
-fn read_at<S: TrySource>(
-    bytes: &mut [u8],
-    at: usize,
-    source: &mut S,
-) -> Result<Option<usize>, Failed>
-    requires { at < length bytes.old }
-    ensures front { take at bytes.new ≡ take at bytes.old }
-    ensures length { length bytes.new ≡ length bytes.old }
-    ensures within { at + count_of result ≤ length bytes.old }
-    ensures read { TriesToRead (S.input source.old) (S.input source.new) result (drop at bytes.new) }
-    ensures cause { CountsFaults (S.faults source.old) (S.faults source.new) result }
-{
-    source.try_read(&mut bytes[at..])
 }
