@@ -3,7 +3,8 @@
 ghost use Rattle.yp_io.specs.Inboxes.{MailIsWithin};
 
 use crate::caller::Caller;
-use crate::hall::{SocketCall, accept_one, lacks_descriptors};
+use crate::epoll::{tell_of, tell_turned};
+use crate::hall::{SocketCall, accept_one, lacks_descriptors, listen_at};
 use crate::places::{Limits, Places};
 use crate::watch::register;
 use mio::net::TcpListener;
@@ -11,7 +12,7 @@ use mio::{Interest, Poll, Token};
 use std::alloc::Global;
 use std::io;
 use std::io::ErrorKind;
-use std::net::{Ipv4Addr, Net, SocketAddr};
+use std::net::Net;
 use std::os::fd::AsRawFd;
 use std::time::{Duration, Instant};
 use yp_io::{Awaited, Called, Mail};
@@ -59,7 +60,7 @@ impl Calls {
         limits: Limits,
         poll: &Poll,
     ) -> io::Result<Calls> {
-        let listener = TcpListener::bind(net, SocketAddr::from((Ipv4Addr::UNSPECIFIED, port)))?;
+        let listener = listen_at(net, port)?;
         register(poll, listener.as_raw_fd(), DOOR, Interest::READABLE)?;
         Ok(Calls {
             alloc,
@@ -107,6 +108,11 @@ impl Calls {
         self.places.until_late(now, &self.limits, most)
     }
 
+    /// Has the system tell of each for what is awaited of it.
+    pub(crate) fn tell_turned(&mut self, poll: &Poll) {
+        tell_turned(poll, &mut self.places);
+    }
+
     /// Lets some of those in that wait.
     pub(crate) fn let_in(&mut self, poll: &Poll, now: Instant) {
         if self.door != Door::Open {
@@ -138,11 +144,10 @@ impl Calls {
             return;
         };
         let socket = wire.source.descriptor();
-        let Ok(number) = self.places.enter(place, now) else {
+        let Ok(number) = self.places.enter(place, socket, now) else {
             return;
         };
-        let interests = Interest::READABLE | Interest::WRITABLE;
-        let told = register(poll, socket, Token(number), interests);
+        let told = tell_of(poll, socket, Token(number), Awaited::Record);
         match self.callers.get_mut(place as usize) {
             Some(at) if told.is_ok() => {
                 *at = Some(Caller::new(self.alloc, origin.peer(), wire));
@@ -218,6 +223,7 @@ impl Calls {
 
     // This is awaited of who is at a place. Its time goes on where that is what was awaited, unless it begins anew.
     fn await_of(&mut self, place: u32, what: Awaited, is_anew: bool, now: Instant) {
+        self.places.turn(place, what);
         if is_anew || !self.places.goes_on(place, what) {
             self.places.await_from(place, what, now);
         }

@@ -12,8 +12,8 @@ use crate::dial::address_of;
 use crate::inbox::peer_of;
 use crate::reserved::{bind_socket, check, last_error};
 use libc::net::{
-    AF_INET, POLLOUT, SO_REUSEADDR, SOCK_CLOEXEC, SOCK_DGRAM, SOCK_NONBLOCK, SOL_SOCKET, poll,
-    setsockopt, socket,
+    AF_INET, POLLOUT, SO_RCVBUF, SO_REUSEADDR, SOCK_CLOEXEC, SOCK_DGRAM, SOCK_NONBLOCK, SOL_SOCKET,
+    poll, setsockopt, socket,
 };
 use libc::types::pollfd;
 use os::FromRawFd;
@@ -26,6 +26,9 @@ use yp_io::{Mail, Peer};
 
 /// The place of the socket for all addresses. The others are behind it.
 pub(crate) const FOR_ALL: u32 = 0;
+
+// The bytes of datagrams, with what the system needs for each, that may wait at a socket, as far as the system allows.
+const WAITING_MAX: i32 = 1 << 20;
 
 // How long the system is waited for at once, where it takes no datagram, in milliseconds.
 const ROOM_MILLIS: i32 = 100;
@@ -50,6 +53,7 @@ impl Datagrams {
     pub(crate) fn open<R: Net>(alloc: Global, net: &R, port: u16) -> io::Result<Datagrams> {
         let for_all = UdpSocket::bind(net, SocketAddrV4::new(Ipv4Addr::UNSPECIFIED, port))?;
         for_all.set_nonblocking(true)?;
+        widen(&for_all);
         let port = for_all.local_addr()?.port();
         Ok(Datagrams {
             port,
@@ -139,6 +143,13 @@ fn share(socket: &UdpSocket, is_shared: bool) -> io::Result<()> {
     check(unsafe { setsockopt(socket.as_raw_fd(), SOL_SOCKET, SO_REUSEADDR, &value, 4) })
 }
 
+// Has datagrams wait at a socket that many send at once, in place of being lost. Without that it has what is usual.
+fn widen(socket: &UdpSocket) {
+    let mut value = [0; 16];
+    value[..4].copy_from_slice(&WAITING_MAX.to_ne_bytes());
+    let _ = unsafe { setsockopt(socket.as_raw_fd(), SOL_SOCKET, SO_RCVBUF, &value, 4) };
+}
+
 // A socket at an address, whose port another socket shares now. It shares it with no further one.
 fn open_at(address: SocketAddrV4) -> io::Result<UdpSocket> {
     let kind = SOCK_DGRAM | SOCK_NONBLOCK | SOCK_CLOEXEC;
@@ -151,6 +162,7 @@ fn open_at(address: SocketAddrV4) -> io::Result<UdpSocket> {
     share(&opened, true)?;
     bind_socket(opened.as_raw_fd(), address)?;
     share(&opened, false)?;
+    widen(&opened);
     Ok(opened)
 }
 

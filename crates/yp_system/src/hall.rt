@@ -8,12 +8,15 @@ ghost use Rattle.yp_io.specs.Hall.{try_halves_of};
 
 use crate::inbox::peer_of;
 use crate::places::Limits;
+use crate::reserved::{accept_socket, check};
 use crate::socket::{SocketSink, SocketSource};
 use crate::watch::{Door, TcpWatch};
+use libc::net::{IPPROTO_TCP, TCP_NODELAY, setsockopt};
 use mio::net::{TcpListener, TcpStream};
 use std::alloc::Global;
 use std::io::ErrorKind;
 use std::net::{Ipv4Addr, Net, SocketAddr};
+use std::os::fd::AsRawFd;
 use std::sync::Arc;
 use std::sync::atomic::{AtomicBool, Ordering};
 use std::time::{Clock, Duration};
@@ -131,6 +134,16 @@ impl<R: Net + Clock + Copy + Drop> TcpHall<R> {
     }
 }
 
+/// Opens a port, on every address of this machine. What is written to the connections of its callers goes out at once,
+/// since each reply is awaited.
+pub(crate) fn listen_at<R: Net>(net: &R, port: u16) -> io::Result<TcpListener> {
+    let listener = TcpListener::bind(net, SocketAddr::from((Ipv4Addr::UNSPECIFIED, port)))?;
+    let mut on = [0; 16];
+    on[..4].copy_from_slice(&1i32.to_ne_bytes());
+    check(unsafe { setsockopt(listener.as_raw_fd(), IPPROTO_TCP, TCP_NODELAY, &on, 4) })?;
+    Ok(listener)
+}
+
 // The door at a port, which the first call opens.
 fn opened<'a, R: Net>(
     alloc: Global,
@@ -139,9 +152,8 @@ fn opened<'a, R: Net>(
     door: &'a mut Option<Arc<Door>>,
 ) -> io::Result<&'a Arc<Door>> {
     if door.is_none() {
-        let listener = TcpListener::bind(net, SocketAddr::from((Ipv4Addr::UNSPECIFIED, port)))?;
         let new = Door {
-            listener,
+            listener: listen_at(net, port)?,
             is_short: AtomicBool::new(false),
             is_closed: AtomicBool::new(false),
         };
@@ -157,14 +169,13 @@ fn shared<T: Drop>(alloc: Global, value: T) -> io::Result<Arc<T>> {
     }
 }
 
-// The wire of a connection: one socket, for both halves. What is written goes out at once, since each reply is awaited.
+// The wire of a connection: one socket, for both halves.
 fn wire_of(alloc: Global, stream: TcpStream) -> io::Result<Pair<SocketSource, SocketSink>>
     ensures { IfOk result (λ wire. IsFresh
         (⟦<SocketSource as TrySource>⟧.faults wire.source)
         (⟦<SocketSink as TrySink>⟧.faults wire.sink)
         (⟦<SocketSink as TrySink>⟧.output wire.sink)) }
 {
-    stream.set_nodelay(true)?;
     let socket = shared(alloc, stream)?;
     let Ok(same) = socket.clone() else {
         return Err(ErrorKind::OutOfMemory.into());
@@ -179,15 +190,11 @@ fn wire_of(alloc: Global, stream: TcpStream) -> io::Result<Pair<SocketSource, So
 pub(crate) fn accept_one(alloc: Global, listener: &TcpListener) -> io::Result<SocketCall>
     ensures { IfOk result (IsFreshCall (try_halves_of ⟦<SocketSource as TrySource>⟧ ⟦<SocketSink as TrySink>⟧)) }
 {
-    match listener.accept()? {
-        (stream, SocketAddr::V4(from)) => {
-            let wire = wire_of(alloc, stream)?;
-            let peer = peer_of(&from);
-            let origin = CallOrigin::new(peer, &wire);
-            Ok(Called { origin, wire })
-        }
-        (_, SocketAddr::V6(_)) => Err(ErrorKind::Unsupported.into()),
-    }
+    let (stream, from) = accept_socket(listener.as_raw_fd())?;
+    let wire = wire_of(alloc, stream)?;
+    let peer = peer_of(&from);
+    let origin = CallOrigin::new(peer, &wire);
+    Ok(Called { origin, wire })
 }
 
 // Whether no descriptor was left for a connection.
@@ -205,7 +212,13 @@ fn accept_next<R: Clock>(alloc: Global, system: &R, door: &Door) -> Option<Socke
 {
     for _ in 0..TRIES {
         match accept_one(alloc, &door.listener) {
-            Ok(call) => return Some(call),
+            Ok(call) => {
+                // Nobody has to be let go any more.
+                if door.is_short.load(Ordering::SeqCst) {
+                    door.is_short.store(false, Ordering::SeqCst);
+                }
+                return Some(call);
+            }
             Err(error) => match error.kind() {
                 ErrorKind::WouldBlock => return None,
                 ErrorKind::Interrupted | ErrorKind::ConnectionAborted => {}

@@ -15,6 +15,7 @@ mod clock;
 mod datagrams;
 mod dial;
 mod disk;
+mod epoll;
 mod hall;
 mod inbox;
 mod locked;

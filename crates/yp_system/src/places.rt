@@ -1,7 +1,9 @@
 //! The places of a watch: who is there, since when what of it is awaited, and who is ready.
 
 use crate::chain::Chain;
+use crate::epoll::is_written;
 use std::alloc::{AllocError, Global};
+use std::os::fd::RawFd;
 use std::time::{Duration, Instant};
 use yp_io::Awaited;
 
@@ -29,10 +31,13 @@ impl Limits {
 // How many numbers places have.
 const PLACE_NUMBERS: usize = 1 << 32;
 
-// Who is at a place: which of all that were entered, what of it is awaited, and since when.
+// Who is at a place: which of all that were entered, by which socket, whether the system tells where that can be
+// written to, or else where it can be read from, what of it is awaited, and since when.
 #[derive(Clone, Copy)]
 struct Entry {
     serial: u32,
+    socket: RawFd,
+    is_written: bool,
     what: Awaited,
     since: Instant,
 }
@@ -47,7 +52,16 @@ pub struct Places {
     payments: Chain,
     ready: Chain,
     again: Chain,
+    turned: Chain,
     serial: u32,
+}
+
+/// A connection of which the system is to tell for something else: its socket, its number, and what is awaited of it.
+#[derive(Clone, Copy)]
+pub struct Turned {
+    pub socket: RawFd,
+    pub number: usize,
+    pub what: Awaited,
 }
 
 impl Places {
@@ -60,6 +74,7 @@ impl Places {
             payments: Chain::new(alloc),
             ready: Chain::new(alloc),
             again: Chain::new(alloc),
+            turned: Chain::new(alloc),
             serial: 0,
         }
     }
@@ -70,6 +85,7 @@ impl Places {
         self.payments.make_room(place)?;
         self.ready.make_room(place)?;
         self.again.make_room(place)?;
+        self.turned.make_room(place)?;
         let wanted = (place as usize).saturating_add(1);
         if self.entries.len() < wanted {
             self.entries.resize(wanted, None)?;
@@ -77,8 +93,8 @@ impl Places {
         Ok(())
     }
 
-    /// Takes a place from now on, and answers the number by which the system tells of it.
-    pub fn enter(&mut self, place: u32, now: Instant) -> Result<usize, AllocError> {
+    /// Takes a place from now on, for who has this socket, and answers the number by which the system tells of it.
+    pub fn enter(&mut self, place: u32, socket: RawFd, now: Instant) -> Result<usize, AllocError> {
         self.make_room(place)?;
         self.leave(place);
         self.serial = self.serial.wrapping_add(1);
@@ -87,6 +103,8 @@ impl Places {
             place,
             Entry {
                 serial,
+                socket,
+                is_written: is_written(Awaited::Record),
                 what: Awaited::Record,
                 since: now,
             },
@@ -101,8 +119,17 @@ impl Places {
         self.payments.remove(place);
         self.ready.remove(place);
         self.again.remove(place);
+        self.turned.remove(place);
         if let Some(entry) = self.entries.get_mut(place as usize) {
             *entry = None;
+        }
+    }
+
+    /// The socket of who is at a place.
+    pub fn socket(&self, place: u32) -> Option<RawFd> {
+        match self.at(place) {
+            Some(entry) => Some(entry.socket),
+            None => None,
         }
     }
 
@@ -141,17 +168,40 @@ impl Places {
             self.put(
                 place,
                 Entry {
-                    serial: entry.serial,
                     what,
                     since: now,
+                    ..entry
                 },
             );
         }
     }
 
+    /// The system is to tell of who is at a place where this can go on, unless that is ready again before.
+    pub fn turn(&mut self, place: u32, what: Awaited) {
+        match self.at(place) {
+            Some(entry) if entry.is_written != is_written(what) => self.turned.append(place),
+            _ => self.turned.remove(place),
+        }
+    }
+
+    /// The next of whom the system is to tell for something else.
+    pub fn take_turned(&mut self) -> Option<Turned> {
+        let place = self.turned.take_first()?;
+        let Some(Some(entry)) = self.entries.get_mut(place as usize) else {
+            return None;
+        };
+        entry.is_written = !entry.is_written;
+        Some(Turned {
+            socket: entry.socket,
+            number: number_of(entry.serial, place),
+            what: entry.what,
+        })
+    }
+
     /// Who is at a place is ready again, behind all that are ready at the next turn.
     pub fn go_again(&mut self, place: u32) {
         if self.at(place).is_some() {
+            self.turned.remove(place);
             self.again.append(place);
         }
     }
@@ -159,6 +209,13 @@ impl Places {
     /// Whether anybody is ready again.
     pub fn has_again(&self) -> bool {
         self.again.first().is_some()
+    }
+
+    /// Who is at a place is ready, behind all that are.
+    pub fn go_at_once(&mut self, place: u32) {
+        if self.at(place).is_some() {
+            self.ready.append(place);
+        }
     }
 
     /// The system tells of this number. Who has left is passed over.

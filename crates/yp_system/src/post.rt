@@ -7,9 +7,9 @@ use crate::addresses::{ADDRESSES_MAX, own_addresses};
 use crate::calls::{Calls, DOOR};
 use crate::chain::Chain;
 use crate::datagrams::{Datagrams, FOR_ALL, receive};
+use crate::epoll::tell_of;
 use crate::places::Limits;
-use crate::watch::register;
-use mio::{Events, Interest, Poll, Token};
+use mio::{Events, Poll, Token};
 use std::alloc::Global;
 use std::io;
 use std::io::ErrorKind;
@@ -18,7 +18,7 @@ use std::os::fd::AsRawFd;
 use std::rt::Files;
 use std::thread::sleep;
 use std::time::{Clock, Duration, Instant};
-use yp_io::{Mail, Peer};
+use yp_io::{Awaited, Mail, Peer};
 
 /// How long a turn waits for a letter, in seconds: a turn without one is quiet.
 pub const TURN_SECONDS: u64 = 1;
@@ -34,6 +34,9 @@ const PAUSE_MILLIS: u64 = 10;
 
 // How many turns of those that are ready again are begun without asking the system who else is.
 const UNASKED_MAX: u32 = 4;
+
+// How many datagrams are taken one at a time, each where the system tells of it, behind one that came alone.
+const ALONE_MAX: u32 = 16;
 
 // The numbers by which the system tells of sockets: this one for the first, and lower ones for the next.
 const SOCKETS: usize = usize::MAX - 1;
@@ -65,6 +68,9 @@ pub(crate) struct Post {
     calls: Option<Calls>,
     is_callers_turn: bool,
     unasked: u32,
+    // how many datagrams came since the system was asked, and how many more are taken one at a time
+    came: u32,
+    alone: u32,
     last: Option<Letter>,
     now: Instant,
     looked: Instant,
@@ -98,6 +104,8 @@ impl Post {
             calls,
             is_callers_turn: false,
             unasked: 0,
+            came: 0,
+            alone: 0,
             last: None,
             now,
             looked: now,
@@ -112,11 +120,11 @@ impl Post {
         self.ready.make_room(place)?;
         self.again.make_room(place)?;
         match self.datagrams.at(place) {
-            Some(socket) => register(
+            Some(socket) => tell_of(
                 &self.poll,
                 socket.as_raw_fd(),
                 socket_token(place),
-                Interest::READABLE,
+                Awaited::Record,
             ),
             None => Ok(()),
         }
@@ -217,7 +225,8 @@ impl Post {
         }
     }
 
-    // Takes a datagram of the socket at a place, which is ready again until there is none.
+    // Takes a datagram of the socket at a place, which is ready again until there is none. Where one came alone, as those
+    // of one caller do, the next ones are taken without a look for more.
     fn receive(&mut self, place: u32, buf: &mut [u8]) -> io::Result<Mail>
         ensures { IfOk result (λ mail. MailIsWithin mail buf.new) }
     {
@@ -225,7 +234,14 @@ impl Post {
             return Ok(Mail::Quiet);
         };
         let mail = receive(socket, buf)?;
-        if mail != Mail::Quiet {
+        if mail == Mail::Quiet {
+            if self.came == 1 {
+                self.alone = ALONE_MAX;
+            }
+        } else if self.alone > 0 {
+            self.alone -= 1;
+        } else {
+            self.came = self.came.saturating_add(1);
             self.again.append(place);
         }
         Ok(mail)
@@ -250,6 +266,10 @@ impl Post {
     // Asks the system who is ready, and waits so long at most until anybody is.
     fn ask<R: Clock>(&mut self, system: &R, patience: Duration) {
         self.unasked = 0;
+        self.came = 0;
+        if let Some(calls) = &mut self.calls {
+            calls.tell_turned(&self.poll);
+        }
         if self.poll.poll(&mut self.events, Some(patience)).is_err() {
             sleep(system, Duration::from_millis(PAUSE_MILLIS));
         }

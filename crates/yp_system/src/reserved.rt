@@ -1,9 +1,11 @@
-//! Connections from a port under 1,024.
+//! Connections from a port under 1,024, and calls of the system that std and mio have no word for.
 //!
 //! A server gives the rows of a secure map to such ports alone, since only who has a right to them gets one. std
 //! connects from a port that the system picks, so the calls of the system are made here.
 
-use libc::net::{_SS_SIZE, AF_INET, SOCK_CLOEXEC, SOCK_STREAM, bind, connect, socket};
+use libc::net::{
+    _SS_SIZE, AF_INET, SOCK_CLOEXEC, SOCK_NONBLOCK, SOCK_STREAM, accept4, bind, connect, socket,
+};
 use os::{FromRawFd, errno};
 use std::io;
 use std::io::ErrorKind;
@@ -100,6 +102,35 @@ fn encoded(address: SocketAddrV4) -> [u8; _SS_SIZE] {
     bytes[2..4].copy_from_slice(&address.port().to_be_bytes());
     bytes[4..8].copy_from_slice(&address.ip().octets());
     bytes
+}
+
+// The address that bytes spell, where it is one of IPv4.
+fn decoded(bytes: &[u8; _SS_SIZE]) -> Option<SocketAddrV4> {
+    let family = u16::from_ne_bytes([bytes[0], bytes[1]]);
+    let port = u16::from_be_bytes([bytes[2], bytes[3]]);
+    let address = Ipv4Addr::new(bytes[4], bytes[5], bytes[6], bytes[7]);
+    if family == AF_INET as u16 {
+        Some(SocketAddrV4::new(address, port))
+    } else {
+        None
+    }
+}
+
+/// The next connection of a listening socket, which never blocks, and who called. Its options are those of that socket.
+pub(crate) fn accept_socket(listener: RawFd) -> io::Result<(mio::net::TcpStream, SocketAddrV4)> {
+    let mut bytes = [0; _SS_SIZE];
+    let mut len = _SS_SIZE as u32;
+    let flags = SOCK_NONBLOCK | SOCK_CLOEXEC;
+    let descriptor = unsafe { accept4(listener, &mut bytes, &mut len, flags) };
+    if descriptor < 0 {
+        return Err(last_error());
+    }
+    // Nothing else has this descriptor.
+    let stream = unsafe { mio::net::TcpStream::from_raw_fd(descriptor) };
+    match decoded(&bytes) {
+        Some(from) => Ok((stream, from)),
+        None => Err(ErrorKind::Unsupported.into()),
+    }
 }
 
 pub(crate) fn bind_socket(socket: RawFd, address: SocketAddrV4) -> io::Result<()> {

@@ -5,14 +5,20 @@ ghost use Rattle.std.specs.Prelude.{◌≡◌, IsTrue, None};
 use crate::streams::{read_uninterrupted, write_uninterrupted};
 use mio::net::TcpStream;
 use std::io::{ErrorKind, Write};
+use std::mem;
 use std::os::fd::{AsRawFd, RawFd};
 use std::sync::Arc;
 use yp_io::{Failed, TrySink, TrySource, count_fault};
 
 /// What comes of a socket. It tells nothing of its bytes.
+///
+/// Behind a read that leaves room nothing is there, as a rule. So the next one answers that without asking the system,
+/// which tells its watch of what comes, for as long as it is there.
 #[derive(Drop)]
 pub struct SocketSource {
     socket: Arc<TcpStream>,
+    // whether the last read left room
+    is_drained: bool,
     faults: u64,
 }
 
@@ -20,7 +26,11 @@ impl SocketSource {
     pub(crate) fn new(socket: Arc<TcpStream>) -> SocketSource
         ensures faults { ⟦<SocketSource as TrySource>⟧.faults result ≡ 0 }
     {
-        SocketSource { socket, faults: 0 }
+        SocketSource {
+            socket,
+            is_drained: false,
+            faults: 0,
+        }
     }
 
     // The number of its socket.
@@ -35,9 +45,15 @@ impl TrySource for SocketSource {
     ghost faults = { λ s. s.faults };
 
     fn try_read(&mut self, buf: &mut [u8]) -> Result<Option<usize>, Failed> {
+        if mem::take(&mut self.is_drained) {
+            return Ok(None);
+        }
         let mut stream: &TcpStream = &self.socket;
         match read_uninterrupted(&mut stream, buf) {
-            Ok(count) => Ok(Some(count)),
+            Ok(count) => {
+                self.is_drained = count > 0 && count < buf.len();
+                Ok(Some(count))
+            }
             Err(error) if error.kind() == ErrorKind::WouldBlock => Ok(None),
             Err(_) => Err(count_fault(&mut self.faults)),
         }

@@ -2,6 +2,7 @@
 
 ghost use Rattle.std.specs.Prelude.{◌≡◌, IfOk};
 
+use crate::epoll::{tell_no_more, tell_of, tell_of_callers, tell_turned};
 use crate::places::{Limits, Places};
 use crate::socket::{SocketSink, SocketSource};
 use mio::net::TcpListener;
@@ -56,14 +57,18 @@ enum DoorState {
 }
 
 /// What tells a worker which of its connections can go on, by epoll, and which are over their time. Connections are
-/// told ready in the order in which the system tells of them, each once in a turn. Then comes the door, so a busy
-/// worker is told of it less often. It is told first, behind each quiet wait, and again and again while somebody waits
-/// there.
+/// told ready in the order in which the system tells of them, each once in a turn, and one that enters is told at once.
+/// Then comes the door, so a busy worker is told of it less often. It is told first, behind each quiet wait, and again
+/// and again while somebody waits there. Of several watches that wait, the one is told of the door that has waited
+/// longest since somebody entered.
 #[derive(Drop)]
 pub struct TcpWatch<R> {
     system: R,
     door: Option<Arc<Door>>,
     door_state: DoorState,
+    // whether the system tells of the door, and whether anybody has entered since it was asked for that
+    is_at_door: bool,
+    has_let_in: bool,
     poll: Poll,
     events: Events,
     places: Places,
@@ -102,7 +107,7 @@ impl<R: Net + Clock + Drop> TcpWatch<R> {
     {
         let poll = Poll::new(&system)?;
         if let Some(door) = &door {
-            register(&poll, door.listener.as_raw_fd(), DOOR, Interest::READABLE)?;
+            tell_of_callers(&poll, door.listener.as_raw_fd(), DOOR)?;
         }
         let Ok(events) = Events::with_capacity(alloc, EVENTS) else {
             return Err(ErrorKind::OutOfMemory.into());
@@ -110,6 +115,8 @@ impl<R: Net + Clock + Drop> TcpWatch<R> {
         let now = Instant::now(&system)?;
         Ok(TcpWatch {
             system,
+            is_at_door: door.is_some(),
+            has_let_in: false,
             door,
             door_state: DoorState::Pending,
             poll,
@@ -138,16 +145,23 @@ impl<R: Net + Clock + Drop> TcpWatch<R> {
         let Some(door) = &self.door else {
             return None;
         };
-        let is_short = &door.is_short;
-        if !is_short.load(Ordering::SeqCst) || !is_short.swap(false, Ordering::SeqCst) {
+        if !door.is_short.load(Ordering::SeqCst) {
             return None;
         }
-        let now = self.time();
-        let oldest = self.places.oldest(now);
-        if oldest.is_none() && self.door_state == DoorState::Told {
-            self.door_state = DoorState::Pausing;
+        let door = &**door;
+        let now = Instant::now(&self.system).unwrap_or(self.now);
+        self.now = now;
+        match self.places.oldest(now) {
+            Some(oldest) if door.is_short.swap(false, Ordering::SeqCst) => Some(oldest),
+            Some(_) => None,
+            // It is left to those who have somebody to let go.
+            None => {
+                if self.door_state == DoorState::Told {
+                    self.door_state = DoorState::Pausing;
+                }
+                None
+            }
         }
-        oldest
     }
 
     // What is known without a wait.
@@ -189,21 +203,40 @@ impl<R: Net + Clock + Drop> TcpWatch<R> {
         self.places.until_late(self.now, &self.limits, most)
     }
 
-    // Has the system tell of the door again, unless nobody comes any more.
-    fn arm(&mut self)
+    // Has the system tell of the door, unless nobody comes any more: behind the other watches, where somebody has
+    // entered here since.
+    fn stand_at_door(&mut self)
         ensures let_go { self.new.let_go ≡ self.old.let_go }
     {
         let Some(door) = &self.door else {
             return;
         };
+        let socket = door.listener.as_raw_fd();
         if door.is_closed.load(Ordering::SeqCst) {
+            self.leave_door();
             return;
         }
-        let socket = door.listener.as_raw_fd();
-        let registry = self.poll.registry();
-        let told = registry.reregister(&mut SourceFd(&socket), DOOR, Interest::READABLE);
-        if told.is_ok() {
+        if self.has_let_in {
+            self.leave_door();
+        }
+        if !self.is_at_door {
+            self.is_at_door = tell_of_callers(&self.poll, socket, DOOR).is_ok();
+        }
+        if self.is_at_door {
+            self.has_let_in = false;
             self.door_state = DoorState::Watched;
+        }
+    }
+
+    // Has the system tell nothing of the door for now.
+    fn leave_door(&mut self)
+        ensures let_go { self.new.let_go ≡ self.old.let_go }
+    {
+        if let Some(door) = &self.door
+            && self.is_at_door
+        {
+            let _ = tell_no_more(&self.poll, door.listener.as_raw_fd());
+            self.is_at_door = false;
         }
     }
 
@@ -225,8 +258,11 @@ impl<R: Net + Clock + Drop> TcpWatch<R> {
         ensures let_go { self.new.let_go ≡ self.old.let_go }
     {
         let patience = self.patience();
-        if self.door_state == DoorState::Told {
-            self.arm();
+        tell_turned(&self.poll, &mut self.places);
+        match self.door_state {
+            DoorState::Told => self.stand_at_door(),
+            DoorState::Pausing => self.leave_door(),
+            _ => {}
         }
         if self.poll.poll(&mut self.events, Some(patience)).is_err() {
             sleep(&self.system, Duration::from_millis(PAUSE_MILLIS));
@@ -270,13 +306,16 @@ impl<R: Net + Clock + Drop> Watch for TcpWatch<R> {
     /// It fails where memory has run out, or the system can't watch so many.
     fn enter(&mut self, place: u32, wire: &Pair<SocketSource, SocketSink>) -> Result<(), Failed> {
         let now = self.time();
-        let Ok(number) = self.places.enter(place, now) else {
+        let socket = wire.source.descriptor();
+        let Ok(number) = self.places.enter(place, socket, now) else {
             return Err(count_fault(&mut self.let_go));
         };
-        let socket = wire.source.descriptor();
-        let interests = Interest::READABLE | Interest::WRITABLE;
-        match register(&self.poll, socket, Token(number), interests) {
-            Ok(()) => Ok(()),
+        match tell_of(&self.poll, socket, Token(number), Awaited::Record) {
+            Ok(()) => {
+                self.has_let_in = true;
+                self.places.go_at_once(place);
+                Ok(())
+            }
             Err(_) => {
                 self.places.leave(place);
                 Err(count_fault(&mut self.let_go))
@@ -285,6 +324,7 @@ impl<R: Net + Clock + Drop> Watch for TcpWatch<R> {
     }
 
     fn awaits(&mut self, place: u32, what: Awaited, moved: bool) {
+        self.places.turn(place, what);
         if moved || !self.places.goes_on(place, what) {
             let now = self.time();
             self.places.await_from(place, what, now);

@@ -187,8 +187,26 @@ fn one_of_two_hundred_asks(rt: HostRuntime) {
     assert_same(&rt, &came, &Some(asked), "a call among idle callers");
 }
 
+// Writes to the caller at a place until it takes no more, and answers how much it took.
+fn fill<R: Net<Stream = TcpStream, Listener = TcpListener> + Clock + Copy + Drop + Abort>(
+    worker: &mut Worker<R>,
+    place: usize,
+    piece: &[u8; 65_536],
+) -> usize {
+    let mut taken = 0usize;
+    if let Some(call) = worker.calls.get_mut(place) {
+        for _ in 0..NOTICES {
+            match call.wire.sink.try_write(piece) {
+                Ok(Some(count)) => taken = taken.saturating_add(count),
+                _ => return taken,
+            }
+        }
+    }
+    taken
+}
+
 // Which of two connections is late, where this is awaited of the second again and again, and something else of the
-// first.
+// first. One that is to take a byte takes none any more.
 fn late_of_two<R: Net<Stream = TcpStream, Listener = TcpListener> + Clock + Copy + Drop + Abort>(
     rt: R,
     alloc: Global,
@@ -199,6 +217,11 @@ fn late_of_two<R: Net<Stream = TcpStream, Listener = TcpListener> + Clock + Copy
     let mut worker = Worker::new(rt, alloc, 2, limits);
     let _callers = callers(&worker, alloc, 2);
     worker.let_in(2);
+    for (place, awaited) in [(0, other), (1, what)] {
+        if awaited == Awaited::Payment {
+            fill(&mut worker, place, &[7; 65_536]);
+        }
+    }
     worker.watch.awaits(0, other, true);
     worker.watch.awaits(1, what, false);
     worker.watch.awaits(1, what, false);
@@ -282,23 +305,6 @@ fn caller_who_resets(rt: HostRuntime) {
     assert_same(&rt, &(written, is_there, read), &wanted, "a reset");
 }
 
-// Writes until the caller takes no more, and answers how much it took.
-fn fill<R: Net<Stream = TcpStream, Listener = TcpListener> + Clock + Copy + Drop + Abort>(
-    worker: &mut Worker<R>,
-    piece: &[u8; 65_536],
-) -> usize {
-    let mut taken = 0usize;
-    if let Some(call) = worker.calls.first_mut() {
-        for _ in 0..NOTICES {
-            match call.wire.sink.try_write(piece) {
-                Ok(Some(count)) => taken = taken.saturating_add(count),
-                _ => return taken,
-            }
-        }
-    }
-    taken
-}
-
 // Whether so many bytes can be read.
 fn drain(caller: &mut TcpStream, piece: &mut [u8; 65_536], count: usize) -> bool {
     let mut left = count;
@@ -333,10 +339,11 @@ fn caller_who_does_not_read(rt: HostRuntime) {
     let mut worker = Worker::new(rt, rt.alloc(), 1, patient());
     let mut caller = worker.caller();
     let mut piece = [7; 65_536];
-    // The first notice is that a byte can be written.
+    // The first notice is that it has entered.
     worker.let_in(1);
     let is_told = worker.notice() == Notice::Ready { place: 0 };
-    let taken = fill(&mut worker, &piece);
+    let taken = fill(&mut worker, 0, &piece);
+    worker.watch.awaits(0, Awaited::Payment, true);
     let is_read = drain(&mut caller, &mut piece, taken);
     let came = (is_told, taken > 0, is_read, write_on(&mut worker));
     assert_same(
