@@ -1,6 +1,6 @@
-//! Tests of the words of commands, and of commands as `yp_program` runs them over memory: what memory alone can show of
-//! `once`, `session`, `sample`, the clients with `orders`, `build`, `load`, `check`, `dump`, `xfr` and `revnet`, as
-//! calls that fail and crashes; and the codes and notes of statuses. The rest is in examples/.
+//! Tests of commands as `yp_program` runs them over memory: what memory alone can show of `once`, `session`, `sample`,
+//! the clients with `orders`, `build`, `load`, `check`, `dump`, `xfr` and `revnet`, as calls that fail and crashes; and
+//! the codes and notes of statuses. The rest is in examples/.
 #![tactic(auto)]
 
 #[cfg(test)]
@@ -23,5 +23,3 @@ mod session;
 mod status;
 #[cfg(test)]
 mod storing;
-#[cfg(test)]
-mod words;

@@ -1,5 +1,6 @@
 //! The words of the command line.
 
+mod asking;
 mod mailing;
 mod sentences;
 mod serving;
