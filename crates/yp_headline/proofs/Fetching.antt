@@ -1,0 +1,241 @@
+-- A world that is right: a map that is fetched behind a call, and then asked for.
+use Rattle.std.proofs.Common.{◌≡◌, ◌⊎◌, ℕ, zero, suc, ◌<◌, ◌≤◌, Bool, true, false, cond, List, [], ◌∷◌, ◌++◌, length, map, Option, Some, None, Ok, refl, sym, ap, ◌∙◌, subst, arith, inl, inr, append_assoc}
+use Rattle.std.specs.Prelude.{◌==◌}
+use Rattle.std.specs.List.Sorted.{IsStrictlyIncreasing}
+use Rattle.std.proofs.lemmas.List.{append-nil}
+use Rattle.std.proofs.lemmas.List.Elements.{All-nil, All-cons}
+use Rattle.yp_io.specs.declared.stream.Peer.{Peer}
+use Rattle.yp_xdr.specs.Kind.{U32}
+use Rattle.yp_messages.specs.Messages.{name}
+use Rattle.yp_xdr.specs.Reading.{Remaining, word_at, content_at, opaque_at, bool_at}
+use Rattle.yp_xdr.specs.Spelling.{fixed, opaque}
+use Rattle.yp_rpc.specs.Records.{Fragments, IsShort, sent, sent_within}
+use Rattle.yp_rpc.specs.Reply.{words, reply_head}
+use Rattle.yp_rpc.specs.declared.reply.ReplyHead.TheVariants.{Success}
+use Rattle.yp_messages.specs.declared.transfer.XfrStat.TheVariants.{Succ}
+use Rattle.yp_version.specs.Versions.{MapVersion}
+use Rattle.yp_board.specs.Logs.{Log, shown}
+use Rattle.yp_client.specs.Limits.{reply_max, all_max}
+use Rattle.yp_texts.specs.Readings.{reading_of}
+use Rattle.yp_answer.specs.declared.procedure.Path.TheVariants.{Stream}
+use Rattle.yp_answer.specs.Numbers.{record_max}
+use Rattle.yp_answer.specs.Served.{maps_on}
+use Rattle.yp_answer.specs.Transfer.{Taken}
+use Rattle.yp_answer.specs.Reply.{Response, Bytes, Takes, reply, xfr_reply}
+use Rattle.yp_headline.specs.inside.Tried.{somebody, version_with, match_call, match_reply, one_map, first_log, order_reply, master_reply, all_reply, fetched_bytes, xfr_call, fetched_log, its_transfer, transfer_world}
+use Rattle.yp_headline.specs.World.{World, Given, Dialed}
+use Rattle.yp_headline.specs.Fetching.{Says, SaysRows, Gives}
+use Rattle.yp_headline.specs.Publishing.{IsFetched}
+use Rattle.yp_headline.specs.Serving.{IsReply}
+use Rattle.yp_headline.specs.Headline.{Replies}
+use Rattle.yp_headline.proofs.Runs.{front_self}
+use Rattle.yp_headline.proofs.Matched.{match_record}
+
+-- ---- what a server gives
+
+abbrev pub left_at : List ℕ → Remaining
+left_at bytes = record { at = 24; bytes = bytes }
+
+pub first_order : Says 1 U32 9 (order_reply 1 9)
+unfolding word_at content_at opaque_at
+first_order = record {
+  left = left_at (words (1 ∷ 9 ∷ []));
+  behind = record { at = 32; bytes = [] };
+  results = record { verifier = (0, []); head = refl };
+  value_is = refl;
+}
+
+pub its_master : Says 2 name (109 ∷ []) (master_reply 2)
+unfolding word_at content_at opaque_at
+its_master = record {
+  left = left_at (0 ∷ 0 ∷ 0 ∷ 1 ∷ 0 ∷ 0 ∷ 0 ∷ 1 ∷ 109 ∷ 0 ∷ 0 ∷ 0 ∷ []);
+  behind = record { at = 36; bytes = [] };
+  results = record { verifier = (0, []); head = refl };
+  value_is = refl;
+}
+
+pub second_order : Says 4 U32 9 (order_reply 4 9)
+unfolding word_at content_at opaque_at
+second_order = record {
+  left = left_at (words (1 ∷ 9 ∷ []));
+  behind = record { at = 32; bytes = [] };
+  results = record { verifier = (0, []); head = refl };
+  value_is = refl;
+}
+
+pub its_rows : SaysRows 3 ((107 ∷ [], 119 ∷ []) ∷ []) (all_reply 3)
+unfolding word_at content_at opaque_at bool_at
+its_rows = record {
+  left = left_at (0 ∷ 0 ∷ 0 ∷ 1 ∷ 0 ∷ 0 ∷ 0 ∷ 1 ∷ 0 ∷ 0 ∷ 0 ∷ 1 ∷ 119 ∷ 0 ∷ 0 ∷ 0
+      ∷ 0 ∷ 0 ∷ 0 ∷ 1 ∷ 107 ∷ 0 ∷ 0 ∷ 0 ∷ 0 ∷ 0 ∷ 0 ∷ 0 ∷ []);
+  results = record { verifier = (0, []); head = refl };
+  rows_are = (record { at = 48; bytes = 0 ∷ 0 ∷ 0 ∷ 0 ∷ [] }, refl, (record { at = 52; bytes = [] }, inl refl));
+}
+
+pub order_record : Fragments reply_max (order_reply 1 9) (sent (order_reply 1 9))
+unfolding sent_within
+order_record = record {
+  pieces = [];
+  last = order_reply 1 9;
+  whole = refl;
+  spelled = refl;
+  within = record {
+    len = omega arith;
+    empty = omega arith;
+    short = All-cons IsShort (order_reply 1 9) [] (omega arith) (All-nil IsShort);
+  };
+}
+
+pub master_record : Fragments reply_max (master_reply 2) (sent (master_reply 2))
+unfolding sent_within
+master_record = record {
+  pieces = [];
+  last = master_reply 2;
+  whole = refl;
+  spelled = refl;
+  within = record {
+    len = omega arith;
+    empty = omega arith;
+    short = All-cons IsShort (master_reply 2) [] (omega arith) (All-nil IsShort);
+  };
+}
+
+pub rows_record : Fragments all_max (all_reply 3) (sent (all_reply 3))
+unfolding sent_within
+rows_record = record {
+  pieces = [];
+  last = all_reply 3;
+  whole = refl;
+  spelled = refl;
+  within = record {
+    len = omega arith;
+    empty = omega arith;
+    short = All-cons IsShort (all_reply 3) [] (omega arith) (All-nil IsShort);
+  };
+}
+
+pub again_record : Fragments reply_max (order_reply 4 9) (sent (order_reply 4 9))
+unfolding sent_within
+again_record = record {
+  pieces = [];
+  last = order_reply 4 9;
+  whole = refl;
+  spelled = refl;
+  within = record {
+    len = omega arith;
+    empty = omega arith;
+    short = All-cons IsShort (order_reply 4 9) [] (omega arith) (All-nil IsShort);
+  };
+}
+
+pub gives : Gives fetched_bytes (version_with 9 119)
+gives = record {
+  order = 9;
+  master = 109 ∷ [];
+  rows = (107 ∷ [], 119 ∷ []) ∷ [];
+  second = sent (master_reply 2) ++ (sent (all_reply 3) ++ sent (order_reply 4 9));
+  third = sent (all_reply 3) ++ sent (order_reply 4 9);
+  fourth = sent (order_reply 4 9);
+  rest = [];
+  says_order = record { reply = order_reply 1 9; first = sent (order_reply 1 9); fragments = order_record; whole = refl; says = first_order };
+  says_master = record { reply = master_reply 2; first = sent (master_reply 2); fragments = master_record; whole = refl; says = its_master };
+  says_rows = record { reply = all_reply 3; first = sent (all_reply 3); fragments = rows_record; whole = refl; says = its_rows };
+  says_again = record {
+    reply = order_reply 4 9;
+    first = sent (order_reply 4 9);
+    fragments = again_record;
+    whole = sym (append-nil (sent (order_reply 4 9)));
+    says = second_order;
+  };
+  is = refl;
+}
+
+-- ---- the session
+
+xfr_record : Fragments record_max (xfr_call) (sent (xfr_call))
+unfolding sent_within
+xfr_record = record {
+  pieces = [];
+  last = xfr_call;
+  whole = refl;
+  spelled = refl;
+  within = record {
+    len = omega arith;
+    empty = omega arith;
+    short = All-cons IsShort (xfr_call) [] (omega arith) (All-nil IsShort);
+  };
+}
+
+is_taken : reply Stream (maps_on one_map first_log) somebody xfr_call ≡ Takes (xfr_reply 7 5 Succ) its_transfer
+unfolding word_at content_at opaque_at
+is_taken = refl
+
+is_matched : reply Stream (maps_on one_map fetched_log) somebody match_call ≡ Bytes (match_reply 119)
+unfolding word_at content_at opaque_at fixed opaque
+is_matched = refl
+
+two : IsStrictlyIncreasing (7 ∷ 9 ∷ [])
+two zero within = omega arith
+two (suc k) within = absurd (omega (arith, within))
+
+two_rise : (b : Bool) → IsStrictlyIncreasing (map (λ (entry : ℕ × MapVersion). entry.1.order)
+    (cond b ((0, version_with 7 118) ∷ cond b ((0, version_with 9 119) ∷ []) []) (cond b ((0, version_with 9 119) ∷ []) [])))
+two_rise true = two
+two_rise false = λ k within. absurd (omega (arith, within))
+
+pub session_transfer : Replies transfer_world first_log fetched_log
+session_transfer = record {
+  published = record {
+    first = Some (version_with 7 118) ∷ [];
+    stored = (refl, tt);
+    begun_is = refl;
+    more = (0, version_with 9 119) ∷ [];
+    all = refl;
+    new = (
+      inr (record {
+        server = record { peer = somebody; came = fetched_bytes };
+        among = ([], [], refl);
+        fetched = version_with 9 119;
+        gives = gives;
+        marked = refl;
+      }),
+      tt,
+    );
+  };
+  rises = λ number. two_rise (0 == number);
+  connections = (
+    record {
+      exchanges = record { caller = somebody; call = xfr_call; reply = Some (xfr_reply 7 5 Succ) }
+          ∷ record { caller = somebody; call = match_call; reply = Some (match_reply 119) } ∷ [];
+      callers = (refl, (refl, tt));
+      rest = [];
+      came = (
+        sent xfr_call,
+        sent match_call,
+        xfr_record,
+        refl,
+        (sent match_call, [], match_record, sym (append-nil (sent match_call)), refl),
+      );
+      answered = (
+        first_log,
+        first_log,
+        front_self first_log,
+        front_self first_log,
+        subst (λ (r : Response). IsReply r (Some (xfr_reply 7 5 Succ)) first_log first_log) (sym is_taken) refl,
+        (
+          fetched_log,
+          fetched_log,
+          ((0, version_with 9 119) ∷ [], refl),
+          front_self fetched_log,
+          subst (λ (r : Response). IsReply r (Some (match_reply 119)) fetched_log fetched_log) (sym is_matched) refl,
+          front_self fetched_log,
+        ),
+      );
+      unsent = [];
+      sent = sym (append_assoc (sent (xfr_reply 7 5 Succ)) (sent (match_reply 119)) []);
+      whole = λ uncut. (inl refl, refl);
+    },
+    tt,
+  );
+  datagrams = record { exchanges = []; sent = tt; answered = ((0, version_with 9 119) ∷ [], refl) };
+}

@@ -1,0 +1,157 @@
+-- What `run` does is what the headline says.
+use Rattle.std.proofs.Common.{◌≡◌, ◌⊎◌, ℕ, ◌-◌, ◌∷◌, suc, Bool, true, false, List, [], length, take, Option, Some, None, refl, sym, ap, ◌∙◌, subst, arith, inl, ⊎_elim}
+use Rattle.yp_io.specs.Disk.{History, IsImage, LeftIn, LeftBetween, states, moment}
+use Rattle.yp_io.specs.Dials.{Connected}
+use Rattle.yp_version.specs.Versions.{MapVersion}
+use Rattle.yp_map_file.specs.Stands.{stands}
+use Rattle.yp_board.specs.Catalogues.{Name}
+use Rattle.yp_publisher.specs.Standing.{stands_for}
+use Rattle.yp_texts.specs.declared.kind.Kind.{Kind}
+use Rattle.yp_texts.specs.declared.reading.Reading.{Reading}
+use Rattle.yp_texts.specs.declared.reading.Reading.TheVariants.{Text, Rows}
+use Rattle.yp_texts.specs.Readings.{reading_of}
+use Rattle.yp_answer.specs.session.Wires.{Wire}
+use Rattle.yp_worker.specs.Receptions.{ListenTells}
+use Rattle.yp_end_to_end.specs.inside.transfer.Laws.{FetchedIsShown}
+use Rattle.yp_end_to_end.specs.inside.transfer.Turns.{TurnsGiveFetch}
+use Rattle.yp_command.specs.Words.{Meaning, Once, Session, Serve, Build, Load, Xfr, Revnet}
+use Rattle.yp_command.specs.declared.office.office.Office.{Office}
+use Rattle.yp_command.specs.declared.office.status.Status.{Status}
+use Rattle.yp_command.specs.declared.office.status.Status.TheVariants as status
+use Rattle.yp_command.specs.office.Seeing.{Seeing, history}
+use Rattle.yp_command_serve.specs.serve.Serve.{Job, serve_job_of, ServesOrRefuses, ServesMaps}
+use Rattle.yp_command_maps.specs.Build.{job_of, tells_stored, JobDoes}
+use Rattle.yp_command_maps.specs.Revnet.{store_history}
+use Rattle.yp_command_maps.specs.Xfr.{xfr_job_of}
+use Rattle.yp_program.specs.Commands.{AloneDoes, CommandDoes, Does, IsForgone}
+use Rattle.yp_headline.specs.Publishing.{IsAmong}
+use Rattle.yp_headline.specs.Headline.{Crashes}
+use Rattle.yp_headline.specs.inside.Files.{file_world, file_log, done_where}
+use Rattle.yp_headline.specs.inside.Worlds.{was_served}
+use Rattle.yp_headline.specs.inside.Laws.{FileHolds, FileCrashes}
+use Rattle.yp_headline.specs.inside.Running.{was_hosted, BuildHolds, CommandHolds, RunHolds}
+use Rattle.yp_headline.proofs.Once.{once_replies}
+use Rattle.yp_headline.proofs.Session.{session_holds}
+use Rattle.yp_headline.proofs.Xfr.{xfr_holds}
+use Rattle.yp_headline.proofs.Build.{job_holds}
+use Rattle.yp_headline.proofs.Revnet.{revnet_holds}
+use Rattle.yp_headline.proofs.Serve.{serve_holds}
+use Rattle.yp_headline.proofs.Single.{left_crashes}
+
+-- ---- where memory ran out before
+
+at_once : (h : History) (image : List ℕ) → LeftBetween (Some h) (Some h) image → IsImage h.state image
+at_once h image left =
+    let none : moment h - moment h ≡ 0 = omega arith in
+    let here : LeftIn (take 1 (states h)) image = subst (λ (n : ℕ). LeftIn (take (suc n) (states h)) image) none left in
+    ⊎_elim (λ is. is) (λ no. absurd no) here
+
+nothing_among : (number : ℕ) → IsAmong [] number → ⊥
+nothing_among number ([], back, is) = cc
+nothing_among number (one ∷ front, back, is) = cc
+
+same_kind : (a b : Kind) → Some a ≡ Some b → a ≡ b
+same_kind a b is = cc
+
+same_some : (a b : History) → Some a ≡ Some b → a ≡ b
+same_some a b is = cc
+
+module _ (own : List ℕ) (name : Name) (text : List ℕ → Option (List ℕ)) (reading : List ℕ → Reading) (wires : List Connected)
+    (h : History) (held : Option MapVersion) (stood : stands h.state.reads ≡ stands_for held) where
+  quiet : Crashes (file_world own name text reading wires false h h) (file_log held) (file_log held)
+  quiet = left_crashes own name text reading wires h h held None stood (λ version made. absurd cc)
+      (λ image left. inl (at_once h image left))
+
+  untouched : (h' : History) (told : Bool) → h' ≡ h → told ≡ false
+      → Crashes (file_world own name text reading wires told h h') (file_log held) (file_log held)
+  untouched h' told same none = subst (λ (x : History). Crashes (file_world own name text reading wires told h x) (file_log held) (file_log held))
+      (sym same) (subst (λ (b : Bool). Crashes (file_world own name text reading wires b h h) (file_log held) (file_log held)) (sym none) quiet)
+
+served_maps : {S K D C A I T : Type 0} (seen : Seeing S K D C A I T) (job : Job) (s : Status) (old new : Office S K D C A I T)
+    (door door' : ListenTells) (logged : List ℕ) → was_hosted s ≡ true → ServesOrRefuses seen job s old new door door' logged
+    → ServesMaps seen job s old new door door' logged
+served_maps seen job status.Done old new door door' logged hosted serves = serves
+served_maps seen job status.WriteFault old new door door' logged hosted serves = serves
+served_maps seen job status.ListenFault old new door door' logged hosted serves = serves
+served_maps seen job status.InboxFault old new door door' logged hosted serves = serves
+served_maps seen job _ old new door door' logged hosted serves = absurd cc
+
+module _ {S K D C A I T : Type 0} (seen : Seeing S K D C A I T) (turns : TurnsGiveFetch) (shown : FetchedIsShown) where
+  -- a command that was carried out
+  commanded : (meaning : Meaning) (s : Status) (old new : Office S K D C A I T) (door door' : ListenTells)
+      (before after : List Wire) (logged : List ℕ) → CommandDoes seen meaning s old new door door' before after logged
+      → CommandHolds seen meaning s old new door door'
+  unfolding AloneDoes
+  commanded (Once store rows) s old new door door' before after logged does =
+      λ unrefused some came taken sent input output took.
+      once_replies seen store rows s old new before after does.0 unrefused some came taken sent input output took
+  commanded (Session own peer stores hosts) s old new door door' before after logged does =
+      λ served named came taken sent input output took told told' first last wires was is few more inputs.
+      session_holds seen own peer stores hosts s old new before after does.0 served named came taken sent input output took told told'
+      first last wires was is few more inputs
+  commanded (Xfr name force store host flag) s old new door door' before after logged does =
+      λ h h' was is held stood first last wires dial dial' few came inputs.
+      xfr_holds seen turns shown (xfr_job_of name force store host flag) s old new does.0.0 h h' was is held stood first last wires dial dial'
+      few came inputs
+  commanded (Build name store flag) s old new door door' before after logged does =
+      λ kind of_kind text h h' now input was is moment_is held stood.
+      let same : does.0.0.kind ≡ kind = same_kind does.0.0.kind kind (sym does.0.0.of_kind ∙ of_kind) in
+      job_holds seen (job_of name store (Text kind) flag) s old new
+      (subst (λ (k : Kind). JobDoes seen (job_of name store (Text k) flag) s old new) same does.0.0.does) text h h' now input was is moment_is
+      held stood
+  commanded (Load name store flag) s old new door door' before after logged does =
+      λ text h h' now input was is moment_is held stood.
+      job_holds seen (job_of name store Rows flag) s old new does.0.0 text h h' now input was is moment_is held stood
+  commanded (Revnet name store) s old new door door' before after logged does =
+      λ h h' n now was is netgroups moment_is held stood.
+      revnet_holds seen name store s old new does.0.0 h h' n now was is netgroups moment_is held stood
+  commanded (Serve own port workers connections count stores hosts log) s old new door door' before after logged does =
+      λ hosted calls calls' closed was is more told.
+      let job = serve_job_of own connections count stores hosts log in
+      serve_holds seen job s old new door door' logged (served_maps seen job s old new door door' logged hosted does.0.serves)
+      calls calls' closed was is more told
+  commanded _ s old new door door' before after logged does = tt
+
+  unbuilt : (name : List ℕ) (store : Name) (reading : Reading) (s : Status) (old new : Office S K D C A I T) → s ≡ status.NoMemory → new ≡ old
+      → BuildHolds seen name store reading s old new
+  unbuilt name store reading s old new none stays = λ text h h' now input was is moment_is held stood.
+      let same : h' ≡ h = same_some h' h (sym is ∙ ap (history seen) stays ∙ was) in
+      record {
+        log = file_log held;
+        crashes = untouched name store (λ name. Some text) (λ name. reading) [] h held stood h' (tells_stored s) same (ap tells_stored none);
+      }
+
+  -- one for which memory ran out before
+  forgone : (meaning : Meaning) (s : Status) (old new : Office S K D C A I T) (door door' : ListenTells) → s ≡ status.NoMemory → new ≡ old
+      → CommandHolds seen meaning s old new door door'
+  forgone (Once store rows) s old new door door' none stays = λ unrefused some came taken sent input output took. absurd (some none)
+  forgone (Session own peer stores hosts) s old new door door' none stays =
+      λ served named came taken sent input output took told told' first last wires was is few more inputs.
+      absurd (let e : false ≡ true = sym (ap was_served none) ∙ served in cc)
+  forgone (Xfr name force store host flag) s old new door door' none stays =
+      λ h h' was is held stood first last wires dial dial' few came inputs.
+      let same : h' ≡ h = same_some h' h (sym is ∙ ap (history seen) stays ∙ was) in
+      let told : tells_stored s ≡ false = ap tells_stored none in
+      record {
+        log = file_log held;
+        crashes = untouched name store (λ name. None) reading_of wires h held stood h' (tells_stored s) same told;
+        transfers = record {
+          done = λ number among. absurd (nothing_among number (subst (λ (b : Bool). IsAmong (done_where b) number) told among));
+        };
+      }
+  forgone (Build name store flag) s old new door door' none stays = λ kind of_kind. unbuilt name store (Text kind) s old new none stays
+  forgone (Load name store flag) s old new door door' none stays = unbuilt name store Rows s old new none stays
+  forgone (Revnet name store) s old new door door' none stays = λ h h' n now was is netgroups moment_is held stood.
+      let same : h' ≡ h = same_some h' h (sym is ∙ ap (store_history seen) stays ∙ was) in
+      record {
+        log = file_log held;
+        crashes = untouched name store (λ name. None) reading_of [] h held stood h' (tells_stored s) same (ap tells_stored none);
+      }
+  forgone (Serve own port workers connections count stores hosts log) s old new door door' none stays =
+      λ hosted calls calls' closed was is more told. absurd (let e : false ≡ true = sym (ap was_hosted none) ∙ hosted in cc)
+  forgone _ s old new door door' none stays = tt
+
+  pub run_holds : RunHolds seen
+  run_holds meaning s old new door door' before after logged does = ⊎_elim
+      (λ command. commanded meaning s old new door door' before after logged command)
+      (λ none. forgone meaning s old new door door' none.told none.stays) does

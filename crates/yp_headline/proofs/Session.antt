@@ -1,0 +1,376 @@
+-- What a session over stored maps does is what the headline says.
+use Rattle.std.proofs.Common.{◌≡◌, ◌⊎◌, ℕ, zero, suc, ◌+◌, ◌-◌, ◌<◌, ◌≤◌, Bool, true, false, List, [], ◌∷◌, ◌++◌, length, map, take, Option, Some, None, Result, Ok, Err, refl, sym, ap, ◌∙◌, subst, arith, inl, inr, ⊎_elim}
+use Rattle.std.specs.Prelude.{IfSome, IsSome, slice_get, slice_index_or, ⊤, Contains, unwrap_or}
+use Rattle.std.specs.List.{AllZip, All}
+use Rattle.std.proofs.lemmas.List.{append_cancel_left, map-append, length-map}
+use Rattle.yp_io.specs.declared.stream.Peer.{Peer}
+use Rattle.yp_io.specs.Disk.{History, DiskState, IsImage, LeftIn, MayLeave, LeavesOnly}
+use Rattle.yp_io.specs.Dials.{Connected, Wires}
+use Rattle.yp_version.specs.Versions.{MapVersion}
+use Rattle.yp_version.specs.Drafts.{Draft, empty_draft, with_rows}
+use Rattle.yp_map_file.specs.Stands.{Stored, stands}
+use Rattle.yp_board.specs.Catalogues.{Catalogue}
+use Rattle.yp_board.specs.Logs.{Log, shown, starts}
+use Rattle.yp_board.specs.Views.{IsFront}
+use Rattle.yp_publisher.specs.Standing.{StoredMap, MapStanding, Level, Behind, stands_for, StandsAs, IsStanding, OfMap, versions, Shows}
+use Rattle.yp_publisher.specs.Opens.{IsOpened}
+use Rattle.yp_publisher.specs.Grown.{Making, AreMade, GrowsBy, IsShownOrMade, IsOfBetween, IsBehindMade, AtDisk, LeavesOr, AreTold}
+use Rattle.yp_answer.specs.Causes.{Told, Task, task_of}
+use Rattle.yp_answer.specs.declared.procedure.Path.TheVariants.{Stream}
+use Rattle.yp_answer.specs.Make.{map_name, making_of}
+use Rattle.yp_answer.specs.declared.session.session.End.{End}
+use Rattle.yp_answer.specs.declared.session.session.End.TheVariants as ends
+use Rattle.yp_answer.specs.declared.session.session.TheConstants.{CALLS_MAX}
+use Rattle.yp_answer.specs.session.Progress.{begun}
+use Rattle.yp_answer.specs.session.Hosts.{Turn}
+use Rattle.yp_answer.specs.session.Wires.{Wire}
+use Rattle.yp_answer.specs.session.Runs.{Dialogue, dialogue_at}
+use Rattle.yp_host.specs.Locals.{Local}
+use Rattle.yp_host.specs.Connections.{Service, Connection, local_conduct, log_of, WasMade, WasFetched, IsGiven, given_in, transitions_of, Transition, ServesConnection}
+use Rattle.yp_board.specs.Catalogues.{name_view}
+use Rattle.yp_command.specs.declared.office.disks.NamedDisk.{NamedDisk}
+use Rattle.yp_command.specs.declared.office.status.Status.{Status}
+use Rattle.yp_command.specs.declared.office.status.Status.TheVariants as status
+use Rattle.yp_command.specs.office.Disks.{disks_of}
+use Rattle.yp_command.specs.office.Seeing.{Seeing}
+use Rattle.yp_command_serve.specs.Session.{Sessions, service, connection}
+use Rattle.yp_headline.specs.World.{World, Store, Given, Filed, MapFile, Dialed}
+use Rattle.yp_headline.specs.Fetching.{Gives}
+use Rattle.yp_headline.specs.Serving.{IsServed}
+use Rattle.yp_headline.specs.Publishing.{IsAmong, IsMarked, IsBuilt, IsFetched, IsNew, StoreHas, IsPublishedLog, OfStore, OfFile, StandsBy, StandsByFront}
+use Rattle.yp_headline.specs.Headline.{Replies, Crashes}
+use Rattle.yp_headline.specs.inside.Files.{is_cut, filed, stores_between, dialed_of}
+use Rattle.yp_headline.specs.inside.Worlds.{cuts_short, was_served, session_world}
+use Rattle.yp_headline.specs.inside.Laws.{WorldHolds, SessionHolds}
+use Rattle.yp_headline.proofs.Runs.{front_self, run_served}
+use Rattle.yp_headline.proofs.Named.{open_is_named}
+use Rattle.yp_headline.proofs.Built.{made_built}
+use Rattle.yp_headline.proofs.Dialing.{IsOpen, IsSound, Came, Among, Goes, fetched_among, chained, ended_goes, some_then}
+
+-- ---- files
+
+-- a disk that tells at first and at last
+module _ {D : Type 0} (history : D → Option History) where
+  told_first : (disk : D) (disks : List D) → AreTold history (disk ∷ disks) → IsSome (history disk)
+  told_first disk disks told = told 0 disk (omega (arith))
+
+  told_rest : (disk : D) (disks : List D) → AreTold history (disk ∷ disks) → AreTold history disks
+  told_rest disk disks told = λ k d within. told (suc k) d (omega (arith, within))
+
+  -- what the store of a disk has, where both moments are told
+  store_has : (old new : Option History) (version : Option MapVersion) → IsSome old → IsSome new
+      → IfSome old (λ h. stands h.state.reads ≡ stands_for version) → StoreHas (filed old new) version
+  store_has None new version is is' has = absurd cc
+  store_has (Some old) None version is is' has = absurd cc
+  store_has (Some old) (Some new) version is is' has = has
+
+  pub stores_have : (faults : D → ℕ) (olds news : List D) (maps : List (StoredMap D)) → AllZip (IsOpened history faults) olds maps
+      → length news ≡ length maps → AreTold history olds → AreTold history news
+      → AllZip StoreHas (stores_between history olds news) (versions maps)
+  stores_have faults [] [] [] opened count told told' = tt
+  stores_have faults [] (new ∷ news) [] opened count told told' = absurd (omega (arith, count))
+  stores_have faults [] news (kept ∷ maps) opened count told told' = absurd opened
+  stores_have faults (old ∷ olds) news [] opened count told told' = absurd opened
+  stores_have faults (old ∷ olds) [] (kept ∷ maps) opened count told told' = absurd (omega (arith, count))
+  stores_have faults (old ∷ olds) (new ∷ news) (kept ∷ maps) opened count told told' = (
+    store_has (history old) (history new) kept.version (told_first old olds told) (told_first new news told')
+        opened.0.stood.version,
+    stores_have faults olds news maps opened.1 (omega (arith, count)) (told_rest old olds told) (told_rest new news told'),
+  )
+
+  -- what a crash leaves of a file at each moment
+  left_of : (Q P : List ℕ → Type 0) → ((image : List ℕ) → Q image → P image) → (old new : Option History)
+      → LeavesOnly old new (λ image. MayLeave old image ⊎ Q image)
+      → OfStore (λ file. (image : List ℕ) → LeftIn file.moments image → IsImage file.first image ⊎ P image) (filed old new)
+  left_of Q P then None None leaves = tt
+  left_of Q P then None (Some new) leaves = tt
+  left_of Q P then (Some old) None leaves = tt
+  left_of Q P then (Some old) (Some new) leaves =
+      λ image left. ⊎_elim (λ first. inl first) (λ is. inr (then image is)) (leaves.each image left)
+
+  pub left_at : (Q P : List ℕ → Type 0) → ((image : List ℕ) → Q image → P image) → (number : ℕ) (olds news : List D)
+      → AtDisk number olds news (LeavesOr history Q)
+      → OfFile number (stores_between history olds news)
+      (λ file. (image : List ℕ) → LeftIn file.moments image → IsImage file.first image ⊎ P image)
+  left_at Q P then number [] [] at = tt
+  left_at Q P then number [] (new ∷ news) at = tt
+  left_at Q P then number (old ∷ olds) [] at = tt
+  left_at Q P then zero (old ∷ olds) (new ∷ news) at = left_of Q P then (history old) (history new) at
+  left_at Q P then (suc number) (old ∷ olds) (new ∷ news) at = left_at Q P then number olds news at
+
+  -- what a crash leaves of a file at the end
+  end_of : (P : List ℕ → Type 0) (old new : Option History)
+      → ((h : History) → new ≡ Some h → (image : List ℕ) → IsImage h.state image → P image)
+      → OfStore (λ file. (image : List ℕ) → IsImage file.last image → IsImage file.first image ⊎ P image) (filed old new)
+  end_of P None None then = tt
+  end_of P None (Some new) then = tt
+  end_of P (Some old) None then = tt
+  end_of P (Some old) (Some new) then = λ image is. inr (then new refl image is)
+
+  pub end_at : (P : List ℕ → Type 0) (number : ℕ) (olds : List D) (maps : List (StoredMap D))
+      → ((kept : StoredMap D) (h : History) → slice_get maps number ≡ Some kept → history kept.disk ≡ Some h
+      → (image : List ℕ) → IsImage h.state image → P image)
+      → OfFile number (stores_between history olds (map (λ kept. kept.disk) maps))
+      (λ file. (image : List ℕ) → IsImage file.last image → IsImage file.first image ⊎ P image)
+  end_at P number [] [] then = tt
+  end_at P number [] (kept ∷ maps) then = tt
+  end_at P number (old ∷ olds) [] then = tt
+  end_at P zero (old ∷ olds) (kept ∷ maps) then =
+      end_of P (history old) (history kept.disk) (λ h is. then kept h refl is)
+  end_at P (suc number) (old ∷ olds) (kept ∷ maps) then = end_at P number olds maps then
+
+no_item : (number : ℕ) → IsAmong [] number → ⊥
+no_item number ([], back, is) = cc
+no_item number (one ∷ front, back, is) = cc
+
+version_at : {D : Type 0} (maps : List (StoredMap D)) (number : ℕ) (kept : StoredMap D) → slice_get maps number ≡ Some kept
+    → slice_index_or (versions maps) number None ≡ kept.version
+version_at [] number kept is = absurd cc
+version_at (one ∷ maps) zero kept is = let same : one ≡ kept = cc in ap (λ k. k.version) same
+version_at (one ∷ maps) (suc number) kept is = version_at maps number kept is
+
+-- ---- versions that are new
+
+made_so : (Is Is' : Making) → ((number : ℕ) (log : Log) (version : MapVersion) → Is number log version → Is' number log version)
+    → (log more : Log) → AreMade Is log more → AreMade Is' log more
+made_so Is Is' then log [] made = tt
+made_so Is Is' then log (entry ∷ more) made =
+    (then entry.0 log entry.1 made.0, made_so Is Is' then (log ++ entry ∷ []) more made.1)
+
+same_some : (a b : Wires) → Some a ≡ Some b → a ≡ b
+same_some a b e = cc
+
+told_input : (input : Option (List ℕ)) (stream : List ℕ) → input ≡ Some stream → unwrap_or input [] ≡ stream
+told_input input stream is = ap (λ (o : Option (List ℕ)). unwrap_or o []) is
+
+zip_length : {A B : Type 0} (R : A → B → Type 0) (xs : List A) (ys : List B) → AllZip R xs ys → length xs ≡ length ys
+zip_length R [] [] all = refl
+zip_length R [] (y ∷ ys) all = absurd all
+zip_length R (x ∷ xs) [] all = absurd all
+zip_length R (x ∷ xs) (y ∷ ys) all = let rest = zip_length R xs ys all.1 in omega (arith, rest)
+
+module _ {D B E : Type 0} (service : Service D B E) (end : End) (old new : Connection D E) (wires : List Wire)
+    (serves : ServesConnection service end old new wires) (came before sent : List ℕ) (dialed : List Connected)
+    (first last : Wires) (count : length old.disks ≡ length service.catalogue.maps)
+    (told : AreTold service.keeping.history old.disks) (told' : AreTold service.keeping.history new.disks)
+    (was : (service.telling.dial old.desk).past ≡ Some first) (is : (service.telling.dial new.desk).past ≡ Some last)
+    (few : length first.back ≤ length first.came) (more_came : last.came ≡ first.came ++ dialed)
+    (inputs : (wire : Connected) → IsAmong dialed wire → (stream : List ℕ) × (wire.input ≡ Some stream))
+    (input : old.wire.source.input ≡ Some came) (output : old.wire.sink.output ≡ Some before)
+    (took : new.wire.sink.output ≡ Some (before ++ sent)) where
+  abbrev world : World
+  world = session_world service (is_cut end) old new came sent dialed
+
+  abbrev log0 : Log
+  log0 = log_of service serves.start
+
+  abbrev log1 : Log
+  log1 = log_of service serves.finish
+
+  start_desk : serves.start.desk ≡ old.desk
+  start_desk = ap (λ (h : Local D B E). h.desk) serves.first.begun
+
+  start_catalogue : serves.start.published.catalogue ≡ service.catalogue
+  start_catalogue = serves.first.catalogue
+
+  sound : IsSound service.keeping service.telling serves.start
+  sound = record {
+    count = sym (zip_length (IsOpened service.keeping.history service.keeping.faults) old.disks serves.start.published.maps
+        serves.first.opened) ∙ count ∙ ap (λ (c : Catalogue). length c.maps) (sym start_catalogue);
+    opened = record {
+      wires = first;
+      is = ap (λ (e : E). (service.telling.dial e).past) start_desk ∙ was;
+      few = few;
+    };
+  }
+
+  whole : Goes service.keeping service.telling serves.start serves.finish
+  whole =
+      let run = serves.runs in
+      let chain = chained service.keeping service.telling service.peer run.answered
+      (dialogue_at serves.start old.wire begun) run.last run.chain sound in
+      let tail = ended_goes service.keeping service.telling service.peer CALLS_MAX (length run.answered) end run.last
+      (dialogue_at serves.finish new.wire serves.progress) run.ends chain.sound in
+      record {
+        sound = tail.sound;
+        some = some_then (service.telling.dial serves.start.desk).past (service.telling.dial run.last.host.desk).past
+            (service.telling.dial serves.finish.desk).past chain.some tail.some;
+        catalogue = tail.catalogue ∙ chain.catalogue;
+        count = tail.count ∙ chain.count;
+      }
+
+  fetched_new : (number : ℕ) (log : Log) (version : MapVersion)
+      → WasFetched service (transitions_of (dialogue_at serves.start old.wire begun) serves.runs.answered)
+      (service.telling.hosts old.desk) number log version → IsFetched world version
+  fetched_new number log version fetched =
+      let a = fetched_among service (service.telling.hosts old.desk) fetched.taken fetched.fetched CALLS_MAX end
+      serves.runs.answered (dialogue_at serves.start old.wire begun) serves.runs.last
+      (dialogue_at serves.finish new.wire serves.progress) (length serves.runs.answered) serves.runs.chain serves.runs.ends
+      sound fetched.transition fetched.among fetched.gave in
+      let from : a.came.before ≡ first = same_some a.came.before first
+      (sym a.came.was ∙ ap (λ (e : E). (service.telling.dial e).past) start_desk ∙ was) in
+      let to : a.came.after ≡ last = same_some a.came.after last
+      (sym a.came.is ∙ ap (λ (e : E). (service.telling.dial e).past) (sym serves.last.desk) ∙ is) in
+      let all : first.came ++ (a.front ++ a.wire ∷ a.back) ≡ first.came ++ dialed =
+      ap (λ (w : Wires). w.came ++ (a.front ++ a.wire ∷ a.back)) (sym from) ∙ sym a.came.came
+      ∙ ap (λ (w : Wires). w.came) to ∙ more_came in
+      let parts : dialed ≡ a.front ++ a.wire ∷ a.back = sym (append_cancel_left first.came _ dialed all) in
+      let input_is = inputs a.wire (a.front, a.back, parts) in
+      let gives = a.gave input_is.0 input_is.1 in
+      record {
+        server = dialed_of a.wire;
+        among = (
+          map dialed_of a.front,
+          map dialed_of a.back,
+          ap (map dialed_of) parts ∙ map-append dialed_of a.front (a.wire ∷ a.back),
+        );
+        fetched = fetched.fetched;
+        gives = subst (λ (l : List ℕ). Gives l fetched.fetched) (sym (told_input a.wire.input input_is.0 input_is.1)) gives;
+        marked = fetched.marked ∙ ap (λ (b : Bool). record fetched.fetched { secure = b })
+            (sym (ap (λ (v : MapVersion). v.secure) fetched.marked));
+      }
+
+  is_new : (number : ℕ) (log : Log) (version : MapVersion)
+      → given_in service old serves.start serves.runs.turns serves.runs.answered number log version
+      → IsNew world number log version
+  is_new number log version given = ⊎_elim
+      (λ (made : WasMade service serves.runs.turns (service.telling.told old.desk) number log version).
+      let got = made.called.2 in
+      let named = open_is_named Stream got.maps service.peer made.called.0.message made.called.1 made.job got.gets in
+      inl (made_built world number log version (service.telling.told old.desk) refl refl made.job made.at made.of_map
+      (subst (λ (c : Catalogue). made.job.making ≡ making_of (map_name made.job.map c)) got.of_catalogue named) made.anew))
+      (λ fetched. inr (fetched_new number log version fetched)) given
+
+  published : IsPublishedLog world log0 log1
+  published =
+      let grown = serves.grown told in
+      let disks : length new.disks ≡ length serves.start.published.maps =
+      ap length serves.last.disks ∙ length-map serves.finish.published.maps (λ (kept : StoredMap D). kept.disk) ∙ whole.count in
+      record {
+        first = versions serves.start.published.maps;
+        stored = stores_have service.keeping.history service.keeping.faults old.disks new.disks serves.start.published.maps
+            serves.first.opened disks told told';
+        begun_is = serves.first.log;
+        more = grown.more;
+        all = grown.last_is;
+        new = made_so (given_in service old serves.start serves.runs.turns serves.runs.answered) (IsNew world) is_new
+            log0 grown.more grown.made;
+      }
+
+  served_one : IsServed service.catalogue log0 log1 (record { peer = service.peer; came = came; sent = sent; cut = is_cut end })
+  served_one = subst (λ (c : Catalogue). IsServed c log0 log1 (record { peer = service.peer; came = came; sent = sent; cut = is_cut end }))
+      start_catalogue
+      (run_served (local_conduct service.keeping service.telling) service.peer CALLS_MAX
+      (dialogue_at serves.start old.wire begun) (dialogue_at serves.finish new.wire serves.progress) wires came before sent input
+      output took end serves.runs log1 (front_self log1))
+
+  log_grown : IsFront log0 log1
+  log_grown = let grown = serves.grown told in (grown.more, grown.last_is)
+
+  pub session_replies : Replies world log0 log1
+  session_replies = record {
+    published = published;
+    rises = serves.rises told;
+    connections = (served_one, tt);
+    datagrams = record { exchanges = []; sent = tt; answered = log_grown };
+  }
+
+  -- ---- what a crash leaves
+
+  stands_by : (number : ℕ) (log : Log) (image : List ℕ)
+      → IsShownOrMade (given_in service old serves.start serves.runs.turns serves.runs.answered) number log image
+      → StandsBy world number log image
+  stands_by number log image is = ⊎_elim (λ as_shown. inl as_shown)
+      (λ made. inr (made.0, is_new number log made.0 made.1, made.2)) is
+
+  by_front : (number : ℕ) (image : List ℕ)
+      → IsOfBetween (given_in service old serves.start serves.runs.turns serves.runs.answered) number log0 log1 image
+      → StandsByFront world number log0 log1 image
+  by_front number image is = record {
+    front = is.log;
+    begins = is.begins;
+    goes_on = is.goes_on;
+    stands_by = stands_by number is.log image is.holds;
+  }
+
+  by_standing : (number : ℕ) (standing : MapStanding) (image : List ℕ)
+      → StandsAs standing (shown number log1) image
+      → IsBehindMade (given_in service old serves.start serves.runs.turns serves.runs.answered) number log1 standing
+      → StandsBy world number log1 image
+  by_standing number Level image stands_as behind = inl stands_as
+  by_standing number (Behind failed) image stands_as behind =
+      ⊎_elim (λ as_shown. inl as_shown) (λ as_failed. inr (failed, is_new number log1 failed behind, as_failed)) stands_as
+
+  at_end : (number : ℕ) (kept : StoredMap D) (h : History) → slice_get serves.finish.published.maps number ≡ Some kept
+      → service.keeping.history kept.disk ≡ Some h → (image : List ℕ) → IsImage h.state image
+      → StandsBy world number log1 image
+  at_end number kept h kept_is told_is image may =
+      let maps = serves.finish.published.maps in
+      let standing : IsStanding service.keeping.history kept =
+      subst (λ (o : Option (StoredMap D)). IfSome o (IsStanding service.keeping.history)) kept_is
+      (serves.last.standing number) in
+      let may' : MayLeave (service.keeping.history kept.disk) image =
+      subst (λ (o : Option History). MayLeave o image) (sym told_is) may in
+      let behind = subst (λ (o : Option (StoredMap D)). IfSome o (λ k. IsSome (service.keeping.history k.disk)
+      → IsBehindMade (given_in service old serves.start serves.runs.turns serves.runs.answered) number log1 k.standing))
+      kept_is (serves.behind number) in
+      let some : IsSome (service.keeping.history kept.disk) = subst (λ (o : Option History). IsSome o) (sym told_is) refl in
+      let version : kept.version ≡ shown number log1 =
+      sym (version_at maps number kept kept_is) ∙ sym (serves.last.shows number) in
+      by_standing number kept.standing image
+      (subst (λ (v : Option MapVersion). StandsAs kept.standing v image) version (standing image may')) (behind some)
+
+  pub session_crashes : Crashes world log0 log1
+  session_crashes = record {
+    published = published;
+    any_moment = λ number. left_at service.keeping.history
+        (IsOfBetween (given_in service old serves.start serves.runs.turns serves.runs.answered) number log0 log1)
+        (StandsByFront world number log0 log1) (by_front number) number old.disks new.disks (serves.any_moment number);
+    at_end = λ number. subst (λ (l : List D). OfFile number (stores_between service.keeping.history old.disks l)
+        (λ file. (image : List ℕ) → IsImage file.last image → IsImage file.first image ⊎ StandsBy world number log1 image))
+        (sym serves.last.disks)
+        (end_at service.keeping.history (StandsBy world number log1)
+        number old.disks serves.finish.published.maps (at_end number));
+    stored = λ number among. absurd (no_item number among);
+  }
+
+-- ---- by the status
+
+module _ {D B E : Type 0} (service : Service D B E) (old new : Connection D E) (wires : List Wire)
+    (came before sent : List ℕ) (dialed : List Connected)
+    (first last : Wires) (count : length old.disks ≡ length service.catalogue.maps)
+    (told : AreTold service.keeping.history old.disks) (told' : AreTold service.keeping.history new.disks)
+    (was : (service.telling.dial old.desk).past ≡ Some first) (is : (service.telling.dial new.desk).past ≡ Some last)
+    (few : length first.back ≤ length first.came) (more_came : last.came ≡ first.came ++ dialed)
+    (inputs : (wire : Connected) → IsAmong dialed wire → (stream : List ℕ) × (wire.input ≡ Some stream))
+    (input : old.wire.source.input ≡ Some came) (output : old.wire.sink.output ≡ Some before)
+    (took : new.wire.sink.output ≡ Some (before ++ sent)) where
+  held : (end : End) → ServesConnection service end old new wires
+      → WorldHolds (session_world service (is_cut end) old new came sent dialed)
+  held end serves = record {
+    begun = log_of service serves.start;
+    log = log_of service serves.finish;
+    replies = session_replies service end old new wires serves came before sent dialed first last count told told' was is few
+        more_came inputs input output took;
+    crashes = session_crashes service end old new wires serves came before sent dialed first last count told told' was is few
+        more_came inputs input output took;
+  }
+
+  pub by_status : (s : Status) → was_served s ≡ true → Sessions service s old new wires
+      → WorldHolds (session_world service (cuts_short s) old new came sent dialed)
+  by_status status.Done served did = held ends.Clean did
+  by_status (status.Torn at) served did = held (ends.Torn at) did
+  by_status (status.TooLong at) served did = held (ends.TooLong at) did
+  by_status status.ReadFault served did = held ends.ReadFault did
+  by_status status.WriteFault served did = held ends.WriteFault did
+  by_status status.Enough served did = held ends.Enough did
+  by_status _ served did = absurd cc
+
+pub session_holds : {S K D C A I T : Type 0} (seen : Seeing S K D C A I T) → SessionHolds seen
+session_holds {S} {K} {D} {C} {A} {I} {T} seen own peer stores hosts s old new before after does served named came taken sent input output took told told'
+    first last wires was is few more_came inputs =
+    let count : length (disks_of old.disks.items) ≡ length stores =
+    length-map old.disks.items (λ (d : NamedDisk D). d.disk) ∙ sym (length-map old.disks.items (λ (d : NamedDisk D). name_view d.name))
+    ∙ ap length named in
+    by_status (service seen own peer stores) (connection seen hosts old) (connection seen hosts new) does.serves.more came taken
+    sent wires first last count told told' was is few more_came inputs input output took s served does.serves.done

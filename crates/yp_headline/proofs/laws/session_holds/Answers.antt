@@ -1,0 +1,6 @@
+use Rattle.yp_command.specs.office.Seeing.{seeing}
+use Rattle.yp_headline.proofs.Session.{session_holds}
+use Rattle.yp_headline.proofs.laws.session_holds.Goals as goal
+
+pub returns : goal.returns
+returns g c = session_holds (seeing g.S.Source g.K.Sink g.D.Disk g.C.Clock g.A.Dial g.I.Inbox g.T.Texts)

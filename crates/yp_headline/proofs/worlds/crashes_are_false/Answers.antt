@@ -1,0 +1,12 @@
+use Rattle.yp_headline.proofs.Torn as torn
+use Rattle.yp_headline.proofs.Lost as lost
+use Rattle.yp_headline.proofs.worlds.crashes_are_false.Goals as goal
+
+pub returns : goal.returns
+returns c = record {
+  torn_at_end = torn.torn_at_end;
+  torn_meanwhile = torn.torn_meanwhile;
+  lost_at_end = lost.lost_at_end;
+  lost_meanwhile = lost.lost_meanwhile;
+  from_nowhere = lost.from_nowhere;
+}

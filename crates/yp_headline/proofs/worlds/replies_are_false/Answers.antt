@@ -1,0 +1,20 @@
+use Rattle.yp_headline.proofs.Wrong as wrong
+use Rattle.yp_headline.proofs.Matched as matched
+use Rattle.yp_headline.proofs.worlds.replies_are_false.Goals as goal
+
+pub returns : goal.returns
+returns c =
+    let one = c.cut_is_one.ensures in
+    record {
+      unanswered = wrong.unanswered one;
+      another_xid = wrong.another_xid one;
+      answered_twice = wrong.answered_twice one;
+      answered_short = wrong.answered_short one;
+      unasked = wrong.unasked one;
+      out_of_order = wrong.out_of_order one;
+      second_unanswered = wrong.second_unanswered one;
+      mail_unanswered = wrong.mail_unanswered one;
+      mail_of_another = wrong.mail_of_another one;
+      never_shown = matched.never_shown one;
+      answered_as_null = matched.answered_as_null one;
+    }

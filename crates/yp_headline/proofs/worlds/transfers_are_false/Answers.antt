@@ -1,0 +1,14 @@
+use Rattle.yp_headline.proofs.Torn.{of_no_server}
+use Rattle.yp_headline.proofs.Skewed as skewed
+use Rattle.yp_headline.proofs.worlds.transfers_are_false.Goals as goal
+
+pub returns : goal.returns
+returns c =
+    let one = c.first_is_one.ensures in
+    record {
+      of_no_server = of_no_server;
+      gave_nothing = skewed.gave_nothing one;
+      gave_order = skewed.gave_order one;
+      gave_no_rows = skewed.gave_no_rows one;
+      gave_skewed = skewed.gave_skewed one;
+    }

@@ -1,0 +1,39 @@
+-- The headline: what the whole program does, over the bytes that go in and out.
+use Rattle.std.specs.Prelude.{◌≡◌, ◌⊎◌, ℕ, List}
+use Rattle.std.specs.List.{AllByRecursion}
+use Rattle.yp_io.specs.Disk.{IsImage, LeftIn}
+use Rattle.yp_map_file.specs.Stands.{stands}
+use Rattle.yp_board.specs.Logs.{Log, shown}
+use Rattle.yp_publisher.specs.Standing.{stands_for}
+use Rattle.yp_publisher.specs.Rising.{IsRisingLog}
+use Rattle.yp_headline.specs.World.{World}
+use Rattle.yp_headline.specs.Serving.{IsServed, AreServed}
+use Rattle.yp_headline.specs.Publishing.{IsAmong, IsPublishedLog, OfFile, StandsBy, StandsByFront}
+use Rattle.yp_headline.specs.Sources.{Succeeded}
+
+-- Replies. There is one log of published versions, in which the orders of each map rise. Each connection was answered
+-- in turn on fronts of it that never go back, from what there was at first; and so were the datagrams.
+pub record Replies (world : World) (begun log : Log) : Type 0 where
+  pub published : IsPublishedLog world begun log
+  pub rises : IsRisingLog log
+  pub connections : AllByRecursion (IsServed world.catalogue begun log) world.connections
+  pub datagrams : AreServed world.catalogue begun log world.datagrams
+
+-- Crashes. Whatever a crash leaves of a map's file, at any moment, it might have left at first, or it stands for what a
+-- front of the log shows of the map, or for a version that was new behind that front. At the end it might have been
+-- left at first, or stands for what the whole log shows, or for one that was new behind it. Of a map that was told as
+-- done it stands for what the log shows, and for nothing else.
+pub record Crashes (world : World) (begun log : Log) : Type 0 where
+  pub published : IsPublishedLog world begun log
+  pub any_moment : (number : ℕ) → OfFile number world.stores (λ file. (image : List ℕ) → LeftIn file.moments image
+      → IsImage file.first image ⊎ StandsByFront world number begun log image)
+  pub at_end : (number : ℕ) → OfFile number world.stores (λ file. (image : List ℕ) → IsImage file.last image
+      → IsImage file.first image ⊎ StandsBy world number log image)
+  pub stored : (number : ℕ) → IsAmong world.done number → OfFile number world.stores (λ file. (image : List ℕ)
+      → IsImage file.last image → stands image ≡ stands_for (shown number log))
+
+-- Transfers. Each that was told as done is of a map whose version a server that was dialed gave: the log shows it.
+-- Where what came begins with what a source sent whose own log rises, it is the version that the source showed
+-- throughout.
+pub record Transfers (world : World) (log : Log) : Type 0 where
+  pub done : (number : ℕ) → IsAmong world.done number → Succeeded world log number

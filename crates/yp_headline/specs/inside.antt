@@ -1,0 +1,6 @@
+pub mod Files
+pub mod Worlds
+pub mod Laws
+pub mod Tried
+pub mod Server
+pub mod Running

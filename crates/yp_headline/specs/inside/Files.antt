@@ -1,0 +1,71 @@
+-- The world of a command over one file.
+use Rattle.std.specs.Prelude.{ℕ, ◌-◌, suc, Bool, true, false, List, []}
+use Rattle.std.specs.Prelude.{◌∷◌, ◌++◌, map, take, Option, Some, None, unwrap_or}
+use Rattle.yp_io.specs.Disk.{History, states, moment}
+use Rattle.yp_io.specs.Dials.{Connected}
+use Rattle.yp_version.specs.Versions.{MapVersion, unmarked}
+use Rattle.yp_board.specs.Catalogues.{Name}
+use Rattle.yp_board.specs.Logs.{Log, starts}
+use Rattle.yp_texts.specs.declared.reading.Reading.{Reading}
+use Rattle.yp_answer.specs.declared.session.session.End.{End}
+use Rattle.yp_answer.specs.declared.session.session.End.TheVariants.{Clean, Torn, TooLong}
+use Rattle.yp_answer.specs.declared.session.session.End.TheVariants.{ReadFault, WriteFault, Enough}
+use Rattle.yp_headline.specs.World.{World, Store, Given, Filed, Dialed}
+
+-- whether a session that ended so was cut short
+abbrev pub is_cut : End → Bool
+is_cut Clean = false
+is_cut (Torn at) = false
+is_cut (TooLong at) = false
+is_cut ReadFault = true
+is_cut WriteFault = true
+is_cut Enough = true
+
+-- ---- files
+
+-- what a disk told as its file, from a first moment to a last one
+abbrev pub filed : Option History → Option History → Store
+filed (Some old) (Some new) = Filed (record {
+  first = old.state;
+  moments = take (suc (moment new - moment old)) (states new);
+  last = new.state;
+})
+filed _ _ = Given (unmarked 0 [] [])
+
+abbrev pub stores_between : {D : Type 0} → (D → Option History) → List D → List D → List Store
+stores_between history (old ∷ olds) (new ∷ news) = filed (history old) (history new) ∷ stores_between history olds news
+stores_between history _ _ = []
+
+-- the wires that came of a dial, as servers that were dialed
+abbrev pub dialed_of : Connected → Dialed
+dialed_of wire = record { peer = wire.peer; came = unwrap_or wire.input [] }
+
+-- ---- one file
+
+-- the first map, where a command tells that it stored it
+abbrev pub done_where : Bool → List ℕ
+done_where true = 0 ∷ []
+done_where false = []
+
+-- a command over the file of one map, which it tells as stored or doesn't
+abbrev pub file_world : (own : List ℕ) → Name → (text : List ℕ → Option (List ℕ)) → (reading : List ℕ → Reading)
+    → List Connected → (stored : Bool) → (old new : History) → World
+file_world own name text reading wires stored old new = record {
+  catalogue = record { own = own; maps = name ∷ [] };
+  stores = filed (Some old) (Some new) ∷ [];
+  text = text;
+  reading = reading;
+  connections = [];
+  datagrams = [];
+  dialed = map dialed_of wires;
+  posted = [];
+  done = done_where stored;
+}
+
+-- the log that begins with what the file stood for
+abbrev pub file_log : Option MapVersion → Log
+file_log held = starts 0 (held ∷ [])
+
+-- and goes on with the version that was stored
+abbrev pub file_log_with : Option MapVersion → MapVersion → Log
+file_log_with held version = file_log held ++ (0, version) ∷ []

@@ -1,0 +1,107 @@
+-- What `run` does is what the headline says, command by command.
+use Rattle.std.specs.Prelude.{◌≡◌, ◌≢◌, ◌≤◌, ℕ, Bool, true, false, List}
+use Rattle.std.specs.Prelude.{[], ◌++◌, length, map, Option, Some, None, Ok, ⊤}
+use Rattle.std.specs.List.{AllByRecursion}
+use Rattle.yp_io.specs.Disk.{History}
+use Rattle.yp_io.specs.Dials.{Connected, Wires}
+use Rattle.yp_io.specs.Calls.{ClosedConnection, ListenerHistory}
+use Rattle.yp_version.specs.Versions.{MapVersion}
+use Rattle.yp_map_file.specs.Stands.{stands}
+use Rattle.yp_publisher.specs.Standing.{stands_for}
+use Rattle.yp_publisher.specs.Grown.{AreTold}
+use Rattle.yp_texts.specs.declared.kind.Kind.{Kind}
+use Rattle.yp_texts.specs.declared.reading.Reading.{Reading}
+use Rattle.yp_texts.specs.declared.reading.Reading.TheVariants.{Text, Rows}
+use Rattle.yp_texts.specs.Readings.{reading_of}
+use Rattle.yp_board.specs.Catalogues.{Name}
+use Rattle.yp_answer.specs.session.Wires.{Wire}
+use Rattle.yp_worker.specs.Receptions.{ListenTells}
+use Rattle.yp_command.specs.Forms.{kind_of}
+use Rattle.yp_command.specs.Words.{Meaning, Once, Session, Serve, Build, Load, Xfr, Revnet}
+use Rattle.yp_command.specs.declared.office.office.Office.{Office}
+use Rattle.yp_command.specs.declared.office.status.Status.{Status}
+use Rattle.yp_command.specs.declared.office.status.Status.TheVariants.{Done, WriteFault}
+use Rattle.yp_command.specs.declared.office.status.Status.TheVariants.{NoMemory, ListenFault, InboxFault}
+use Rattle.yp_command.specs.office.Disks.{names_of, disks_of}
+use Rattle.yp_command.specs.office.Seeing.{Seeing, input, output, history, moment}
+use Rattle.yp_command_serve.specs.Once.{once_maps, rows_fault}
+use Rattle.yp_command_serve.specs.Session.{service, connection}
+use Rattle.yp_command_serve.specs.serve.Serve.{serve_job_of, catalogue_of}
+use Rattle.yp_command_maps.specs.Build.{tells_stored}
+use Rattle.yp_command_maps.specs.Revnet.{store_history, netgroup_history}
+use Rattle.yp_command_maps.specs.Xfr.{dialing}
+use Rattle.yp_program.specs.Commands.{Does}
+use Rattle.yp_headline.specs.Publishing.{IsAmong}
+use Rattle.yp_headline.specs.Headline.{Replies}
+use Rattle.yp_headline.specs.inside.Files.{file_world}
+use Rattle.yp_headline.specs.inside.Worlds.{once_world, session_world, was_served, cuts_short}
+use Rattle.yp_headline.specs.inside.Laws.{WorldHolds, FileHolds, FileCrashes}
+use Rattle.yp_headline.specs.inside.Server.{IsToldClosed, closed_in, ServerHolds}
+
+-- whether `serve` served its maps, by its status
+abbrev pub was_hosted : Status → Bool
+was_hosted Done = true
+was_hosted WriteFault = true
+was_hosted ListenFault = true
+was_hosted InboxFault = true
+was_hosted status = false
+
+-- a text is read so, and its version stored
+abbrev pub BuildHolds : {S K D C A I T : Type 0} → Seeing S K D C A I T → List ℕ → Name → Reading → Status
+    → (old new : Office S K D C A I T) → Type 0
+BuildHolds seen name store reading status old new =
+    (text : List ℕ) (h h' : History) (now : ℕ) → input seen old ≡ Some text → history seen old ≡ Some h
+    → history seen new ≡ Some h' → moment seen old ≡ Some now
+    → (held : Option MapVersion) → stands h.state.reads ≡ stands_for held
+    → FileCrashes (file_world name store (λ name. Some text) (λ name. reading) [] (tells_stored status) h h') held
+
+-- What is so of each command, where what it reaches tells its bytes, and its files aren't damaged.
+abbrev pub CommandHolds : {S K D C A I T : Type 0} → Seeing S K D C A I T → Meaning → Status
+    → (old new : Office S K D C A I T) → (door door' : ListenTells) → Type 0
+CommandHolds seen (Once store rows) status old new door door' =
+    rows_fault rows ≡ None → status ≢ NoMemory
+    → (came taken sent : List ℕ) → input seen old ≡ Some came → output seen old ≡ Some taken
+    → output seen new ≡ Some (taken ++ sent)
+    → Replies (once_world store rows status came sent) (once_maps store rows).log (once_maps store rows).log
+CommandHolds seen (Session own peer stores hosts) status old new door door' =
+    was_served status ≡ true → names_of old.disks.items ≡ stores
+    → (came taken sent : List ℕ) → input seen old ≡ Some came → output seen old ≡ Some taken
+    → output seen new ≡ Some (taken ++ sent)
+    → AreTold seen.disk.history (disks_of old.disks.items) → AreTold seen.disk.history (disks_of new.disks.items)
+    → (first last : Wires) (wires : List Connected) → seen.dial.past old.dial ≡ Some first
+    → seen.dial.past new.dial ≡ Some last
+    → length first.back ≤ length first.came → last.came ≡ first.came ++ wires
+    → ((wire : Connected) → IsAmong wires wire → (stream : List ℕ) × (wire.input ≡ Some stream))
+    → WorldHolds (session_world (service seen own peer stores) (cuts_short status) (connection seen hosts old)
+    (connection seen hosts new) came sent wires)
+CommandHolds seen (Xfr name force store host flag) status old new door door' =
+    (h h' : History) → history seen old ≡ Some h → history seen new ≡ Some h'
+    → (held : Option MapVersion) → stands h.state.reads ≡ stands_for held
+    → (first last : Wires) (wires : List Connected) → (dialing seen old).past ≡ Some first
+    → (dialing seen new).past ≡ Some last
+    → length first.back ≤ length first.came → last.came ≡ first.came ++ wires
+    → ((wire : Connected) → IsAmong wires wire → (stream : List ℕ) × (wire.input ≡ Some stream))
+    → FileHolds (file_world name store (λ name. None) reading_of wires (tells_stored status) h h') held
+CommandHolds seen (Build name store flag) status old new door door' =
+    (kind : Kind) → kind_of store ≡ Some kind → BuildHolds seen name store (Text kind) status old new
+CommandHolds seen (Load name store flag) status old new door door' = BuildHolds seen name store Rows status old new
+CommandHolds seen (Revnet name store) status old new door door' =
+    (h h' n : History) (now : ℕ) → store_history seen old ≡ Some h → store_history seen new ≡ Some h'
+    → netgroup_history seen old ≡ Some n → moment seen old ≡ Some now
+    → (held : Option MapVersion) → stands h.state.reads ≡ stands_for held
+    → FileCrashes (file_world name store (λ name. None) reading_of [] (tells_stored status) h h') held
+CommandHolds seen (Serve own port workers connections turns stores hosts log) status old new door door' =
+    was_hosted status ≡ true
+    → (calls calls' : ListenerHistory) (closed : List (List ClosedConnection)) → door.past ≡ Some calls
+    → door'.past ≡ Some calls'
+    → calls'.closed ≡ calls.closed ++ closed → AllByRecursion IsToldClosed (closed_in closed)
+    → ServerHolds (catalogue_of (serve_job_of own connections turns stores hosts log))
+    (map seen.disk.history (disks_of old.disks.items)) (closed_in closed)
+CommandHolds seen _ status old new door door' = ⊤
+
+-- What `run` ensures of a command, in its clause `does`, is that.
+abbrev pub RunHolds : {S K D C A I T : Type 0} → Seeing S K D C A I T → Type 0
+RunHolds {S} {K} {D} {C} {A} {I} {T} seen =
+    (meaning : Meaning) (status : Status) (old new : Office S K D C A I T) (door door' : ListenTells)
+    (before after : List Wire) (logged : List ℕ) → Does seen (Ok meaning) status old new door door' before after logged
+    → CommandHolds seen meaning status old new door door'

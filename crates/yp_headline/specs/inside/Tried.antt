@@ -1,0 +1,326 @@
+-- Worlds by which the headline is tried: of right ones it is true, and of wrong ones false.
+use Rattle.std.specs.Prelude.{ℕ, Bool, true, false, List, [], ◌∷◌, ◌++◌, Option, Some, None, take}
+use Rattle.yp_io.specs.declared.stream.Peer.{Peer}
+use Rattle.yp_io.specs.Disk.{DiskState}
+use Rattle.yp_io.specs.Peers.{own_host}
+use Rattle.yp_rpc.specs.Records.{sent}
+use Rattle.yp_rpc.specs.Reply.{words, reply_head}
+use Rattle.yp_rpc.specs.declared.reply.ReplyHead.TheVariants.{Success}
+use Rattle.yp_messages.specs.declared.transfer.XfrStat.TheVariants.{Succ}
+use Rattle.yp_version.specs.Versions.{MapVersion}
+use Rattle.yp_board.specs.Catalogues.{Catalogue}
+use Rattle.yp_board.specs.Logs.{Log}
+use Rattle.yp_texts.specs.declared.reading.Reading.TheVariants.{Rows}
+use Rattle.yp_texts.specs.Readings.{reading_of}
+use Rattle.yp_answer.specs.Transfer.{Taken}
+use Rattle.yp_answer.specs.Reply.{make_reply, xfr_reply}
+use Rattle.yp_headline.specs.World.{World, Given, Filed, Dialed}
+use Rattle.yp_headline.specs.Headline.{Replies, Crashes, Transfers}
+
+-- a call of the procedure 0, and its reply
+abbrev pub null_call : ℕ → List ℕ
+null_call xid = words (xid ∷ 0 ∷ 2 ∷ 100004 ∷ 2 ∷ 0 ∷ 0 ∷ 0 ∷ 0 ∷ 0 ∷ [])
+
+abbrev pub null_reply : ℕ → List ℕ
+null_reply xid = reply_head xid Success
+
+abbrev pub somebody : Peer
+somebody = record { addr = 10 ∷ 0 ∷ 0 ∷ 7 ∷ []; port = 2000 }
+
+abbrev pub no_maps : Catalogue
+no_maps = record { own = 109 ∷ []; maps = [] }
+
+-- a server of no maps, with one connection
+abbrev pub one_connection : (came sent : List ℕ) → (cut : Bool) → World
+one_connection came sent cut = record {
+  catalogue = no_maps;
+  stores = [];
+  text = λ name. None;
+  reading = reading_of;
+  connections = record { peer = somebody; came = came; sent = sent; cut = cut } ∷ [];
+  datagrams = [];
+  dialed = [];
+  posted = [];
+  done = [];
+}
+
+abbrev pub IsWrong : World → Type 0
+IsWrong world = (begun log : Log) → Replies world begun log → ⊥
+
+-- a server of no maps, with one datagram
+abbrev pub one_datagram : Option (List ℕ) → World
+one_datagram answer = record {
+  catalogue = no_maps;
+  stores = [];
+  text = λ name. None;
+  reading = reading_of;
+  connections = [];
+  datagrams = record { peer = somebody; came = null_call 7; sent = answer; lost = false } ∷ [];
+  dialed = [];
+  posted = [];
+  done = [];
+}
+
+-- a cell with an open gate, of generation 1, whose body is 36 bytes behind the cells
+abbrev pub open_cell : List ℕ
+open_cell = 1 ∷ 0 ∷ 0 ∷ 0 ∷ 0 ∷ 0 ∷ 0 ∷ 0 ∷ 0 ∷ 0 ∷ 0 ∷ 0 ∷ 0 ∷ 0 ∷ 0 ∷ 1 ∷ 0 ∷ 0 ∷ 0 ∷ 0 ∷ 0 ∷ 0 ∷ 0 ∷ 64
+    ∷ 0 ∷ 0 ∷ 0 ∷ 0 ∷ 0 ∷ 0 ∷ 0 ∷ 36 ∷ []
+
+abbrev pub shut_cell : List ℕ
+shut_cell = 0 ∷ 0 ∷ 0 ∷ 0 ∷ 0 ∷ 0 ∷ 0 ∷ 0 ∷ 0 ∷ 0 ∷ 0 ∷ 0 ∷ 0 ∷ 0 ∷ 0 ∷ 0 ∷ 0 ∷ 0 ∷ 0 ∷ 0 ∷ 0 ∷ 0 ∷ 0 ∷ 0
+    ∷ 0 ∷ 0 ∷ 0 ∷ 0 ∷ 0 ∷ 0 ∷ 0 ∷ 0 ∷ []
+
+-- the body of a version of one row, with an order and a value
+abbrev pub body_with : (order value : ℕ) → List ℕ
+body_with order value = 0 ∷ 0 ∷ 0 ∷ 1 ∷ 0 ∷ 0 ∷ 0 ∷ order ∷ 0 ∷ 0 ∷ 0 ∷ 1 ∷ 109 ∷ 0 ∷ 0 ∷ 0 ∷ 0 ∷ 0 ∷ 0 ∷ 1
+    ∷ 0 ∷ 0 ∷ 0 ∷ 1 ∷ 107 ∷ 0 ∷ 0 ∷ 0 ∷ 0 ∷ 0 ∷ 0 ∷ 1 ∷ value ∷ 0 ∷ 0 ∷ 0 ∷ []
+
+abbrev pub version_with : (order value : ℕ) → MapVersion
+version_with order value =
+    record { order = order; master = 109 ∷ []; secure = false; rows = (107 ∷ [], value ∷ []) ∷ [] }
+
+abbrev pub whole_file : (order value : ℕ) → List ℕ
+whole_file order value = open_cell ++ shut_cell ++ body_with order value
+
+-- both gates are open
+abbrev pub torn_file : List ℕ
+torn_file = open_cell ++ open_cell ++ body_with 7 118
+
+-- a disk whose last sync left these bytes
+abbrev pub synced : List ℕ → DiskState
+synced bytes = record { synced = bytes; written = []; reads = bytes }
+
+-- a server of one map of another master, whose file was so at first, meanwhile and at the end
+abbrev pub one_file : (first middle last : List ℕ) → List ℕ → List Dialed → World
+one_file first middle last done dialed = record {
+  catalogue = record { own = 110 ∷ []; maps = (100 ∷ [], 112 ∷ []) ∷ [] };
+  stores = Filed (record {
+    first = synced first;
+    moments = synced last ∷ synced middle ∷ synced first ∷ [];
+    last = synced last;
+  }) ∷ [];
+  text = λ name. None;
+  reading = reading_of;
+  connections = [];
+  datagrams = [];
+  dialed = dialed;
+  posted = [];
+  done = done;
+}
+
+abbrev pub IsTornWorld : World → Type 0
+IsTornWorld world = (begun log : Log) → Crashes world begun log → ⊥
+
+abbrev pub IsWrongTransfer : World → Type 0
+IsWrongTransfer world = (log : Log) → Transfers world log → ⊥
+
+-- MATCH of the key k in the map p of the domain d
+abbrev pub match_call : List ℕ
+match_call = words (7 ∷ 0 ∷ 2 ∷ 100004 ∷ 2 ∷ 3 ∷ 0 ∷ 0 ∷ 0 ∷ 0 ∷ 1 ∷ []) ++ 100 ∷ 0 ∷ 0 ∷ 0 ∷ 0 ∷ 0 ∷ 0 ∷ 1 ∷ 112
+    ∷ 0 ∷ 0 ∷ 0 ∷ 0 ∷ 0
+    ∷ 0 ∷ 1 ∷ 107 ∷ 0 ∷ 0 ∷ 0 ∷ []
+
+-- the reply with a value of one byte
+abbrev pub match_reply : ℕ → List ℕ
+match_reply value = reply_head 7 Success ++ 0 ∷ 0 ∷ 0 ∷ 1 ∷ 0 ∷ 0 ∷ 0 ∷ 1 ∷ value ∷ 0 ∷ 0 ∷ 0 ∷ []
+
+abbrev pub one_map : Catalogue
+one_map = record { own = 110 ∷ []; maps = (100 ∷ [], 112 ∷ []) ∷ [] }
+
+-- a server of one map, whose version has another master, with one connection that asks for the value of k
+abbrev pub one_match : List ℕ → World
+one_match sent_back = record {
+  catalogue = one_map;
+  stores = Given (version_with 7 118) ∷ [];
+  text = λ name. None;
+  reading = reading_of;
+  connections = record { peer = somebody; came = sent match_call; sent = sent_back; cut = false } ∷ [];
+  datagrams = [];
+  dialed = [];
+  posted = [];
+  done = [];
+}
+
+abbrev pub first_log : Log
+first_log = (0, version_with 7 118) ∷ []
+
+abbrev pub quiet : World
+quiet = one_file (whole_file 7 118) (whole_file 7 118) (whole_file 7 118) [] []
+
+-- the own name is the master
+abbrev pub own_map : Catalogue
+own_map = record { own = 109 ∷ []; maps = (100 ∷ [], 112 ∷ []) ∷ [] }
+
+abbrev pub own_caller : Peer
+own_caller = record { addr = own_host; port = 2000 }
+
+-- the make program is asked for the map p of the domain d
+abbrev pub make_call : List ℕ
+make_call = words (7 ∷ 0 ∷ 2 ∷ 536890953 ∷ 1 ∷ 2 ∷ 0 ∷ 0 ∷ 0 ∷ 0 ∷ 1 ∷ []) ++ 100 ∷ 0 ∷ 0 ∷ 0 ∷ 0 ∷ 0 ∷ 0 ∷ 1
+    ∷ 112 ∷ 0 ∷ 0 ∷ 0 ∷ []
+
+-- the text is one row: k, a tab and w
+abbrev pub text : List ℕ
+text = 107 ∷ 9 ∷ 119 ∷ 10 ∷ []
+
+abbrev pub make_world : World
+make_world = record {
+  catalogue = own_map;
+  stores = Given (version_with 7 118) ∷ [];
+  text = λ name. Some text;
+  reading = λ name. Rows;
+  connections = record {
+    peer = own_caller;
+    came = sent make_call ++ sent match_call;
+    sent = sent (make_reply 7 Succ) ++ sent (match_reply 119);
+    cut = false;
+  } ∷ [];
+  datagrams = [];
+  dialed = [];
+  posted = [];
+  done = [];
+}
+
+abbrev pub made_log : Log
+made_log = (0, version_with 7 118) ∷ (0, version_with 8 119) ∷ []
+
+-- a file that stays as it was, while a server was dialed that gave these bytes
+abbrev pub skewed_world : List ℕ → World
+skewed_world came = record {
+  catalogue = own_map;
+  stores = Filed (record {
+    first = synced (whole_file 7 118);
+    moments = synced (whole_file 7 118) ∷ [];
+    last = synced (whole_file 7 118);
+  }) ∷ [];
+  text = λ name. None;
+  reading = λ name. Rows;
+  connections = [];
+  datagrams = [];
+  dialed = record { peer = own_caller; came = came } ∷ [];
+  posted = [];
+  done = [];
+}
+
+abbrev pub installing : World
+installing = record {
+  catalogue = own_map;
+  stores = Filed (record {
+    first = synced (whole_file 7 118);
+    moments = synced (whole_file 10 119) ∷ synced (whole_file 9 119) ∷ synced (whole_file 8 119)
+        ∷ synced (whole_file 7 118) ∷ [];
+    last = synced (whole_file 10 119);
+  }) ∷ [];
+  text = λ name. Some text;
+  reading = λ name. Rows;
+  connections = [];
+  datagrams = [];
+  dialed = [];
+  posted = [];
+  done = 0 ∷ [];
+}
+
+abbrev pub all_log : Log
+all_log = (0, version_with 7 118) ∷ (0, version_with 8 119) ∷ (0, version_with 9 119) ∷ (0, version_with 10 119) ∷ []
+
+abbrev pub twice_log : Log
+twice_log = (0, version_with 7 118) ∷ (0, version_with 8 119) ∷ (0, version_with 9 119) ∷ []
+
+abbrev pub order_reply : (xid order : ℕ) → List ℕ
+order_reply xid order = reply_head xid Success ++ words (1 ∷ order ∷ [])
+
+abbrev pub master_reply : ℕ → List ℕ
+master_reply xid = reply_head xid Success ++ 0 ∷ 0 ∷ 0 ∷ 1 ∷ 0 ∷ 0 ∷ 0 ∷ 1 ∷ 109 ∷ 0 ∷ 0 ∷ 0 ∷ []
+
+-- one row: its value, and its key
+abbrev pub all_reply : ℕ → List ℕ
+all_reply xid = reply_head xid Success ++ 0 ∷ 0 ∷ 0 ∷ 1 ∷ 0 ∷ 0 ∷ 0 ∷ 1 ∷ 0 ∷ 0 ∷ 0 ∷ 1 ∷ 119 ∷ 0 ∷ 0 ∷ 0
+    ∷ 0 ∷ 0 ∷ 0 ∷ 1 ∷ 107 ∷ 0 ∷ 0 ∷ 0 ∷ 0 ∷ 0 ∷ 0 ∷ 0 ∷ []
+
+abbrev pub fetched_bytes : List ℕ
+fetched_bytes = sent (order_reply 1 9) ++ (sent (master_reply 2) ++ (sent (all_reply 3) ++ sent (order_reply 4 9)))
+
+-- the transfer of the map p of the domain d from the host s, with the number 5, for a caller that isn't told
+abbrev pub xfr_call : List ℕ
+xfr_call = words (7 ∷ 0 ∷ 2 ∷ 100004 ∷ 2 ∷ 6 ∷ 0 ∷ 0 ∷ 0 ∷ 0 ∷ 1 ∷ []) ++ 100 ∷ 0 ∷ 0 ∷ 0 ∷ 0 ∷ 0 ∷ 0 ∷ 1 ∷ 112
+    ∷ 0 ∷ 0 ∷ 0 ∷ 0 ∷ 0
+    ∷ 0 ∷ 0 ∷ 0 ∷ 0 ∷ 0 ∷ 1 ∷ 115 ∷ 0 ∷ 0 ∷ 0 ∷ 0 ∷ 0 ∷ 0 ∷ 5 ∷ 0 ∷ 0 ∷ 0 ∷ 0 ∷ 0 ∷ 0 ∷ 0 ∷ 0 ∷ []
+
+abbrev pub fetched_log : Log
+fetched_log = (0, version_with 7 118) ∷ (0, version_with 9 119) ∷ []
+
+abbrev pub its_transfer : Taken
+its_transfer = record { map = 0; source = 115 ∷ []; transid = 5; prog = 0; port = 0 }
+
+abbrev pub transfer_world : World
+transfer_world = record {
+  catalogue = one_map;
+  stores = Given (version_with 7 118) ∷ [];
+  text = λ name. None;
+  reading = reading_of;
+  connections = record {
+    peer = somebody;
+    came = sent xfr_call ++ sent match_call;
+    sent = sent (xfr_reply 7 5 Succ) ++ sent (match_reply 119);
+    cut = false;
+  } ∷ [];
+  datagrams = [];
+  dialed = record { peer = somebody; came = fetched_bytes } ∷ [];
+  posted = [];
+  done = [];
+}
+
+-- ---- the table of the wrong ones
+
+-- Connections and datagrams: a call that isn't answered, or is as another one, or twice, or in part; a reply to
+-- nothing; two replies in the wrong order; the second of two calls that isn't answered; a datagram that isn't answered,
+-- or is as another one; a value that was never shown; and a reply of another procedure.
+pub record RepliesAreFalse : Type 0 where
+  pub unanswered : IsWrong (one_connection (sent (null_call 7)) [] false)
+  pub another_xid : IsWrong (one_connection (sent (null_call 7)) (sent (null_reply 8)) false)
+  pub answered_twice : IsWrong (one_connection (sent (null_call 7)) (sent (null_reply 7) ++ sent (null_reply 7)) false)
+  pub answered_short : IsWrong (one_connection (sent (null_call 7)) (take 27 (sent (null_reply 7))) false)
+  pub unasked : IsWrong (one_connection [] (sent (null_reply 7)) false)
+  pub out_of_order : IsWrong (one_connection (sent (null_call 7) ++ sent (null_call 8))
+      (sent (null_reply 8) ++ sent (null_reply 7)) false)
+  pub second_unanswered : IsWrong (one_connection (sent (null_call 7) ++ sent (null_call 8)) (sent
+      (null_reply 7)) false)
+  pub mail_unanswered : IsWrong (one_datagram None)
+  pub mail_of_another : IsWrong (one_datagram (Some (null_reply 8)))
+  pub never_shown : IsWrong (one_match (sent (match_reply 119)))
+  pub answered_as_null : IsWrong (one_match (sent (reply_head 7 Success)))
+
+-- Files: one that is damaged at the end, or at a moment; a version that is gone at the end, or at a moment; and one
+-- that nobody made or sent.
+pub record CrashesAreFalse : Type 0 where
+  pub torn_at_end : IsTornWorld (one_file [] [] torn_file [] [])
+  pub torn_meanwhile : IsTornWorld (one_file [] torn_file [] [] [])
+  pub lost_at_end : IsTornWorld (one_file (whole_file 7 118) [] [] [] [])
+  pub lost_meanwhile : IsTornWorld (one_file (whole_file 7 118) [] (whole_file 7 118) [] [])
+  pub from_nowhere : IsTornWorld (one_file (whole_file 7 118) (whole_file 7 118) (whole_file 9 119) [] [])
+
+-- one file that was empty, and a server that gave these bytes
+abbrev pub transfer_of : List ℕ → World
+transfer_of came = one_file [] [] (whole_file 7 118) (0 ∷ []) (record { peer = somebody; came = came } ∷ [])
+
+-- Transfers that are told as done: of no server; and of one that gave nothing, its order alone, no rows, or another
+-- order at last.
+pub record TransfersAreFalse : Type 0 where
+  pub of_no_server : IsWrongTransfer (one_file [] [] (whole_file 7 118) (0 ∷ []) [])
+  pub gave_nothing : IsWrongTransfer (transfer_of [])
+  pub gave_order : IsWrongTransfer (transfer_of (sent (order_reply 1 9)))
+  pub gave_no_rows : IsWrongTransfer (transfer_of (sent (order_reply 1 9) ++ sent (master_reply 2)))
+  pub gave_skewed : IsWrongTransfer (transfer_of
+      (sent (order_reply 1 9) ++ (sent (master_reply 2) ++ (sent (all_reply 3) ++ sent (order_reply 4 10)))))
+
+-- ---- the table of the right ones
+
+-- One MATCH; a map that is made, and then asked for; one that is fetched, and then asked for; three installs; and a
+-- source that changes between its replies, of which nothing is stored.
+pub record HoldsOfRows : Type 0 where
+  pub first_match : Replies (one_match (sent (match_reply 118))) first_log first_log
+  pub make_then_match : Replies make_world first_log made_log
+  pub session_transfer : Replies transfer_world first_log fetched_log
+  pub three_installs : Crashes installing first_log all_log
+  pub skewed_source : (came : List ℕ) → Crashes (skewed_world came) first_log first_log × Transfers
+      (skewed_world came) first_log

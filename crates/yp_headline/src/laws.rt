@@ -1,0 +1,52 @@
+//! What the program does, as the headline says it. Each law is the contract of a function that does nothing: its
+//! premises are what `run` ensures of a command, and bytes that are told.
+
+ghost use Rattle.yp_command.specs.office.Seeing.{seeing};
+ghost use Rattle.yp_headline.specs.inside.Running.{RunHolds};
+ghost use Rattle.yp_headline.specs.inside.Server.{ServeHolds};
+ghost use Rattle.yp_headline.specs.inside.Laws.{OnceReplies, SessionHolds, XfrHolds, JobHolds, RevnetHolds};
+
+use yp_end_to_end::transfer::laws::{fetched_is_shown, turns_give_fetch};
+use yp_io::{Clock, Dial, Disk, Inbox, Sink, Source, Texts};
+
+/// What `once` does is what the headline says of replies.
+pub fn once_replies<S: Source, K: Sink, D: Disk, C: Clock, A: Dial, I: Inbox, T: Texts>()
+    ensures { OnceReplies (seeing S.Source K.Sink D.Disk C.Clock A.Dial I.Inbox T.Texts) }
+{}
+
+/// What `session` does is what the headline says of replies and of crashes.
+pub fn session_holds<S: Source, K: Sink, D: Disk, C: Clock, A: Dial, I: Inbox, T: Texts>()
+    ensures { SessionHolds (seeing S.Source K.Sink D.Disk C.Clock A.Dial I.Inbox T.Texts) }
+{}
+
+/// What `xfr` does is what the headline says of crashes and of transfers.
+pub fn xfr_holds<S: Source, K: Sink, D: Disk, C: Clock, A: Dial, I: Inbox, T: Texts>()
+    ensures { XfrHolds (seeing S.Source K.Sink D.Disk C.Clock A.Dial I.Inbox T.Texts) }
+{
+    turns_give_fetch();
+    fetched_is_shown();
+}
+
+/// What `build` and `load` do is what the headline says of crashes.
+pub fn job_holds<S: Source, K: Sink, D: Disk, C: Clock, A: Dial, I: Inbox, T: Texts>()
+    ensures { JobHolds (seeing S.Source K.Sink D.Disk C.Clock A.Dial I.Inbox T.Texts) }
+{}
+
+/// What `revnet` does is what the headline says of crashes.
+pub fn revnet_holds<S: Source, K: Sink, D: Disk, C: Clock, A: Dial, I: Inbox, T: Texts>()
+    ensures { RevnetHolds (seeing S.Source K.Sink D.Disk C.Clock A.Dial I.Inbox T.Texts) }
+{}
+
+/// What `serve` does with its connections is what the headline says of replies, but for what was published behind the
+/// first versions.
+pub fn serve_holds<S: Source, K: Sink, D: Disk, C: Clock, A: Dial, I: Inbox, T: Texts>()
+    ensures { ServeHolds (seeing S.Source K.Sink D.Disk C.Clock A.Dial I.Inbox T.Texts) }
+{}
+
+/// What `run` ensures of a command, in its clause `does`, is what the headline says.
+pub fn run_holds<S: Source, K: Sink, D: Disk, C: Clock, A: Dial, I: Inbox, T: Texts>()
+    ensures { RunHolds (seeing S.Source K.Sink D.Disk C.Clock A.Dial I.Inbox T.Texts) }
+{
+    turns_give_fetch();
+    fetched_is_shown();
+}

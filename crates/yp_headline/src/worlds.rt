@@ -1,0 +1,29 @@
+//! Worlds by which the headline is tried. Each table is the contract of a function that does nothing.
+
+ghost use Rattle.yp_headline.specs.inside.Tried.{RepliesAreFalse, CrashesAreFalse, TransfersAreFalse, HoldsOfRows};
+
+use yp_rpc::laws::{cut_is_one, first_is_one};
+
+/// Worlds of connections and datagrams of which the headline is false.
+pub fn replies_are_false()
+    ensures { RepliesAreFalse }
+{
+    cut_is_one();
+}
+
+/// Worlds of files of which it is false.
+pub fn crashes_are_false()
+    ensures { CrashesAreFalse }
+{}
+
+/// Worlds of transfers of which it is false.
+pub fn transfers_are_false()
+    ensures { TransfersAreFalse }
+{
+    first_is_one();
+}
+
+/// Worlds of which it is true.
+pub fn holds_of_rows()
+    ensures { HoldsOfRows }
+{}
