@@ -55,10 +55,19 @@ fn reply(peer: &UdpSocket, port: u16) -> [bool; 2] {
     ]
 }
 
-// A port that is free: it is let go at once.
-fn free_port<R: Net + Abort>(rt: &R) -> u16 {
-    let (_socket, to) = mailbox(rt);
-    to.port
+// How many ports are tried, of which others may have the half that is of TCP.
+const PORTS: u32 = 64;
+
+// A port that is free by UDP and by TCP, at each address of this machine: it is let go at once.
+fn free_port<R: Net<Stream = TcpStream, Listener = TcpListener> + Abort>(rt: &R) -> u16 {
+    for _ in 0..PORTS {
+        let (_socket, to) = mailbox(rt);
+        let at_all = SocketAddrV4::new(Ipv4Addr::UNSPECIFIED, to.port);
+        if TcpListener::bind(rt, at_all).is_ok() {
+            return to.port;
+        }
+    }
+    0
 }
 
 // What a letter to the peer comes to, whether the peer answers it, and what three turns bring then.
