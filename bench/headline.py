@@ -20,9 +20,9 @@ FILE = f"{TOP}/crates/yp_headline/specs/Headline.antt"
 
 INTRODUCTION = """# The headline
 
-What the program does, over the bytes that go in and out of a run and what a crash may leave of its files: three
-statements, and all the words that they take. [GUARANTEES.md](GUARANTEES.md) says of which commands the laws of
-`yp_headline` show them, from what `run` ensures. This page is the output of `bench/headline.py`."""
+What the program does, on one page, and all the words that it takes. Each statement is about the bytes that go in and
+out of a run, and what a crash may leave of its files; the laws of `yp_headline` say that they follow from what `run`
+ensures. This page is the output of `bench/headline.py`."""
 
 
 def compact(item):

@@ -1,19 +1,17 @@
 -- What `build` and `load` do is what the headline says.
-use Rattle.std.proofs.Common.{◌≡◌, ◌⊎◌, ℕ, Bool, true, false, cond, List, [], ◌∷◌, Option, Some, None, Result, Ok, Err, refl, sym, ap, ◌∙◌, subst, inl, inr, ⊎_elim}
+use Rattle.std.proofs.Common.{◌≡◌, ℕ, Bool, true, false, cond, List, [], Option, Some, None, Result, Ok, Err, refl, sym, ap, ◌∙◌, subst, inl, inr, ⊎_elim}
 use Rattle.std.specs.Prelude.{IfSome, IsTrue, ◌==◌}
 use Rattle.yp_io.specs.Disk.{History, IsImage, LeftBetween, MayLeave, LeavesOnly}
 use Rattle.yp_version.specs.Versions.{MapVersion}
 use Rattle.yp_map_file.specs.Commits.{generation_of, winning, generation_max}
-use Rattle.yp_map_file.specs.Stands.{Stands, Nothing, Stored, stands}
-use Rattle.yp_map_file.specs.Stands as stood
+use Rattle.yp_map_file.specs.Stands.{Stands, Stored, stands}
 use Rattle.yp_publisher.specs.Standing.{stands_for}
 use Rattle.yp_texts.specs.Builds.{order_after}
 use Rattle.yp_texts.specs.After.{Hindrance, material_of, other_master, last_order}
-use Rattle.yp_command.specs.declared.office.office.Office.{Office}
 use Rattle.yp_command.specs.declared.office.status.Status.{Status}
 use Rattle.yp_command.specs.declared.office.status.Status.TheVariants.{Done, WriteFault}
-use Rattle.yp_command.specs.office.Seeing.{Seeing, input, output, history, moment}
-use Rattle.yp_command_maps.specs.Build.{Job, BuildInputs, build_inputs, Unplanned, IsSpent, IsLong, offered, with_generation, over, planned, StandsForPlan, IsBeforeOrPlanned, PlanIsStored, AtBuildInputs, Builds, tells_stored, JobDoes}
+use Rattle.yp_command.specs.office.Seeing.{Seeing, output, history, moment}
+use Rattle.yp_command_maps.specs.Build.{Job, BuildInputs, build_inputs, Unplanned, IsSpent, IsLong, offered, with_generation, over, planned, IsBeforeOrPlanned, PlanIsStored, AtBuildInputs, Builds, tells_stored}
 use Rattle.yp_headline.specs.World.{World}
 use Rattle.yp_headline.specs.Publishing.{IsNew}
 use Rattle.yp_headline.specs.inside.Files.{file_world, file_log, file_log_with}

@@ -1,27 +1,30 @@
 -- A version that was made is one that was built.
 use Rattle.std.proofs.Common.{◌≡◌, ℕ, Bool, true, false, cond, List, [], ◌∷◌, Option, Some, None, Result, Ok, Err, refl, sym, ap, ◌∙◌, subst}
-use Rattle.std.specs.Prelude.{IfSome, is_some, ⊤, fold}
+use Rattle.std.specs.Prelude.{IfSome, is_some}
 use Rattle.std.specs.Option.{option_map_or}
 use Rattle.yp_version.specs.Rows.{Row, listed, value_of}
 use Rattle.yp_version.specs.Versions.{MapVersion}
 use Rattle.yp_version.specs.Drafts.{Draft, empty_draft, with_row, with_new, with_rows}
-use Rattle.yp_board.specs.Catalogues.{Catalogue}
 use Rattle.yp_board.specs.Logs.{Log, shown}
 use Rattle.yp_texts.specs.declared.reading.Reading.{Reading}
 use Rattle.yp_texts.specs.declared.fault.BuildFault.{BuildFault}
 use Rattle.yp_texts.specs.declared.fault.BuildFault.TheVariants.{OrderSpent}
-use Rattle.yp_texts.specs.Builds.{order_after, finished, filled, built}
+use Rattle.yp_texts.specs.Builds.{order_after, finished}
 use Rattle.yp_texts.specs.Pushes.{plain, first_fault}
-use Rattle.yp_texts.specs.Rows.{LineRow, rows}
+use Rattle.yp_texts.specs.Rows.{rows}
 use Rattle.yp_texts.specs.Readings.{reading_of, source_of}
-use Rattle.yp_texts.specs.After.{Material, Hindrance, HasOther, HasFault, basis_of, material_of, other_master, last_order, secured, secured_build, built_after}
+use Rattle.yp_texts.specs.After.{Material, Hindrance, HasOther, basis_of, other_master, last_order, secured, secured_build, built_after}
 use Rattle.yp_netgroup.specs.declared.reverse.field.Field.{Field}
 use Rattle.yp_answer.specs.declared.make.Making.{Making}
 use Rattle.yp_answer.specs.declared.make.Making.TheVariants.{Text, Netgroups}
 use Rattle.yp_answer.specs.declared.make.MakeJob.{MakeJob}
 use Rattle.yp_answer.specs.Make.{map_name, field_named, making_of, netgroups_at}
-use Rattle.yp_answer.specs.Causes.{Told, IsBuiltOf, IsMadeOf, matter_of, IsAnew, task_of}
+use Rattle.yp_answer.specs.Causes.{Told, IsMadeOf, matter_of, IsAnew, task_of}
 use Rattle.yp_headline.specs.World.{World}
+use Rattle.yp_headline.specs.Texts.{text_rows}
+use Rattle.yp_headline.specs.Listing.{AreListed}
+use Rattle.yp_headline.proofs.Listing.{listed_is}
+use Rattle.yp_headline.proofs.Texts.{plain_rows}
 use Rattle.yp_headline.specs.Publishing.{IsBuilt}
 
 -- ---- drafts
@@ -67,7 +70,7 @@ pub record FromText (reading : Reading) (own : List ℕ) (last : Option MapVersi
   pub master : version.master ≡ own
   pub of_own : other_master own last ≡ None
   pub order : order_after (last_order last) moment ≡ Some version.order
-  pub rows_are : version.rows ≡ listed (with_rows (empty_draft version.order version.master) (plain (rows reading text))).rows
+  pub rows_are : AreListed (text_rows reading text) version.rows
 
 pub from_text : (reading : Reading) (own : List ℕ) (flag : Option Bool) (last : Option MapVersion) (material : Material)
     (version : MapVersion) → built_after (basis_of reading own flag last) material ≡ Ok version
@@ -89,10 +92,8 @@ from_text reading own flag last material version is =
       master = master;
       of_own = a.0;
       order = c.1 ∙ ap (λ (n : ℕ). Some n) (sym order);
-      rows_are = made
-          ∙ ap (λ (n : ℕ). listed (with_rows (empty_draft n own) (plain (rows reading material.text))).rows) (sym order)
-          ∙ ap (λ (l : List ℕ). listed (with_rows (empty_draft version.order l) (plain (rows reading material.text))).rows)
-          (sym master);
+      rows_are = subst (λ (l : List Row). AreListed l version.rows) (plain_rows reading material.text)
+          (listed_is c.0 own (plain (rows reading material.text)) version.rows made);
     }
 
 -- ---- a map that was made
@@ -108,12 +109,12 @@ named_netgroups name by None none is = cc
 named_netgroups name by (Some field) none is = cc
 
 text_told : (told : Option (List ℕ)) (reading : Reading) (version : MapVersion) (text : List ℕ)
-    → version.rows ≡ listed (with_rows (empty_draft version.order version.master) (plain (rows reading text))).rows
+    → AreListed (text_rows reading text) version.rows
     → IfSome told (λ known. text ≡ known)
-    → IfSome told (λ known. version.rows ≡ listed (with_rows (empty_draft version.order version.master) (plain (rows reading known))).rows)
+    → IfSome told (λ known. AreListed (text_rows reading known) version.rows)
 text_told None reading version text is told = tt
 text_told (Some known) reading version text is told =
-    subst (λ (t : List ℕ). version.rows ≡ listed (with_rows (empty_draft version.order version.master) (plain (rows reading t))).rows) told is
+    subst (λ (t : List ℕ). AreListed (text_rows reading t) version.rows) told is
 
 module _ (world : World) (number : ℕ) (log : Log) (version : MapVersion) (told : Told)
     (reads : world.reading ≡ reading_of) (texts : told.text ≡ world.text) where
@@ -141,8 +142,7 @@ module _ (world : World) (number : ℕ) (log : Log) (version : MapVersion) (told
         rows = λ none.
             let same : reading ≡ world.reading name = named_text name reading (field_named name) none named
             ∙ ap (λ (f : List ℕ → Reading). f name) (sym reads) in
-            let P : Reading → Type 0 = λ r. IfSome (world.text (source_of r name)) (λ text. version.rows
-            ≡ listed (with_rows (empty_draft version.order version.master) (plain (rows r text))).rows) in
+            let P : Reading → Type 0 = λ r. IfSome (world.text (source_of r name)) (λ text. AreListed (text_rows r text) version.rows) in
             subst P same (text_told (world.text (source_of reading name)) reading version made.material.text from.rows_are
             (subst (λ (f : List ℕ → Option (List ℕ)). IfSome (f (source_of reading name)) (λ text. made.material.text ≡ text))
             texts made.of_told.text));

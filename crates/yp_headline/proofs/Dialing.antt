@@ -1,7 +1,7 @@
 -- The wires of a session's dial, and what they gave.
-use Rattle.std.proofs.Common.{◌≡◌, ◌⊎◌, ℕ, zero, suc, ◌+◌, ◌<◌, ◌≤◌, Bool, true, false, List, [], ◌∷◌, ◌++◌, length, map, Option, Some, None, Result, Ok, Err, refl, sym, ap, ◌∙◌, subst, arith, inl, inr, ⊎_elim, append_assoc}
+use Rattle.std.proofs.Common.{◌≡◌, ℕ, zero, suc, ◌+◌, ◌<◌, ◌≤◌, Bool, true, false, List, [], ◌∷◌, ◌++◌, length, Option, Some, None, Result, Ok, Err, refl, sym, ap, ◌∙◌, subst, arith, ⊎_elim, append_assoc}
 use Rattle.std.specs.Prelude.{IfSome, slice_get, slice_index_or, Contains}
-use Rattle.std.proofs.lemmas.List.{append-nil, length-append, length-map}
+use Rattle.std.proofs.lemmas.List.{append-nil, length-append}
 use Rattle.yp_io.specs.declared.stream.Peer.{Peer}
 use Rattle.yp_io.specs.Dials.{Connected, connected, Wires, WireState, Dialing, DialTells, WireComes, GoesBack, wires_told}
 use Rattle.yp_messages.specs.declared.transfer.XfrStat.{XfrStat}
@@ -15,12 +15,12 @@ use Rattle.yp_client.specs.Dialed.{IsDialed}
 use Rattle.yp_transfer.specs.declared.fault.XfrFault.{XfrFault}
 use Rattle.yp_transfer.specs.declared.calling_back.Asker.{Asker}
 use Rattle.yp_transfer.specs.Fetching.{Wanted, FetchOutcome}
-use Rattle.yp_transfer.specs.Fetched.{place_of, Fetched, IsFetched}
+use Rattle.yp_transfer.specs.Fetched.{place_of, Fetched}
 use Rattle.yp_transfer.specs.Dialing.{FetchesOnWire, ByAddress, FetchesFrom, sought}
 use Rattle.yp_transfer.specs.HostTable.{HostList}
 use Rattle.yp_transfer.specs.CallBack.{CallsBack, wants_call}
 use Rattle.yp_transfer.specs.Transfers.{TransferRequest, InstallsOutcome, wanted_at}
-use Rattle.yp_transfer.specs.Installing.{InstallsFetched, Offers}
+use Rattle.yp_transfer.specs.Installing.{Offers}
 use Rattle.yp_publisher.specs.Installs.{OfferedVersion}
 use Rattle.yp_answer.specs.Answers.{StepsWhere}
 use Rattle.yp_answer.specs.Maps.{maps_of}

@@ -1,34 +1,28 @@
 -- A world that is right: a map that is fetched behind a call, and then asked for.
-use Rattle.std.proofs.Common.{◌≡◌, ◌⊎◌, ℕ, zero, suc, ◌<◌, ◌≤◌, Bool, true, false, cond, List, [], ◌∷◌, ◌++◌, length, map, Option, Some, None, Ok, refl, sym, ap, ◌∙◌, subst, arith, inl, inr, append_assoc}
+use Rattle.std.proofs.Common.{◌≡◌, ℕ, zero, suc, Bool, true, false, cond, List, [], ◌∷◌, ◌++◌, map, Some, refl, sym, subst, arith, inl, inr, append_assoc}
 use Rattle.std.specs.Prelude.{◌==◌}
 use Rattle.std.specs.List.Sorted.{IsStrictlyIncreasing}
 use Rattle.std.proofs.lemmas.List.{append-nil}
 use Rattle.std.proofs.lemmas.List.Elements.{All-nil, All-cons}
-use Rattle.yp_io.specs.declared.stream.Peer.{Peer}
 use Rattle.yp_xdr.specs.Kind.{U32}
 use Rattle.yp_messages.specs.Messages.{name}
 use Rattle.yp_xdr.specs.Reading.{Remaining, word_at, content_at, opaque_at, bool_at}
 use Rattle.yp_xdr.specs.Spelling.{fixed, opaque}
 use Rattle.yp_rpc.specs.Records.{Fragments, IsShort, sent, sent_within}
-use Rattle.yp_rpc.specs.Reply.{words, reply_head}
-use Rattle.yp_rpc.specs.declared.reply.ReplyHead.TheVariants.{Success}
+use Rattle.yp_rpc.specs.Reply.{words}
 use Rattle.yp_messages.specs.declared.transfer.XfrStat.TheVariants.{Succ}
 use Rattle.yp_version.specs.Versions.{MapVersion}
-use Rattle.yp_board.specs.Logs.{Log, shown}
 use Rattle.yp_client.specs.Limits.{reply_max, all_max}
-use Rattle.yp_texts.specs.Readings.{reading_of}
 use Rattle.yp_answer.specs.declared.procedure.Path.TheVariants.{Stream}
 use Rattle.yp_answer.specs.Numbers.{record_max}
 use Rattle.yp_answer.specs.Served.{maps_on}
-use Rattle.yp_answer.specs.Transfer.{Taken}
 use Rattle.yp_answer.specs.Reply.{Response, Bytes, Takes, reply, xfr_reply}
 use Rattle.yp_headline.specs.inside.Tried.{somebody, version_with, match_call, match_reply, one_map, first_log, order_reply, master_reply, all_reply, fetched_bytes, xfr_call, fetched_log, its_transfer, transfer_world}
-use Rattle.yp_headline.specs.World.{World, Given, Dialed}
 use Rattle.yp_headline.specs.Fetching.{Says, SaysRows, Gives}
-use Rattle.yp_headline.specs.Publishing.{IsFetched}
 use Rattle.yp_headline.specs.Serving.{IsReply}
 use Rattle.yp_headline.specs.Headline.{Replies}
 use Rattle.yp_headline.proofs.Runs.{front_self}
+use Rattle.yp_headline.proofs.Listing.{one_listed}
 use Rattle.yp_headline.proofs.Matched.{match_record}
 
 -- ---- what a server gives
@@ -130,8 +124,6 @@ again_record = record {
 
 pub gives : Gives fetched_bytes (version_with 9 119)
 gives = record {
-  order = 9;
-  master = 109 ∷ [];
   rows = (107 ∷ [], 119 ∷ []) ∷ [];
   second = sent (master_reply 2) ++ (sent (all_reply 3) ++ sent (order_reply 4 9));
   third = sent (all_reply 3) ++ sent (order_reply 4 9);
@@ -147,7 +139,8 @@ gives = record {
     whole = sym (append-nil (sent (order_reply 4 9)));
     says = second_order;
   };
-  is = refl;
+  not_secure = refl;
+  listed = one_listed (107 ∷ [], 119 ∷ []);
 }
 
 -- ---- the session

@@ -1,7 +1,6 @@
 -- What is fetched by bytes is what they give.
-use Rattle.std.proofs.Common.{◌≡◌, ◌⊎◌, ℕ, ◌+◌, ◌%◌, ◌^◌, ◌==◌, Bool, true, false, List, ◌++◌, Option, Some, None, Result, Ok, Err, refl, sym, ap, ◌∙◌, subst, ⊎_elim, inl, inr, eqb}
+use Rattle.std.proofs.Common.{◌≡◌, ℕ, ◌+◌, ◌%◌, ◌^◌, false, List, Option, Some, None, Result, Ok, Err, refl, sym, ap, ◌∙◌, subst, ⊎_elim, inl, inr, eqb}
 use Rattle.std.proofs.lemmas.Bool.Decides.{eqb_tells}
-use Rattle.std.specs.Prelude.{if◌then◌else◌}
 use Rattle.yp_xdr.specs.Kind.{U32}
 use Rattle.yp_messages.specs.Messages.{name}
 use Rattle.yp_version.specs.Rows.{Row, listed}
@@ -10,14 +9,15 @@ use Rattle.yp_version.specs.Drafts.{Draft, empty_draft, with_rows}
 use Rattle.yp_client.specs.declared.fault.ClientFault.{ClientFault}
 use Rattle.yp_client.specs.Limits.{reply_max, all_max}
 use Rattle.yp_client.specs.Results.{order_of, master_of}
-use Rattle.yp_client.specs.All.{all_said, AllSaid}
+use Rattle.yp_client.specs.All.{all_said}
 use Rattle.yp_transfer.specs.declared.fault.XfrFault.{XfrFault}
 use Rattle.yp_transfer.specs.Faults.{of_client}
-use Rattle.yp_transfer.specs.Fetching.{Wanted, FetchOutcome, Course, Unless, ByAnswer, AsksThen, InMemory, Gives as GivesDraft, AsksAgain, AsksRows, AsksMaster, against_names, against_order, against_master, against_second}
-use Rattle.yp_transfer.specs.Fetched.{StreamPlace, place_of, IsReplied, IsUnreplied, ReadsReply, by_bytes, rows_of, draft_of, Fetched}
+use Rattle.yp_transfer.specs.Fetching.{Wanted, FetchOutcome, Course, Unless, ByAnswer, AsksThen, InMemory, Gives as GivesDraft, AsksRows, against_names, against_order, against_master, against_second}
+use Rattle.yp_transfer.specs.Fetched.{StreamPlace, place_of, IsReplied, ReadsReply, by_bytes, rows_of, draft_of, Fetched}
 use Rattle.yp_headline.specs.Fetching.{Replied, Says, SaysRows, Gives}
 use Rattle.yp_headline.proofs.Said.{order_said, master_said, rows_said}
 use Rattle.yp_headline.proofs.Built.{rows_keep}
+use Rattle.yp_headline.proofs.Listing.{listed_is}
 
 -- ---- a fetch that gave a version
 
@@ -151,7 +151,6 @@ fetched_gives wanted stream version fetched =
     let rows = rows_say one.value two.value three.value two.middle.bytes three.middle.bytes
     (replied_at all_max (rows_of (empty_draft one.value two.value)) three.value 3 two.middle three.middle three.replied
     third_xid) in
-    let made : Draft = with_rows (empty_draft one.value two.value) rows.rows in
     let kept = rows_keep rows.rows (empty_draft one.value two.value) in
     let order : three.value.order ≡ one.value = ap (λ (d : Draft). d.order) rows.draft_is_of ∙ kept.0 in
     let again : one.value ≡ four.value = sym order ∙ no_skew three.value.order four.value
@@ -159,24 +158,27 @@ fetched_gives wanted stream version fetched =
     four.middle fetched.0 four.goes_on) in
     let version_is : version ≡ unmarked three.value.order three.value.master (listed three.value.rows) =
     same_given version (unmarked three.value.order three.value.master (listed three.value.rows)) last.0 in
+    let order_is : version.order ≡ one.value = ap (λ (v : MapVersion). v.order) version_is ∙ order in
+    let master_is : version.master ≡ two.value =
+    ap (λ (v : MapVersion). v.master) version_is ∙ ap (λ (d : Draft). d.master) rows.draft_is_of ∙ kept.1 in
     record {
-      order = one.value;
-      master = two.value;
       rows = rows.rows;
       second = one.middle.bytes;
       third = two.middle.bytes;
       fourth = three.middle.bytes;
       rest = four.middle.bytes;
-      says_order = says_order_of 1 one.value stream one.middle.bytes
-          (replied_at reply_max order_of one.value 1 first one.middle one.replied refl);
-      says_master = says_master_of 2 two.value one.middle.bytes two.middle.bytes
-          (replied_at reply_max master_of two.value 2 one.middle two.middle two.replied second_xid);
+      says_order = subst (λ (n : ℕ). Replied reply_max (Says 1 U32 n) stream one.middle.bytes) (sym order_is)
+          (says_order_of 1 one.value stream one.middle.bytes
+          (replied_at reply_max order_of one.value 1 first one.middle one.replied refl));
+      says_master = subst (λ (m : List ℕ). Replied reply_max (Says 2 name m) one.middle.bytes two.middle.bytes) (sym master_is)
+          (says_master_of 2 two.value one.middle.bytes two.middle.bytes
+          (replied_at reply_max master_of two.value 2 one.middle two.middle two.replied second_xid));
       says_rows = rows.replied;
-      says_again = subst (λ (n : ℕ). Replied reply_max (Says 4 U32 n) three.middle.bytes four.middle.bytes) (sym again)
+      says_again = subst (λ (n : ℕ). Replied reply_max (Says 4 U32 n) three.middle.bytes four.middle.bytes)
+          (sym (order_is ∙ again))
           (says_order_of 4 four.value three.middle.bytes four.middle.bytes
           (replied_at reply_max order_of four.value 4 three.middle four.middle four.replied fourth_xid));
-      is = version_is
-          ∙ ap (λ (d : Draft). unmarked d.order d.master (listed d.rows)) rows.draft_is_of
-          ∙ ap (λ (n : ℕ). unmarked n made.master (listed made.rows)) kept.0
-          ∙ ap (λ (l : List ℕ). unmarked one.value l (listed made.rows)) kept.1;
+      not_secure = ap (λ (v : MapVersion). v.secure) version_is;
+      listed = listed_is one.value two.value rows.rows version.rows
+          (ap (λ (v : MapVersion). v.rows) version_is ∙ ap (λ (d : Draft). listed d.rows) rows.draft_is_of);
     }

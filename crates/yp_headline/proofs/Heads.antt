@@ -1,5 +1,5 @@
 -- The head of a reply that is SUCCESS, item by item.
-use Rattle.std.proofs.Common.{◌≡◌, ◌⊎◌, ℕ, ℤ, pos, Bool, true, false, cond, List, [], ◌∷◌, Option, Some, None, Result, Ok, Err, refl, sym, ap, ◌∙◌, subst}
+use Rattle.std.proofs.Common.{◌≡◌, ℕ, ℤ, pos, Bool, true, false, cond, List, [], ◌∷◌, Result, Ok, Err, refl, sym, ap, ◌∙◌}
 use Rattle.std.proofs.lemmas.Bool.Decides.{Decides-int_eq}
 use Rattle.std.proofs.lemmas.Bool.{cases_Bool}
 use Rattle.std.specs.Ordering.{int_eq}
@@ -13,7 +13,7 @@ use Rattle.yp_rpc.specs.Call.{auth_kind}
 use Rattle.yp_rpc.specs.declared.reply.ReplyHead.{ReplyHead}
 use Rattle.yp_rpc.specs.declared.reply.ReplyHead.TheVariants.{Success, ProgUnavail, ProgMismatch, ProcUnavail, GarbageArgs, SystemErr, RpcMismatch, AuthError}
 use Rattle.yp_rpc.specs.Read.{reply_kind, accepted_kind, denied_kind, versions_kind, HeadRead, mismatch_read, auth_error_read, by_accept_stat, accepted_read, by_reject_stat, denied_read, by_reply_stat, reply_at}
-use Rattle.yp_headline.specs.Fetching.{head_kind, ResultsAre}
+use Rattle.yp_headline.specs.Fetching.{ResultsAre}
 
 pub same_int : (x y : ℤ) → int_eq x y ≡ true → x ≡ y
 same_int x y is = (Decides-int_eq x y).0 is

@@ -1,5 +1,7 @@
 pub mod Runs
 pub mod Once
+pub mod Listing
+pub mod Texts
 pub mod Heads
 pub mod Said
 pub mod Given
@@ -7,6 +9,8 @@ pub mod Dialing
 pub mod Named
 pub mod Built
 pub mod Session
+pub mod Stood
+pub mod StoodBack
 pub mod Single
 pub mod Sourced
 pub mod Xfr
@@ -23,3 +27,7 @@ pub mod Serve
 pub mod Running
 pub mod Revnet
 pub mod Skewed
+pub mod Kept
+pub mod Spoiled
+pub mod Mixed
+pub mod Right

@@ -2,27 +2,23 @@
 use Rattle.std.proofs.Common.{◌≡◌, ◌⊎◌, ℕ, zero, suc, ◌<◌, List, [], ◌∷◌, ◌++◌, length, Option, Some, None, refl, sym, ap, ◌∙◌, subst, arith, inl, inr, ⊎_elim, append_assoc}
 use Rattle.std.specs.Prelude.{slice_index}
 use Rattle.std.specs.List.{AllZip}
-use Rattle.std.proofs.lemmas.List.{append_cancel_left, append-nil}
+use Rattle.std.proofs.lemmas.List.{append_cancel_left}
 use Rattle.yp_io.specs.Disk.{IsImage, LeftIn}
 use Rattle.yp_version.specs.Versions.{MapVersion}
-use Rattle.yp_map_file.specs.Stands.{Stands, Nothing, Stored, stands}
 use Rattle.yp_board.specs.Logs.{Log, shown, starts}
 use Rattle.yp_board.specs.Views.{IsFront}
 use Rattle.yp_publisher.specs.Grown.{AreMade}
-use Rattle.yp_publisher.specs.Standing.{stands_for}
 use Rattle.yp_headline.specs.inside.Tried.{version_with, whole_file, synced, one_file, IsTornWorld, quiet}
-use Rattle.yp_headline.specs.World.{World, Store}
+use Rattle.yp_headline.specs.World.{World}
+use Rattle.yp_headline.specs.Storing.{stood_for}
 use Rattle.yp_headline.specs.Publishing.{IsAmong, IsNew, StoreHas, IsPublishedLog, OfFile, StandsBy, StandsByFront}
-use Rattle.yp_headline.specs.Headline.{Crashes, Transfers}
+use Rattle.yp_headline.specs.Headline.{Crashes}
 use Rattle.yp_headline.proofs.Runs.{front_self}
 use Rattle.yp_headline.proofs.Torn.{is_image, image_length, stands_first, stands_second, stands_none}
 use Rattle.yp_headline.proofs.Matched.{stays, never_new}
 
-stands_same : (a b : Option MapVersion) → stands_for a ≡ stands_for b → a ≡ b
-stands_same None None e = refl
-stands_same None (Some v) e = absurd cc
-stands_same (Some v) None e = absurd cc
-stands_same (Some v) (Some w) e = cc
+pub same_held : (a b : Option MapVersion) → Some a ≡ Some b → a ≡ b
+same_held a b is = cc
 
 -- a server of one map of another master, whose file stood for a version
 module _ (middle last : List ℕ) (begun log : Log)
@@ -33,7 +29,7 @@ module _ (middle last : List ℕ) (begun log : Log)
   first_is : (first : List (Option MapVersion)) → AllZip StoreHas world.stores first → first ≡ Some (version_with 7 118) ∷ []
   first_is [] stored = absurd stored
   first_is (one ∷ []) stored =
-      ap (λ (o : Option MapVersion). o ∷ []) (stands_same one (Some (version_with 7 118)) (sym stored.0 ∙ stands_first))
+      ap (λ (o : Option MapVersion). o ∷ []) (same_held one (Some (version_with 7 118)) (sym stored.0 ∙ stands_first))
   first_is (one ∷ two ∷ more) stored = absurd stored.1
 
   begun_shows : shown 0 begun ≡ Some (version_with 7 118)
@@ -49,18 +45,21 @@ module _ (middle last : List ℕ) (begun log : Log)
 
   -- it stands for that alone
   pub stands_so : (front : Log) → IsFront begun front → IsFront front log → (image : List ℕ) → StandsBy world 0 front image
-      → stands image ≡ Stored (version_with 7 118)
+      → stood_for image ≡ Some (Some (version_with 7 118))
   stands_so front begins goes_on image by = ⊎_elim
-      (λ same. same ∙ ap stands_for (shows front begins goes_on))
+      (λ same. same ∙ ap (λ (o : Option MapVersion). Some o) (shows front begins goes_on))
       (λ new. absurd (never_new world refl refl front new.0 (shows front begins goes_on) new.1)) by
 
   pub grown : IsFront begun log
   grown = (published.more, published.all)
 
-order_same : (a b : MapVersion) → Stored a ≡ Stored b → a.order ≡ b.order
-order_same a b is = let same : a ≡ b = cc in ap (λ (v : MapVersion). v.order) same
+pub stored_same : (a b : MapVersion) → Some (Some a) ≡ Some (Some b) → a ≡ b
+stored_same a b is = let e : Some a ≡ Some b = same_held (Some a) (Some b) is in cc
 
-no_image : (one other : List ℕ) → IsImage (synced one) other → (place : ℕ) → place < length one
+pub order_same : (a b : MapVersion) → Some (Some a) ≡ Some (Some b) → a.order ≡ b.order
+order_same a b is = ap (λ (v : MapVersion). v.order) (stored_same a b is)
+
+pub no_image : (one other : List ℕ) → IsImage (synced one) other → (place : ℕ) → place < length one
     → slice_index other place ≡ slice_index one place
 no_image one other is place within = is.others_stay place within refl
 
@@ -69,7 +68,7 @@ pub lost_at_end : IsTornWorld (one_file (whole_file 7 118) [] [] [] [])
 lost_at_end begun log crashes = ⊎_elim
     (λ first. let same = image_length (whole_file 7 118) [] first in omega (arith, same))
     (λ by. let is = stands_so [] [] begun log crashes.published log (grown [] [] begun log crashes.published) (front_self log) [] by in
-    let e : Nothing ≡ Stored (version_with 7 118) = sym stands_none ∙ is in cc)
+    let e : None ≡ Some (version_with 7 118) = same_held None (Some (version_with 7 118)) (sym stands_none ∙ is) in cc)
     (crashes.at_end 0 [] (is_image []))
 
 -- one that is gone at a moment
@@ -77,7 +76,7 @@ pub lost_meanwhile : IsTornWorld (one_file (whole_file 7 118) [] (whole_file 7 1
 lost_meanwhile begun log crashes = ⊎_elim
     (λ first. let same = image_length (whole_file 7 118) [] first in omega (arith, same))
     (λ by. let is = stands_so [] (whole_file 7 118) begun log crashes.published by.front by.begins by.goes_on [] by.stands_by in
-    let e : Nothing ≡ Stored (version_with 7 118) = sym stands_none ∙ is in cc)
+    let e : None ≡ Some (version_with 7 118) = same_held None (Some (version_with 7 118)) (sym stands_none ∙ is) in cc)
     (crashes.any_moment 0 [] (inr (inl (is_image []))))
 
 -- a version that nobody made or sent
@@ -87,7 +86,7 @@ from_nowhere begun log crashes = ⊎_elim
     let e : 9 ≡ 7 = same in omega (arith, e))
     (λ by. let is = stands_so (whole_file 7 118) (whole_file 9 119) begun log crashes.published log
     (grown (whole_file 7 118) (whole_file 9 119) begun log crashes.published) (front_self log) (whole_file 9 119) by in
-    let e : Stored (version_with 9 119) ≡ Stored (version_with 7 118) = sym stands_second ∙ is in
+    let e : Some (Some (version_with 9 119)) ≡ Some (Some (version_with 7 118)) = sym stands_second ∙ is in
     let orders : 9 ≡ 7 = order_same (version_with 9 119) (version_with 7 118) e in omega (arith, orders))
     (crashes.at_end 0 (whole_file 9 119) (is_image (whole_file 9 119)))
 

@@ -1,25 +1,23 @@
 -- Worlds of one MATCH: a right one, and wrong ones.
-use Rattle.std.proofs.Common.{◌≡◌, ◌⊎◌, ℕ, zero, suc, ◌<◌, ◌≤◌, Bool, true, false, cond, List, [], ◌∷◌, ◌++◌, length, map, Option, Some, None, refl, sym, ap, ◌∙◌, subst, arith, inl, inr, ⊎_elim, append_assoc, eqb}
-use Rattle.std.specs.Prelude.{slice_index, fold, ◌==◌, ⊤}
+use Rattle.std.proofs.Common.{◌≡◌, ℕ, Bool, true, false, cond, List, [], ◌∷◌, ◌++◌, length, map, Option, Some, None, refl, sym, ap, ◌∙◌, subst, arith, inl, inr, ⊎_elim, append_assoc}
+use Rattle.std.specs.Prelude.{slice_index, fold, ◌==◌}
 use Rattle.std.specs.List.{AllZip}
 use Rattle.std.specs.List.Sorted.{IsStrictlyIncreasing}
 use Rattle.std.proofs.lemmas.List.{append-nil, append_cancel_left}
 use Rattle.std.proofs.lemmas.List.Elements.{All-nil, All-cons}
-use Rattle.std.proofs.lemmas.Bool.{cases_Bool}
 use Rattle.std.proofs.lemmas.Bool.Decides.{eqb_tells}
 use Rattle.yp_io.specs.declared.stream.Peer.{Peer}
 use Rattle.yp_xdr.specs.Reading.{word_at, content_at, opaque_at}
 use Rattle.yp_xdr.specs.Spelling.{fixed, opaque}
-use Rattle.yp_rpc.specs.Records.{Fragments, Cut, IsRest, IsShort, sent, sent_within}
+use Rattle.yp_rpc.specs.Records.{Fragments, IsShort, sent, sent_within}
 use Rattle.yp_rpc.specs.inside.Laws.{CutIsOne}
-use Rattle.yp_rpc.specs.Reply.{words, reply_head}
+use Rattle.yp_rpc.specs.Reply.{reply_head}
 use Rattle.yp_rpc.specs.declared.reply.ReplyHead.TheVariants.{Success}
 use Rattle.yp_version.specs.Versions.{MapVersion}
 use Rattle.yp_board.specs.Catalogues.{Catalogue}
 use Rattle.yp_board.specs.Logs.{Log, shown, starts}
 use Rattle.yp_board.specs.Views.{IsFront}
 use Rattle.yp_publisher.specs.Grown.{AreMade}
-use Rattle.yp_texts.specs.Readings.{reading_of}
 use Rattle.yp_texts.specs.After.{other_master}
 use Rattle.yp_answer.specs.declared.procedure.Path.TheVariants.{Stream}
 use Rattle.yp_answer.specs.Numbers.{record_max}
@@ -29,10 +27,10 @@ use Rattle.yp_answer.specs.Reply.{Response, Bytes, reply}
 use Rattle.yp_headline.specs.inside.Tried.{somebody, IsWrong, version_with, match_call, match_reply, one_map, one_match, first_log}
 use Rattle.yp_headline.specs.World.{World, Connection, Store, Given, Dialed}
 use Rattle.yp_headline.specs.Publishing.{IsAmong, IsNew, StoreHas, IsPublishedLog}
-use Rattle.yp_headline.specs.Serving.{Exchange, sent_over, IsReply, AnswersInTurn, IsServed}
+use Rattle.yp_headline.specs.Serving.{Exchange, sent_over, IsReply, AnswersInTurn}
 use Rattle.yp_headline.specs.Headline.{Replies}
 use Rattle.yp_headline.proofs.Runs.{front_self}
-use Rattle.yp_headline.proofs.Wrong.{Whole, whole_is, replied}
+use Rattle.yp_headline.proofs.Wrong.{whole_is, replied}
 use Rattle.yp_headline.proofs.Torn.{no_server}
 
 -- ---- the call

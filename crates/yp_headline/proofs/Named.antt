@@ -1,5 +1,5 @@
 -- A map that is made is made of what its name says.
-use Rattle.std.proofs.Common.{◌≡◌, ℕ, Bool, true, false, cond, not, List, drop, Option, Some, None, Result, Ok, Err, refl, sym, ap, ◌∙◌, subst}
+use Rattle.std.proofs.Common.{◌≡◌, ℕ, Bool, true, false, cond, not, List, drop, Option, Some, None, Result, Ok, Err, refl, subst}
 use Rattle.std.specs.Prelude.{⊤, ◌||◌, ◌==◌, bytes_eq, length}
 use Rattle.std.specs.Option.{option_map, option_and_then, ok_or}
 use Rattle.yp_io.specs.declared.stream.Peer.{Peer}
@@ -21,7 +21,7 @@ use Rattle.yp_answer.specs.Maps.{Maps}
 use Rattle.yp_answer.specs.Make.{map_name, making_of, job_of, map_numbered, is_nameless, make_check}
 use Rattle.yp_answer.specs.Procedures.{programs_on}
 use Rattle.yp_answer.specs.Transfer.{XfrRequest, xfr_check}
-use Rattle.yp_answer.specs.Reply.{Response, Silence, Bytes, Takes, Open, with_arguments, make_response, xfr_response, arguments_of, procedure_reply, judged_reply, reply}
+use Rattle.yp_answer.specs.Reply.{Response, Silence, Bytes, Open, with_arguments, make_response, xfr_response, arguments_of, procedure_reply, judged_reply, reply}
 use Rattle.yp_xdr.specs.Kind.{Value}
 use Rattle.yp_messages.specs.Messages.{req_domain, req_key, req_nokey}
 use Rattle.yp_messages.specs.Transfers.{req_xfr, req_make}

@@ -1,11 +1,9 @@
 -- What `once` serves is a connection on one version.
-use Rattle.std.proofs.Common.{◌≡◌, ◌≢◌, ℕ, Bool, true, false, List, [], ◌∷◌, ◌++◌, Option, Some, None, refl, sym, ap, ◌∙◌, subst, arith, map, cond, ◌==◌}
+use Rattle.std.proofs.Common.{◌≡◌, ◌≢◌, ℕ, Bool, true, false, List, [], ◌∷◌, ◌++◌, Some, refl, sym, ap, ◌∙◌, subst, arith, map, cond, ◌==◌}
 use Rattle.std.specs.Prelude.{IfSome}
 use Rattle.yp_io.specs.declared.stream.Peer.{Peer}
-use Rattle.yp_version.specs.Rows.{Row}
 use Rattle.yp_version.specs.Versions.{MapVersion}
 use Rattle.std.specs.List.Sorted.{IsStrictlyIncreasing}
-use Rattle.yp_board.specs.Catalogues.{Name}
 use Rattle.yp_board.specs.Logs.{Log}
 use Rattle.yp_board.specs.Views.{Seen}
 use Rattle.yp_answer.specs.declared.procedure.Path.TheVariants.{Stream}
@@ -19,19 +17,16 @@ use Rattle.yp_answer.specs.declared.session.session.TheConstants.{CALLS_MAX}
 use Rattle.yp_answer.specs.session.Progress.{begun}
 use Rattle.yp_answer.specs.session.Hosts.{Turn, Link, Carries, CarriesWhere}
 use Rattle.yp_answer.specs.session.Wires.{Wire}
-use Rattle.yp_answer.specs.session.Runs.{Dialogue, dialogue_at, Chain, Ends, Runs}
+use Rattle.yp_answer.specs.session.Runs.{Dialogue, dialogue_at, Chain, Ends}
 use Rattle.yp_command.specs.Words.{nobody}
-use Rattle.yp_command.specs.declared.office.office.Office.{Office}
 use Rattle.yp_command.specs.declared.office.status.Status.{Status}
 use Rattle.yp_command.specs.declared.office.status.Status.TheVariants as status
-use Rattle.yp_command.specs.office.Seeing.{Seeing, input, output}
+use Rattle.yp_command.specs.office.Seeing.{Seeing}
 use Rattle.yp_command_serve.specs.Served.{Traffic, ServesInput, Fixed, fixed, fixed_conduct, RecordsAreAnswered, IsWatched, status_of, wire, traffic_of}
-use Rattle.yp_command_serve.specs.Once.{OnceDoes, once_maps, once_board, once_version, rows_fault}
-use Rattle.yp_headline.specs.World.{World}
+use Rattle.yp_command_serve.specs.Once.{once_maps, once_board, once_version}
 use Rattle.yp_headline.specs.Serving.{IsServed}
-use Rattle.yp_headline.specs.Headline.{Replies}
 use Rattle.yp_headline.specs.inside.Files.{is_cut}
-use Rattle.yp_headline.specs.inside.Worlds.{cuts_short, connection_of, once_world}
+use Rattle.yp_headline.specs.inside.Worlds.{cuts_short}
 use Rattle.yp_headline.specs.inside.Laws.{OnceReplies}
 use Rattle.yp_headline.proofs.Runs.{front_self, run_served}
 

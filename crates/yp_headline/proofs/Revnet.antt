@@ -1,9 +1,8 @@
 -- What `revnet` does is what the headline says.
-use Rattle.std.proofs.Common.{◌≡◌, ◌⊎◌, ℕ, Bool, true, false, List, [], Option, Some, None, refl, sym, ap, ◌∙◌, subst, inl, inr, ⊎_elim}
+use Rattle.std.proofs.Common.{◌≡◌, ℕ, Bool, true, false, List, [], Option, Some, None, refl, sym, ap, ◌∙◌, subst, inl, inr, ⊎_elim}
 use Rattle.std.specs.Prelude.{IfSome, IsTrue}
 use Rattle.yp_io.specs.Disk.{History, IsImage, LeftBetween, MayLeave, LeavesOnly}
 use Rattle.yp_version.specs.Versions.{MapVersion}
-use Rattle.yp_map_file.specs.Slots.{IsAsBefore}
 use Rattle.yp_map_file.specs.Stands.{Stored, stands}
 use Rattle.yp_board.specs.Catalogues.{Name}
 use Rattle.yp_board.specs.Logs.{shown}
@@ -11,12 +10,11 @@ use Rattle.yp_publisher.specs.Standing.{stands_for}
 use Rattle.yp_texts.specs.Builds.{order_after}
 use Rattle.yp_texts.specs.After.{other_master, last_order}
 use Rattle.yp_texts.specs.Readings.{reading_of}
-use Rattle.yp_command.specs.declared.office.office.Office.{Office}
 use Rattle.yp_command.specs.declared.office.status.Status.{Status}
 use Rattle.yp_command.specs.declared.office.status.Status.TheVariants.{Done, WriteFault}
 use Rattle.yp_command.specs.office.Seeing.{Seeing, output, moment}
 use Rattle.yp_command_maps.specs.Build.{tells_stored}
-use Rattle.yp_command_maps.specs.Revnet.{Job, job_of, RevnetInputs, revnet_inputs, ReverseIsPlanned, OfMade, StandsForVersion, Reverses, AtFiles, AtRevnetInputs, IsBeforeOrMade, store_history, netgroup_history, RevnetDoes}
+use Rattle.yp_command_maps.specs.Revnet.{Job, job_of, RevnetInputs, revnet_inputs, ReverseIsPlanned, StandsForVersion, Reverses, AtFiles, AtRevnetInputs, IsBeforeOrMade, store_history, netgroup_history}
 use Rattle.yp_headline.specs.World.{World}
 use Rattle.yp_headline.specs.Publishing.{IsNew}
 use Rattle.yp_headline.specs.inside.Files.{file_world, file_log, file_log_with}

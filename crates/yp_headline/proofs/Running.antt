@@ -1,5 +1,5 @@
 -- What `run` does is what the headline says.
-use Rattle.std.proofs.Common.{◌≡◌, ◌⊎◌, ℕ, ◌-◌, ◌∷◌, suc, Bool, true, false, List, [], length, take, Option, Some, None, refl, sym, ap, ◌∙◌, subst, arith, inl, ⊎_elim}
+use Rattle.std.proofs.Common.{◌≡◌, ℕ, ◌-◌, ◌∷◌, suc, Bool, true, false, List, [], take, Option, Some, None, sym, ap, ◌∙◌, subst, arith, inl, ⊎_elim}
 use Rattle.yp_io.specs.Disk.{History, IsImage, LeftIn, LeftBetween, states, moment}
 use Rattle.yp_io.specs.Dials.{Connected}
 use Rattle.yp_version.specs.Versions.{MapVersion}
@@ -23,12 +23,11 @@ use Rattle.yp_command_serve.specs.serve.Serve.{Job, serve_job_of, ServesOrRefuse
 use Rattle.yp_command_maps.specs.Build.{job_of, tells_stored, JobDoes}
 use Rattle.yp_command_maps.specs.Revnet.{store_history}
 use Rattle.yp_command_maps.specs.Xfr.{xfr_job_of}
-use Rattle.yp_program.specs.Commands.{AloneDoes, CommandDoes, Does, IsForgone}
+use Rattle.yp_program.specs.Commands.{AloneDoes, CommandDoes}
 use Rattle.yp_headline.specs.Publishing.{IsAmong}
 use Rattle.yp_headline.specs.Headline.{Crashes}
 use Rattle.yp_headline.specs.inside.Files.{file_world, file_log, done_where}
 use Rattle.yp_headline.specs.inside.Worlds.{was_served}
-use Rattle.yp_headline.specs.inside.Laws.{FileHolds, FileCrashes}
 use Rattle.yp_headline.specs.inside.Running.{was_hosted, BuildHolds, CommandHolds, RunHolds}
 use Rattle.yp_headline.proofs.Once.{once_replies}
 use Rattle.yp_headline.proofs.Session.{session_holds}

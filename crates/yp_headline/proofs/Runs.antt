@@ -1,11 +1,11 @@
 -- A session's run is a connection that was served.
 use Rattle.std.proofs.Common.{◌≡◌, ℕ, Bool, true, false, List, [], ◌∷◌, ◌++◌, map, take, drop, Option, Some, None, refl, sym, ap, ◌∙◌, subst, inl, inr, append_assoc}
-use Rattle.std.specs.List.{flat_map, AllByRecursion}
+use Rattle.std.specs.List.{AllByRecursion}
 use Rattle.std.specs.Io.KnownBytes.{Appends, Consumes, IsAtEnd}
 use Rattle.std.proofs.lemmas.List.{append-nil, append_cancel_left, take-append-drop, map-append}
 use Rattle.std.proofs.lemmas.Grind.{flat_map-append}
 use Rattle.yp_io.specs.declared.stream.Peer.{Peer}
-use Rattle.yp_rpc.specs.Records.{Fragments, IsRest, IsTorn, IsTooLong}
+use Rattle.yp_rpc.specs.Records.{Fragments, IsRest, IsTorn}
 use Rattle.yp_messages.specs.declared.transfer.XfrStat.{XfrStat}
 use Rattle.yp_messages.specs.declared.transfer.XfrStat.TheVariants.{Succ}
 use Rattle.yp_board.specs.Catalogues.{Catalogue}
@@ -16,15 +16,14 @@ use Rattle.yp_answer.specs.declared.procedure.Path.TheVariants.{Stream}
 use Rattle.yp_answer.specs.Numbers.{record_max}
 use Rattle.yp_answer.specs.Served.{maps_on}
 use Rattle.yp_answer.specs.Causes.{Told, IsCaused}
-use Rattle.yp_answer.specs.Reply.{Response, Silence, Bytes, Takes, Open, reply, make_reply}
+use Rattle.yp_answer.specs.Reply.{Response, Silence, Bytes, Takes, Open, reply}
 use Rattle.yp_answer.specs.declared.make.MakeJob.{MakeJob}
 use Rattle.yp_answer.specs.declared.session.session.End.{End}
 use Rattle.yp_answer.specs.declared.session.session.End.TheVariants.{Clean, Torn, TooLong, ReadFault, WriteFault, Enough}
 use Rattle.yp_answer.specs.session.Hosts.{Conduct, Turn}
 use Rattle.yp_answer.specs.session.LogRuns.{LogRun, Gets}
 use Rattle.yp_answer.specs.session.Wires.{Wire, SinkTells}
-use Rattle.yp_answer.specs.session.Runs.{Dialogue, Chain, Ends, Runs, AnswersRecord, unsent, sent_reply}
-use Rattle.yp_headline.specs.World.{Connection}
+use Rattle.yp_answer.specs.session.Runs.{Dialogue, Chain, Runs, sent_reply}
 use Rattle.yp_headline.specs.inside.Files.{is_cut}
 use Rattle.yp_headline.specs.Serving.{Exchange, IsPublished, IsReply, AnswersInTurn, BeginsWith, sent_over, IsServed}
 

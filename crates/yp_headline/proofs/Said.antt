@@ -1,5 +1,5 @@
 -- What a client reads of a reply is what it says.
-use Rattle.std.proofs.Common.{◌≡◌, ◌⊎◌, ℕ, ℤ, zero, suc, ◌+◌, pos, Bool, true, false, cond, List, [], ◌∷◌, length, Option, Some, None, Result, Ok, Err, refl, sym, ap, ◌∙◌, subst, inl, inr, eqb, ⊎_elim}
+use Rattle.std.proofs.Common.{◌≡◌, ℕ, ℤ, zero, suc, ◌+◌, pos, Bool, true, false, cond, List, [], ◌∷◌, length, Option, Some, None, Result, Ok, Err, refl, sym, ap, ◌∙◌, subst, inl, inr, eqb}
 use Rattle.std.specs.Prelude.{◌==◌}
 use Rattle.std.specs.Ordering.{int_eq}
 use Rattle.std.proofs.lemmas.Bool.Decides.{eqb_tells}
@@ -7,7 +7,7 @@ use Rattle.yp_xdr.specs.declared.fault.XdrFault.{XdrFault}
 use Rattle.yp_xdr.specs.Kind.{Kind, U32, I32, Boolean, Opaque, Sequence, Value}
 use Rattle.yp_xdr.specs.Reading.{Remaining, signed_at, reading}
 use Rattle.yp_rpc.specs.declared.reply.ReplyHead.{ReplyHead}
-use Rattle.yp_rpc.specs.declared.reply.ReplyHead.TheVariants.{Success, ProgUnavail, ProgMismatch, ProcUnavail, GarbageArgs, SystemErr, RpcMismatch, AuthError}
+use Rattle.yp_rpc.specs.declared.reply.ReplyHead.TheVariants.{Success}
 use Rattle.yp_rpc.specs.Read.{reply_at}
 use Rattle.yp_messages.specs.Numbers.{key_max, value_max}
 use Rattle.yp_messages.specs.Messages.{name}
@@ -16,7 +16,7 @@ use Rattle.yp_version.specs.Rows.{Row}
 use Rattle.yp_version.specs.declared.builder.VersionFault.{VersionFault}
 use Rattle.yp_version.specs.Drafts.{Draft, refused, with_row, with_rows}
 use Rattle.yp_client.specs.declared.fault.ClientFault.{ClientFault}
-use Rattle.yp_client.specs.declared.fault.ClientFault.TheVariants.{Denied, BadXid, Yp}
+use Rattle.yp_client.specs.declared.fault.ClientFault.TheVariants.{BadXid, Yp}
 use Rattle.yp_client.specs.Results.{◌>>=◌, of_reply, item, by_head, by_xid, results_of, stat_with, by_stat, behind_true, order_of, master_of}
 use Rattle.yp_client.specs.All.{ItemRead, AllSaid, row_at, by_row_stat, status_at, all_item_at, by_refusal, by_item, filled, filled_by, all_said}
 use Rattle.yp_headline.specs.Fetching.{ResultsAre, Says, RowsAre, SaysRows}

@@ -1,25 +1,23 @@
 -- What `serve` does is what the headline says of its connections.
-use Rattle.std.proofs.Common.{◌≡◌, ℕ, List, [], ◌∷◌, ◌++◌, map, Option, Some, None, refl, sym, ap, ◌∙◌, subst}
+use Rattle.std.proofs.Common.{◌≡◌, ℕ, List, [], ◌∷◌, ◌++◌, map, Option, Some, refl, sym, ap, ◌∙◌, subst}
 use Rattle.std.specs.Prelude.{flat_map}
 use Rattle.std.specs.List.{AllByRecursion, AllZip}
 use Rattle.std.proofs.lemmas.List.{append_cancel_left}
 use Rattle.yp_io.specs.Disk.{History}
 use Rattle.yp_io.specs.Calls.{ClosedConnection, ListenerHistory}
-use Rattle.yp_board.specs.Logs.{Log, starts}
+use Rattle.yp_board.specs.Logs.{starts}
 use Rattle.yp_publisher.specs.Standing.{StoredMap, versions}
 use Rattle.yp_publisher.specs.Opens.{IsOpened}
-use Rattle.yp_worker.specs.Receptions.{ListenTells, terms_of}
+use Rattle.yp_worker.specs.Receptions.{terms_of}
 use Rattle.yp_worker.specs.Summing.{WorkerRun, ends_of, TellsClosed}
 use Rattle.yp_answer.specs.declared.session.session.TheConstants.{CALLS_MAX}
 use Rattle.yp_server.specs.Counting.{count_totals}
-use Rattle.yp_command.specs.declared.office.office.Office.{Office}
-use Rattle.yp_command.specs.declared.office.status.Status.{Status}
 use Rattle.yp_command.specs.office.Disks.{disks_of}
 use Rattle.yp_command.specs.office.Seeing.{Seeing}
 use Rattle.yp_command_serve.specs.serve.Hosting.{conduct}
-use Rattle.yp_command_serve.specs.serve.Serve.{Job, catalogue_of, setup, ServesMaps}
-use Rattle.yp_headline.specs.inside.Server.{IsToldClosed, ConnectionsAreServed, StoodFor, closed_in, ServerHolds, ServeHolds}
-use Rattle.yp_headline.proofs.Server.{closed_by_all, all_served}
+use Rattle.yp_command_serve.specs.serve.Serve.{catalogue_of, setup}
+use Rattle.yp_headline.specs.inside.Server.{IsToldClosed, ConnectionsAreServed, StoodFor, closed_in, ServeHolds}
+use Rattle.yp_headline.proofs.Server.{all_served}
 
 joined_map : {H : Type 0} (runs : List (WorkerRun H)) → closed_in (map (λ run. ends_of run.stays) runs) ≡ flat_map (λ run. ends_of run.stays) runs
 joined_map [] = refl

@@ -1,32 +1,28 @@
 -- What a session over stored maps does is what the headline says.
-use Rattle.std.proofs.Common.{◌≡◌, ◌⊎◌, ℕ, zero, suc, ◌+◌, ◌-◌, ◌<◌, ◌≤◌, Bool, true, false, List, [], ◌∷◌, ◌++◌, length, map, take, Option, Some, None, Result, Ok, Err, refl, sym, ap, ◌∙◌, subst, arith, inl, inr, ⊎_elim}
-use Rattle.std.specs.Prelude.{IfSome, IsSome, slice_get, slice_index_or, ⊤, Contains, unwrap_or}
-use Rattle.std.specs.List.{AllZip, All}
+use Rattle.std.proofs.Common.{◌≡◌, ◌⊎◌, ℕ, zero, suc, ◌≤◌, Bool, true, List, [], ◌∷◌, ◌++◌, length, map, Option, Some, None, refl, sym, ap, ◌∙◌, subst, arith, inl, inr, ⊎_elim}
+use Rattle.std.specs.Prelude.{IfSome, IsSome, slice_get, slice_index_or, unwrap_or}
+use Rattle.std.specs.List.{AllZip}
 use Rattle.std.proofs.lemmas.List.{append_cancel_left, map-append, length-map}
-use Rattle.yp_io.specs.declared.stream.Peer.{Peer}
-use Rattle.yp_io.specs.Disk.{History, DiskState, IsImage, LeftIn, MayLeave, LeavesOnly}
+use Rattle.yp_io.specs.Disk.{History, IsImage, LeftIn, MayLeave, LeavesOnly}
 use Rattle.yp_io.specs.Dials.{Connected, Wires}
 use Rattle.yp_version.specs.Versions.{MapVersion}
-use Rattle.yp_version.specs.Drafts.{Draft, empty_draft, with_rows}
-use Rattle.yp_map_file.specs.Stands.{Stored, stands}
+use Rattle.yp_map_file.specs.Stands.{stands}
 use Rattle.yp_board.specs.Catalogues.{Catalogue}
-use Rattle.yp_board.specs.Logs.{Log, shown, starts}
+use Rattle.yp_board.specs.Logs.{Log, shown}
 use Rattle.yp_board.specs.Views.{IsFront}
-use Rattle.yp_publisher.specs.Standing.{StoredMap, MapStanding, Level, Behind, stands_for, StandsAs, IsStanding, OfMap, versions, Shows}
+use Rattle.yp_publisher.specs.Standing.{StoredMap, MapStanding, Level, Behind, stands_for, StandsAs, IsStanding, versions}
 use Rattle.yp_publisher.specs.Opens.{IsOpened}
-use Rattle.yp_publisher.specs.Grown.{Making, AreMade, GrowsBy, IsShownOrMade, IsOfBetween, IsBehindMade, AtDisk, LeavesOr, AreTold}
-use Rattle.yp_answer.specs.Causes.{Told, Task, task_of}
+use Rattle.yp_publisher.specs.Grown.{Making, AreMade, IsShownOrMade, IsOfBetween, IsBehindMade, AtDisk, LeavesOr, AreTold}
 use Rattle.yp_answer.specs.declared.procedure.Path.TheVariants.{Stream}
 use Rattle.yp_answer.specs.Make.{map_name, making_of}
 use Rattle.yp_answer.specs.declared.session.session.End.{End}
 use Rattle.yp_answer.specs.declared.session.session.End.TheVariants as ends
 use Rattle.yp_answer.specs.declared.session.session.TheConstants.{CALLS_MAX}
 use Rattle.yp_answer.specs.session.Progress.{begun}
-use Rattle.yp_answer.specs.session.Hosts.{Turn}
 use Rattle.yp_answer.specs.session.Wires.{Wire}
-use Rattle.yp_answer.specs.session.Runs.{Dialogue, dialogue_at}
+use Rattle.yp_answer.specs.session.Runs.{dialogue_at}
 use Rattle.yp_host.specs.Locals.{Local}
-use Rattle.yp_host.specs.Connections.{Service, Connection, local_conduct, log_of, WasMade, WasFetched, IsGiven, given_in, transitions_of, Transition, ServesConnection}
+use Rattle.yp_host.specs.Connections.{Service, Connection, local_conduct, log_of, WasMade, WasFetched, given_in, transitions_of, ServesConnection}
 use Rattle.yp_board.specs.Catalogues.{name_view}
 use Rattle.yp_command.specs.declared.office.disks.NamedDisk.{NamedDisk}
 use Rattle.yp_command.specs.declared.office.status.Status.{Status}
@@ -34,18 +30,19 @@ use Rattle.yp_command.specs.declared.office.status.Status.TheVariants as status
 use Rattle.yp_command.specs.office.Disks.{disks_of}
 use Rattle.yp_command.specs.office.Seeing.{Seeing}
 use Rattle.yp_command_serve.specs.Session.{Sessions, service, connection}
-use Rattle.yp_headline.specs.World.{World, Store, Given, Filed, MapFile, Dialed}
+use Rattle.yp_headline.specs.World.{World}
 use Rattle.yp_headline.specs.Fetching.{Gives}
 use Rattle.yp_headline.specs.Serving.{IsServed}
-use Rattle.yp_headline.specs.Publishing.{IsAmong, IsMarked, IsBuilt, IsFetched, IsNew, StoreHas, IsPublishedLog, OfStore, OfFile, StandsBy, StandsByFront}
+use Rattle.yp_headline.specs.Publishing.{IsAmong, IsFetched, IsNew, StoreHas, IsPublishedLog, OfStore, OfFile, StandsBy, StandsByFront}
 use Rattle.yp_headline.specs.Headline.{Replies, Crashes}
 use Rattle.yp_headline.specs.inside.Files.{is_cut, filed, stores_between, dialed_of}
 use Rattle.yp_headline.specs.inside.Worlds.{cuts_short, was_served, session_world}
 use Rattle.yp_headline.specs.inside.Laws.{WorldHolds, SessionHolds}
 use Rattle.yp_headline.proofs.Runs.{front_self, run_served}
+use Rattle.yp_headline.proofs.Stood.{stood as as_stood}
 use Rattle.yp_headline.proofs.Named.{open_is_named}
 use Rattle.yp_headline.proofs.Built.{made_built}
-use Rattle.yp_headline.proofs.Dialing.{IsOpen, IsSound, Came, Among, Goes, fetched_among, chained, ended_goes, some_then}
+use Rattle.yp_headline.proofs.Dialing.{IsSound, Goes, fetched_among, chained, ended_goes, some_then}
 
 -- ---- files
 
@@ -62,7 +59,7 @@ module _ {D : Type 0} (history : D → Option History) where
       → IfSome old (λ h. stands h.state.reads ≡ stands_for version) → StoreHas (filed old new) version
   store_has None new version is is' has = absurd cc
   store_has (Some old) None version is is' has = absurd cc
-  store_has (Some old) (Some new) version is is' has = has
+  store_has (Some old) (Some new) version is is' has = as_stood old.state.reads version has
 
   pub stores_have : (faults : D → ℕ) (olds news : List D) (maps : List (StoredMap D)) → AllZip (IsOpened history faults) olds maps
       → length news ≡ length maps → AreTold history olds → AreTold history news
@@ -280,8 +277,8 @@ module _ {D B E : Type 0} (service : Service D B E) (end : End) (old new : Conne
   stands_by : (number : ℕ) (log : Log) (image : List ℕ)
       → IsShownOrMade (given_in service old serves.start serves.runs.turns serves.runs.answered) number log image
       → StandsBy world number log image
-  stands_by number log image is = ⊎_elim (λ as_shown. inl as_shown)
-      (λ made. inr (made.0, is_new number log made.0 made.1, made.2)) is
+  stands_by number log image is = ⊎_elim (λ as_shown. inl (as_stood image (shown number log) as_shown))
+      (λ made. inr (made.0, is_new number log made.0 made.1, as_stood image (Some made.0) made.2)) is
 
   by_front : (number : ℕ) (image : List ℕ)
       → IsOfBetween (given_in service old serves.start serves.runs.turns serves.runs.answered) number log0 log1 image
@@ -297,9 +294,10 @@ module _ {D B E : Type 0} (service : Service D B E) (end : End) (old new : Conne
       → StandsAs standing (shown number log1) image
       → IsBehindMade (given_in service old serves.start serves.runs.turns serves.runs.answered) number log1 standing
       → StandsBy world number log1 image
-  by_standing number Level image stands_as behind = inl stands_as
+  by_standing number Level image stands_as behind = inl (as_stood image (shown number log1) stands_as)
   by_standing number (Behind failed) image stands_as behind =
-      ⊎_elim (λ as_shown. inl as_shown) (λ as_failed. inr (failed, is_new number log1 failed behind, as_failed)) stands_as
+      ⊎_elim (λ as_shown. inl (as_stood image (shown number log1) as_shown))
+      (λ as_failed. inr (failed, is_new number log1 failed behind, as_stood image (Some failed) as_failed)) stands_as
 
   at_end : (number : ℕ) (kept : StoredMap D) (h : History) → slice_get serves.finish.published.maps number ≡ Some kept
       → service.keeping.history kept.disk ≡ Some h → (image : List ℕ) → IsImage h.state image

@@ -1,5 +1,5 @@
 -- A command over one file: what a crash leaves of it, and what it stored.
-use Rattle.std.proofs.Common.{◌≡◌, ◌⊎◌, ℕ, zero, suc, Bool, true, false, List, [], ◌∷◌, ◌++◌, Option, Some, None, refl, sym, ap, ◌∙◌, subst, inl, inr, ⊎_elim}
+use Rattle.std.proofs.Common.{◌≡◌, ◌⊎◌, ℕ, zero, suc, Bool, true, false, List, [], ◌∷◌, ◌++◌, Option, Some, None, refl, sym, ap, ◌∙◌, inl, inr, ⊎_elim}
 use Rattle.std.proofs.lemmas.List.{append-nil}
 use Rattle.yp_io.specs.Disk.{History, IsImage, LeftIn, LeftBetween, MayLeave}
 use Rattle.yp_io.specs.Dials.{Connected}
@@ -13,7 +13,9 @@ use Rattle.yp_headline.specs.World.{World}
 use Rattle.yp_headline.specs.Publishing.{IsAmong, IsNew, OfFile, StandsBy, StandsByFront}
 use Rattle.yp_headline.specs.Headline.{Crashes}
 use Rattle.yp_headline.specs.inside.Files.{file_world, file_log, file_log_with}
+use Rattle.yp_headline.specs.Storing.{stood_for}
 use Rattle.yp_headline.proofs.Runs.{front_self}
+use Rattle.yp_headline.proofs.Stood.{stood as as_stood}
 
 pub shown_first : (held : Option MapVersion) → shown 0 (file_log held) ≡ held
 shown_first None = refl
@@ -46,8 +48,8 @@ module _ (own : List ℕ) (name : Name) (text : List ℕ → Option (List ℕ)) 
     by_first : (image : List ℕ) → LeftBetween (Some old) (Some new) image
         → IsImage old.state image ⊎ StandsBy (world told) 0 (file_log held) image
     by_first image left = ⊎_elim (λ first. inl first)
-        (λ later. inr (⊎_elim (λ same. inl (same ∙ ap stands_for (sym (shown_first held))))
-        (λ one. inr (one.0, is_new one.0 one.1, one.2)) later)) (each image left)
+        (λ later. inr (⊎_elim (λ same. inl (as_stood image (shown 0 (file_log held)) (same ∙ ap stands_for (sym (shown_first held)))))
+        (λ one. inr (one.0, is_new one.0 one.1, as_stood image (Some one.0) one.2)) later)) (each image left)
 
     by_front : (log : Log) → (more : Log) → log ≡ file_log held ++ more → (image : List ℕ)
         → LeftBetween (Some old) (Some new) image
@@ -75,7 +77,7 @@ module _ (own : List ℕ) (name : Name) (text : List ℕ → Option (List ℕ)) 
   left_crashes stood is_new each = record {
     published = record {
       first = held ∷ [];
-      stored = (stood, tt);
+      stored = (as_stood old.state.reads held stood, tt);
       begun_is = refl;
       more = [];
       all = sym (append-nil (file_log held));
@@ -88,8 +90,9 @@ module _ (own : List ℕ) (name : Name) (text : List ℕ → Option (List ℕ)) 
 
   -- a version was told as stored
   module _ (version : MapVersion) (all : (image : List ℕ) → IsImage new.state image → stands image ≡ Stored version) where
-    stored_so : (image : List ℕ) → IsImage new.state image → stands image ≡ stands_for (shown 0 (file_log_with held version))
-    stored_so image is = all image is ∙ ap stands_for (sym (shown_with held version))
+    stored_so : (image : List ℕ) → IsImage new.state image → stood_for image ≡ Some (shown 0 (file_log_with held version))
+    stored_so image is =
+        as_stood image (shown 0 (file_log_with held version)) (all image is ∙ ap stands_for (sym (shown_with held version)))
 
     end_with : (number : ℕ) → OfFile number (world true).stores (λ file. (image : List ℕ) → IsImage file.last image
         → IsImage file.first image ⊎ StandsBy (world true) number (file_log_with held version) image)
@@ -97,7 +100,7 @@ module _ (own : List ℕ) (name : Name) (text : List ℕ → Option (List ℕ)) 
     end_with (suc number) = tt
 
     stored_with : (number : ℕ) → IsAmong (world true).done number → OfFile number (world true).stores
-        (λ file. (image : List ℕ) → IsImage file.last image → stands image ≡ stands_for (shown number (file_log_with held version)))
+        (λ file. (image : List ℕ) → IsImage file.last image → stood_for image ≡ Some (shown number (file_log_with held version)))
     stored_with zero among = stored_so
     stored_with (suc number) among = tt
 
@@ -108,7 +111,7 @@ module _ (own : List ℕ) (name : Name) (text : List ℕ → Option (List ℕ)) 
     stored_crashes is stood is_new each = record {
       published = record {
         first = held ∷ [];
-        stored = (stood, tt);
+        stored = (as_stood old.state.reads held stood, tt);
         begun_is = refl;
         more = (0, version) ∷ [];
         all = refl;

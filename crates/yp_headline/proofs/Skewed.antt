@@ -1,5 +1,5 @@
 -- Transfers that are told as done, and weren't: of a server that gave too little, or another order at last.
-use Rattle.std.proofs.Common.{◌≡◌, ℕ, ◌+◌, List, [], ◌∷◌, ◌++◌, length, pos, Ok, refl, sym, ap, ◌∙◌, subst, arith, length-append}
+use Rattle.std.proofs.Common.{◌≡◌, ℕ, ◌+◌, List, [], ◌∷◌, ◌++◌, length, refl, sym, ap, ◌∙◌, subst, arith, length-append}
 use Rattle.std.proofs.Common.{true}
 use Rattle.std.proofs.lemmas.List.{append-nil}
 use Rattle.std.proofs.lemmas.List.Elements.{All-nil, All-cons}
@@ -8,21 +8,18 @@ use Rattle.yp_xdr.specs.Reading.{Remaining, reading, word_at, content_at, opaque
 use Rattle.yp_rpc.specs.Records.{Fragments, IsShort, fragment, begun, sent, sent_within}
 use Rattle.yp_rpc.specs.inside.Laws.{FirstIsOne}
 use Rattle.yp_rpc.specs.Reply.{words}
-use Rattle.yp_messages.specs.Messages.{name}
 use Rattle.yp_version.specs.Versions.{MapVersion}
-use Rattle.yp_board.specs.Logs.{Log}
 use Rattle.yp_client.specs.Limits.{reply_max, all_max}
 use Rattle.yp_headline.specs.World.{Dialed}
 use Rattle.yp_headline.specs.Fetching.{head_kind, Says, Replied, Gives}
 use Rattle.yp_headline.specs.Publishing.{IsAmong}
-use Rattle.yp_headline.specs.Headline.{Transfers}
 use Rattle.yp_headline.specs.inside.Tried.{somebody, whole_file, one_file, IsWrongTransfer, order_reply, master_reply, all_reply}
 use Rattle.yp_headline.proofs.Heads.{same_pair}
 use Rattle.yp_headline.proofs.Fetching.{first_order, order_record, master_record, rows_record, left_at}
 
 -- ---- one server
 
-one_server : (server other : Dialed) → IsAmong (server ∷ []) other → other ≡ server
+pub one_server : (server other : Dialed) → IsAmong (server ∷ []) other → other ≡ server
 one_server server other ([], back, is) = cc
 one_server server other (one ∷ [], back, is) = absurd cc
 one_server server other (one ∷ two ∷ front, back, is) = absurd cc
@@ -37,7 +34,7 @@ never_empty limit message bytes more is empty =
     omega (arith, four, all, none)
 
 -- what a reply says is one value
-says_one : (xid : ℕ) (kind : Kind) (a b : Value kind) (reply : List ℕ) → Says xid kind a reply → Says xid kind b reply → a ≡ b
+pub says_one : (xid : ℕ) (kind : Kind) (a b : Value kind) (reply : List ℕ) → Says xid kind a reply → Says xid kind b reply → a ≡ b
 says_one xid kind a b reply one other =
     let heads = same_pair _ _ (sym one.results.head ∙ other.results.head) in
     let left : one.left ≡ other.left = ap (λ (r : Value head_kind × Remaining). r.1) heads in
@@ -71,7 +68,7 @@ last_order = record {
 
 module _ (first_one : FirstIsOne) where
   -- behind the first reply
-  behind : {P : List ℕ → Type 0} (limit : ℕ) (message more came others : List ℕ) → Fragments limit message (sent message)
+  pub behind : {P : List ℕ → Type 0} (limit : ℕ) (message more came others : List ℕ) → Fragments limit message (sent message)
       → came ≡ sent message ++ more → Replied limit P came others → (P message) × (others ≡ more)
   behind {P} limit message more came others is parts replied =
       let same = first_one limit replied.reply message replied.first (sent message) others more replied.fragments is
@@ -82,11 +79,11 @@ module _ (first_one : FirstIsOne) where
   no_bytes version gives =
       never_empty reply_max gives.says_order.reply gives.says_order.first gives.second gives.says_order.fragments gives.says_order.whole
 
-  after_order : (more came : List ℕ) (version : MapVersion) → came ≡ sent (order_reply 1 9) ++ more → (gives : Gives came version)
-      → (gives.order ≡ 9) × (gives.second ≡ more)
+  pub after_order : (more came : List ℕ) (version : MapVersion) → came ≡ sent (order_reply 1 9) ++ more → (gives : Gives came version)
+      → (version.order ≡ 9) × (gives.second ≡ more)
   after_order more came version parts gives =
       let one = behind reply_max (order_reply 1 9) more came gives.second order_record parts gives.says_order in
-      (says_one 1 U32 gives.order 9 (order_reply 1 9) one.0 first_order, one.1)
+      (says_one 1 U32 version.order 9 (order_reply 1 9) one.0 first_order, one.1)
 
   order_alone : (version : MapVersion) → Gives (sent (order_reply 1 9)) version → ⊥
   order_alone version gives =
@@ -112,11 +109,11 @@ module _ (first_one : FirstIsOne) where
       let three = behind all_max (all_reply 3) (sent (order_reply 4 10)) gives.third gives.fourth rows_record two.1 gives.says_rows in
       let four = behind reply_max (order_reply 4 10) [] gives.fourth gives.rest last_record
       (three.1 ∙ sym (append-nil (sent (order_reply 4 10)))) gives.says_again in
-      let order : gives.order ≡ 10 = says_one 4 U32 gives.order 10 (order_reply 4 10) four.0 last_order in
+      let order : version.order ≡ 10 = says_one 4 U32 version.order 10 (order_reply 4 10) four.0 last_order in
       let e : 9 ≡ 10 = sym one.0 ∙ order in omega (arith, e)
 
   -- such a transfer isn't done
-  undone : (came : List ℕ) → ((version : MapVersion) → Gives came version → ⊥)
+  pub undone : (came : List ℕ) → ((version : MapVersion) → Gives came version → ⊥)
       → IsWrongTransfer (one_file [] [] (whole_file 7 118) (0 ∷ []) (record { peer = somebody; came = came } ∷ []))
   undone came never log transfers =
       let done = transfers.done 0 ([], [], refl) in

@@ -1,25 +1,21 @@
 -- What was fetched of bytes that a source sent is what it showed throughout.
-use Rattle.std.proofs.Common.{◌≡◌, ℕ, Bool, ◌<◌, ◌≤◌, ◌^◌, List, [], ◌∷◌, ◌++◌, length, Option, Some, None, Ok, refl, sym, ap, ◌∙◌, subst, append_assoc, arith}
+use Rattle.std.proofs.Common.{◌≡◌, ℕ, Bool, ◌<◌, ◌≤◌, ◌^◌, List, [], ◌∷◌, ◌++◌, length, Some, Ok, sym, ap, ◌∙◌, subst, append_assoc, arith}
 use Rattle.std.proofs.lemmas.List.{append-nil}
-use Rattle.yp_io.specs.declared.stream.Peer.{Peer}
 use Rattle.yp_rpc.specs.Records.{sent}
 use Rattle.yp_messages.specs.Numbers.{name_max}
 use Rattle.yp_version.specs.Versions.{MapVersion}
-use Rattle.yp_board.specs.Catalogues.{Catalogue, Name}
+use Rattle.yp_board.specs.Catalogues.{Name}
 use Rattle.yp_board.specs.Logs.{Log}
-use Rattle.yp_client.specs.Asked.{order_call, master_call, all_call}
 use Rattle.yp_answer.specs.Served.{AreServed, maps_on}
-use Rattle.yp_answer.specs.Maps.{Maps, map_check}
-use Rattle.yp_answer.specs.declared.procedure.Path.TheVariants.{Stream}
-use Rattle.yp_answer.specs.Reply.{Response, Bytes, reply, reply_at_once}
+use Rattle.yp_answer.specs.Maps.{map_check}
+use Rattle.yp_answer.specs.Reply.{Response, Bytes, reply_at_once}
 use Rattle.yp_transfer.specs.Fetching.{Wanted}
 use Rattle.yp_transfer.specs.Fetched.{place_of, Fetched}
 use Rattle.yp_end_to_end.specs.exchange.Runs.{sent_all}
-use Rattle.yp_end_to_end.specs.transfer.Replies.{IsShown, unsecured}
 use Rattle.yp_end_to_end.specs.transfer.Turns.{fetch_calls}
 use Rattle.yp_end_to_end.specs.inside.exchange.Runs.{RepliesOn}
-use Rattle.yp_end_to_end.specs.inside.transfer.Replies.{Moments, AtEach, GivesFetch}
-use Rattle.yp_end_to_end.specs.inside.transfer.Laws.{Fronts, all_fronts, moments_on, FetchedIsShown}
+use Rattle.yp_end_to_end.specs.inside.transfer.Replies.{GivesFetch}
+use Rattle.yp_end_to_end.specs.inside.transfer.Laws.{moments_on, FetchedIsShown}
 use Rattle.yp_end_to_end.specs.inside.transfer.Turns.{TurnsGiveFetch}
 use Rattle.yp_headline.specs.Sources.{Source, ShowedThroughout}
 use Rattle.yp_headline.proofs.Runs.{front_self}

@@ -1,43 +1,34 @@
 -- Worlds that are right: a map that is made and then asked for, three installs, a source that changes, and a map that is
 -- fetched.
-use Rattle.std.proofs.Common.{◌≡◌, ◌⊎◌, ℕ, zero, suc, ◌<◌, ◌≤◌, Bool, true, false, cond, List, [], ◌∷◌, ◌++◌, length, map, Option, Some, None, Ok, refl, sym, ap, ◌∙◌, subst, arith, inl, inr, ⊎_elim, append_assoc}
-use Rattle.std.specs.Prelude.{◌==◌, fold}
+use Rattle.std.proofs.Common.{◌≡◌, ◌⊎◌, ℕ, zero, suc, Bool, true, false, cond, List, [], ◌∷◌, ◌++◌, map, Option, Some, None, refl, sym, ap, ◌∙◌, subst, arith, inl, inr, ⊎_elim, append_assoc}
+use Rattle.std.specs.Prelude.{◌==◌}
 use Rattle.std.specs.List.Sorted.{IsStrictlyIncreasing}
 use Rattle.std.proofs.lemmas.List.{append-nil}
 use Rattle.std.proofs.lemmas.List.Elements.{All-nil, All-cons}
 use Rattle.yp_io.specs.declared.stream.Peer.{Peer}
-use Rattle.yp_io.specs.Disk.{DiskState, IsImage, LeftIn}
-use Rattle.yp_io.specs.Peers.{own_host}
-use Rattle.yp_xdr.specs.Reading.{word_at, content_at, opaque_at, bool_at, one_of_at}
+use Rattle.yp_io.specs.Disk.{IsImage, LeftIn}
+use Rattle.yp_xdr.specs.Reading.{word_at, content_at, opaque_at}
 use Rattle.yp_xdr.specs.Spelling.{fixed, opaque}
 use Rattle.yp_rpc.specs.Records.{Fragments, IsShort, sent, sent_within}
-use Rattle.yp_rpc.specs.Reply.{words, reply_head}
-use Rattle.yp_rpc.specs.declared.reply.ReplyHead.TheVariants.{Success}
 use Rattle.yp_messages.specs.declared.transfer.XfrStat.TheVariants.{Succ}
 use Rattle.yp_version.specs.Versions.{MapVersion}
-use Rattle.yp_board.specs.Catalogues.{Catalogue}
 use Rattle.yp_board.specs.Logs.{Log, shown}
 use Rattle.yp_board.specs.Views.{IsFront}
-use Rattle.yp_texts.specs.declared.reading.Reading.TheVariants.{Rows}
 use Rattle.yp_answer.specs.declared.procedure.Path.TheVariants.{Stream}
-use Rattle.yp_answer.specs.declared.make.MakeJob.{MakeJob}
 use Rattle.yp_answer.specs.Numbers.{record_max}
 use Rattle.yp_answer.specs.Make.{job_of}
 use Rattle.yp_answer.specs.Served.{maps_on}
 use Rattle.yp_answer.specs.Reply.{Response, Bytes, Open, reply, make_reply}
 use Rattle.std.proofs.lemmas.Grind.{same_number_lists}
-use Rattle.yp_map_file.specs.Cells.{bytes_at, is_open, filler, entry, winner}
-use Rattle.yp_map_file.specs.Bodies.{head_at, row_at, body_at}
-use Rattle.yp_map_file.specs.Stands.{Stored, by_entry, by_winner, stands}
-use Rattle.yp_publisher.specs.Standing.{stands_for}
 use Rattle.yp_texts.specs.Builds.{order_after}
 use Rattle.yp_texts.specs.After.{other_master, last_order}
 use Rattle.yp_headline.specs.inside.Tried.{version_with, whole_file, synced, match_call, match_reply, first_log, own_map, own_caller, make_call, make_world, made_log, skewed_world, installing, all_log, twice_log}
-use Rattle.yp_headline.specs.World.{World, Connection, Given, Filed, MapFile, Dialed}
-use Rattle.yp_headline.specs.Publishing.{IsAmong, IsNew, IsBuilt, OfFile, StandsBy, StandsByFront}
+use Rattle.yp_headline.specs.Publishing.{IsAmong, IsBuilt, OfFile, StandsBy, StandsByFront}
 use Rattle.yp_headline.specs.Serving.{IsReply}
+use Rattle.yp_headline.specs.Storing.{stood_for}
 use Rattle.yp_headline.specs.Headline.{Replies, Crashes, Transfers}
 use Rattle.yp_headline.proofs.Runs.{front_self}
+use Rattle.yp_headline.proofs.Listing.{one_listed}
 use Rattle.yp_headline.proofs.Torn.{stands_first}
 use Rattle.yp_headline.proofs.Matched.{match_record}
 
@@ -63,7 +54,7 @@ unfolding word_at content_at opaque_at fixed opaque
 matched_on log peer order value is = rw is refl
 
 made : IsBuilt make_world 0 first_log (version_with 8 119)
-made = record { moment = 8; master = refl; of_own = refl; order = refl; rows = λ none. refl }
+made = record { moment = 8; master = refl; of_own = refl; order = refl; rows = λ none. one_listed (107 ∷ [], 119 ∷ []) }
 
 two : IsStrictlyIncreasing (7 ∷ 8 ∷ [])
 two zero within = omega arith
@@ -172,31 +163,31 @@ image_is : (bytes image : List ℕ) → IsImage (synced bytes) image → image �
 image_is bytes image is = same_number_lists image bytes (omega (arith, is.no_shorter, is.no_longer))
     (λ place within. is.others_stay place (omega (arith, within, is.no_shorter, is.no_longer)) refl)
 
-stands_as : (bytes image : List ℕ) (version : MapVersion) → stands bytes ≡ Stored version → IsImage (synced bytes) image
-    → stands image ≡ Stored version
-stands_as bytes image version stood is = ap stands (image_is bytes image is) ∙ stood
+pub stands_as : (bytes image : List ℕ) (version : MapVersion) → stood_for bytes ≡ Some (Some version) → IsImage (synced bytes) image
+    → stood_for image ≡ Some (Some version)
+stands_as bytes image version stood is = ap stood_for (image_is bytes image is) ∙ stood
 
-eighth : stands (whole_file 8 119) ≡ Stored (version_with 8 119)
-unfolding stands by_winner by_entry winner is_open filler entry bytes_at head_at row_at body_at word_at content_at opaque_at
+eighth : stood_for (whole_file 8 119) ≡ Some (Some (version_with 8 119))
+unfolding word_at content_at opaque_at
 eighth = refl
 
-ninth : stands (whole_file 9 119) ≡ Stored (version_with 9 119)
-unfolding stands by_winner by_entry winner is_open filler entry bytes_at head_at row_at body_at word_at content_at opaque_at
+ninth : stood_for (whole_file 9 119) ≡ Some (Some (version_with 9 119))
+unfolding word_at content_at opaque_at
 ninth = refl
 
-tenth : stands (whole_file 10 119) ≡ Stored (version_with 10 119)
-unfolding stands by_winner by_entry winner is_open filler entry bytes_at head_at row_at body_at word_at content_at opaque_at
+tenth : stood_for (whole_file 10 119) ≡ Some (Some (version_with 10 119))
+unfolding word_at content_at opaque_at
 tenth = refl
 
 next_made : (moment : ℕ) (log : Log) → other_master (109 ∷ []) (shown 0 log) ≡ None
     → order_after (last_order (shown 0 log)) moment ≡ Some moment → IsBuilt installing 0 log (version_with moment 119)
-next_made moment log own order = record { moment = moment; master = refl; of_own = own; order = order; rows = λ none. refl }
+next_made moment log own order = record { moment = moment; master = refl; of_own = own; order = order; rows = λ none. one_listed (107 ∷ [], 119 ∷ []) }
 
 by_front : (front later : Log) (image : List ℕ) (version : MapVersion) → IsFront first_log front → all_log ≡ front ++ later
-    → stands_for (shown 0 front) ≡ Stored version → stands image ≡ Stored version
+    → shown 0 front ≡ Some version → stood_for image ≡ Some (Some version)
     → StandsByFront installing 0 first_log all_log image
 by_front front later image version begins all shows is =
-    record { front = front; begins = begins; goes_on = (later, all); stands_by = inl (is ∙ sym shows) }
+    record { front = front; begins = begins; goes_on = (later, all); stands_by = inl (is ∙ ap (λ (o : Option MapVersion). Some o) (sym shows)) }
 
 install_moments : (number : ℕ) → OfFile number installing.stores (λ file. (image : List ℕ)
     → LeftIn file.moments image → IsImage file.first image ⊎ StandsByFront installing number first_log all_log image)
@@ -215,7 +206,7 @@ install_end zero = λ image is. inr (inl (stands_as (whole_file 10 119) image (v
 install_end (suc number) = tt
 
 install_stored : (number : ℕ) → IsAmong installing.done number → OfFile number installing.stores (λ file. (image : List ℕ)
-    → IsImage file.last image → stands image ≡ stands_for (shown number all_log))
+    → IsImage file.last image → stood_for image ≡ Some (shown number all_log))
 install_stored zero among = λ image is. stands_as (whole_file 10 119) image (version_with 10 119) tenth is
 install_stored (suc number) among = tt
 

@@ -1,16 +1,12 @@
 -- Worlds that are wrong: of each the headline is false.
-use Rattle.std.proofs.Common.{◌≡◌, ◌≢◌, ℕ, zero, suc, ◌<◌, ◌≤◌, ◌^◌, Bool, true, false, List, [], ◌∷◌, ◌++◌, length, map, take, Option, Some, None, refl, sym, ap, ◌∙◌, subst, arith, inl, inr, append_assoc}
+use Rattle.std.proofs.Common.{◌≡◌, ℕ, false, List, [], ◌∷◌, ◌++◌, length, map, take, Option, Some, None, refl, sym, ap, ◌∙◌, subst, arith, inl}
 use Rattle.std.specs.Prelude.{slice_index, unwrap_or}
-use Rattle.std.specs.List.{flat_map, AllByRecursion, All}
 use Rattle.std.proofs.lemmas.List.{append-nil}
 use Rattle.std.proofs.lemmas.List.Elements.{All-nil, All-cons}
 use Rattle.yp_io.specs.declared.stream.Peer.{Peer}
 use Rattle.yp_xdr.specs.Reading.{word_at, content_at, opaque_at}
 use Rattle.yp_rpc.specs.Records.{Fragments, Cut, IsRest, IsShort, sent, sent_within}
 use Rattle.yp_rpc.specs.inside.Laws.{CutIsOne}
-use Rattle.yp_rpc.specs.Reply.{words, reply_head}
-use Rattle.yp_rpc.specs.declared.reply.ReplyHead.TheVariants.{Success}
-use Rattle.yp_version.specs.Versions.{MapVersion}
 use Rattle.yp_board.specs.Catalogues.{Catalogue}
 use Rattle.yp_board.specs.Logs.{Log}
 use Rattle.yp_answer.specs.declared.procedure.Path.TheVariants.{Stream, Datagram as Mail}
@@ -19,10 +15,9 @@ use Rattle.yp_answer.specs.Served.{maps_on}
 use Rattle.yp_answer.specs.session.Runs.{sent_reply}
 use Rattle.yp_answer.specs.Reply.{Response, Bytes, reply}
 use Rattle.yp_headline.specs.inside.Tried.{null_call, null_reply, somebody, no_maps, one_connection, IsWrong, one_datagram}
-use Rattle.yp_headline.specs.World.{World, Connection, Given}
+use Rattle.yp_headline.specs.World.{Connection}
 use Rattle.yp_headline.specs.Serving.{Exchange, BeginsWith, sent_over, IsReply, AnswersInTurn, IsServed, AreSent}
 use Rattle.yp_headline.specs.Headline.{Replies}
-use Rattle.yp_texts.specs.Readings.{reading_of}
 
 -- ---- calls that ask for nothing
 

@@ -1,9 +1,9 @@
 -- What `xfr` does is what the headline says.
-use Rattle.std.proofs.Common.{◌≡◌, ◌⊎◌, ℕ, zero, suc, ◌≤◌, Bool, true, false, List, [], ◌∷◌, ◌++◌, length, map, Option, Some, None, Result, Ok, Err, refl, sym, ap, ◌∙◌, subst, inl, inr, ⊎_elim}
+use Rattle.std.proofs.Common.{◌≡◌, ℕ, ◌≤◌, Bool, true, false, List, [], ◌∷◌, ◌++◌, length, map, Option, Some, None, Result, Ok, Err, refl, sym, ap, ◌∙◌, subst, inl, inr, ⊎_elim}
 use Rattle.std.specs.Prelude.{IfSome, OnOk, slice_get, unwrap_or}
 use Rattle.std.proofs.lemmas.List.{append_cancel_left}
-use Rattle.yp_io.specs.Disk.{History, IsImage, LeftBetween, MayLeave, LeavesOnly}
-use Rattle.yp_io.specs.Dials.{Connected, Wires, Dialing}
+use Rattle.yp_io.specs.Disk.{History, LeftBetween, MayLeave, LeavesOnly}
+use Rattle.yp_io.specs.Dials.{Connected, Wires}
 use Rattle.yp_version.specs.Versions.{MapVersion}
 use Rattle.yp_map_file.specs.declared.fault.SlotFault.{SlotFault}
 use Rattle.yp_map_file.specs.declared.fault.SlotFault.TheVariants as slot
@@ -22,20 +22,19 @@ use Rattle.yp_end_to_end.specs.inside.transfer.Laws.{FetchedIsShown}
 use Rattle.yp_end_to_end.specs.inside.transfer.Turns.{TurnsGiveFetch}
 use Rattle.yp_command.specs.declared.office.office.Office.{Office}
 use Rattle.yp_command.specs.declared.office.status.Status.{Status}
-use Rattle.yp_command.specs.declared.office.status.Status.TheVariants.{Done, WriteFault, NoMemory, Damaged, DiskFault, Xfr}
+use Rattle.yp_command.specs.declared.office.status.Status.TheVariants.{Done, WriteFault, NoMemory, Damaged, DiskFault}
 use Rattle.yp_command.specs.office.Files.{Fails}
 use Rattle.yp_command.specs.office.Seeing.{Seeing, output, history}
 use Rattle.yp_command_maps.specs.Build.{TellsLine, tells_stored}
-use Rattle.yp_command_maps.specs.Xfr.{Job, FileVersion, IsFileVersion, wanted, marked, IsFetchedIn, IsBeforeOrFetched, StoresOutcome, TellsXfr, XfrTransfers, XfrDeclines, XfrDoes, dialing}
+use Rattle.yp_command_maps.specs.Xfr.{Job, FileVersion, wanted, marked, IsFetchedIn, IsBeforeOrFetched, StoresOutcome, TellsXfr, XfrTransfers, XfrDeclines, XfrDoes, dialing}
 use Rattle.yp_headline.specs.World.{World, Dialed}
 use Rattle.yp_headline.specs.Fetching.{Gives}
-use Rattle.yp_headline.specs.Publishing.{IsAmong, IsMarked, IsFetched, IsNew}
+use Rattle.yp_headline.specs.Publishing.{IsAmong, IsMarked, IsNew}
 use Rattle.yp_headline.specs.Sources.{Source, ShowedThroughout, Succeeded}
-use Rattle.yp_headline.specs.Headline.{Crashes, Transfers}
-use Rattle.yp_headline.specs.inside.Files.{dialed_of, file_world, file_log, file_log_with, done_where}
+use Rattle.yp_headline.specs.inside.Files.{dialed_of, file_world, file_log, file_log_with}
 use Rattle.yp_headline.specs.inside.Laws.{XfrHolds, FileHolds}
 use Rattle.yp_headline.proofs.Given.{fetched_gives}
-use Rattle.yp_headline.proofs.Dialing.{IsOpen, Came, WireFetched, fetched_over}
+use Rattle.yp_headline.proofs.Dialing.{fetched_over}
 use Rattle.yp_headline.proofs.Single.{IsLeft, left_crashes, stored_crashes, shown_with}
 use Rattle.yp_headline.proofs.Sourced.{showed}
 
@@ -91,7 +90,7 @@ nothing_behind (one ∷ front) number back is = cc
 nothing_among : (number : ℕ) → IsAmong [] number → ⊥
 nothing_among number among = nothing_behind among.0 number among.1 among.2
 
-only_done : (number : ℕ) → IsAmong (0 ∷ []) number → number ≡ 0
+pub only_done : (number : ℕ) → IsAmong (0 ∷ []) number → number ≡ 0
 only_done number ([], back, is) = cc
 only_done number (one ∷ front, back, is) =
     let rest : [] ≡ front ++ number ∷ back = cc in absurd (nothing_behind front number back rest)

@@ -8,7 +8,8 @@ use Rattle.yp_board.specs.Catalogues.{Name}
 use Rattle.yp_answer.specs.declared.procedure.Path.{Path}
 use Rattle.yp_answer.specs.declared.procedure.Procedure.{Procedure}
 use Rattle.yp_answer.specs.declared.procedure.Procedure.TheVariants.{Null, Domain, DomainNonack, Match, First, Next}
-use Rattle.yp_answer.specs.declared.procedure.Procedure.TheVariants.{Xfr, Clear, Master, Order, Maplist, Make, MakeNamed}
+use Rattle.yp_answer.specs.declared.procedure.Procedure.TheVariants.{Xfr, Clear, Master, Order, Maplist}
+use Rattle.yp_answer.specs.declared.procedure.Procedure.TheVariants.{Make, MakeNamed}
 use Rattle.yp_answer.specs.Procedures.{all_on}
 use Rattle.yp_answer.specs.Maps.{Maps}
 use Rattle.yp_answer.specs.Reply.{Response, judged_reply}
@@ -24,7 +25,8 @@ yp_procedure path number =
 
 abbrev pub make_program_procedure : ℕ → Option Procedure
 make_program_procedure number =
-    if number == 0 then Some Null else (if number == 1 then Some Make else (if number == 2 then Some MakeNamed else None))
+    if number == 0 then Some Null else (if number == 1 then Some Make
+    else (if number == 2 then Some MakeNamed else None))
 
 -- the programs with their versions
 abbrev pub programs : Path → ProgramTable Procedure

@@ -1,15 +1,15 @@
 -- What came of a server that was asked for a map: ORDER, MASTER, ALL and again ORDER (ypxfr).
-use Rattle.std.specs.Prelude.{◌≡◌, ◌⊎◌, ℕ, ℤ, pos, true, false, List, [], ◌∷◌, ◌++◌, Ok}
+use Rattle.std.specs.Prelude.{◌≡◌, ◌⊎◌, ℕ, pos, true, false, List, [], ◌∷◌, ◌++◌, Ok}
 use Rattle.yp_xdr.specs.Kind.{Kind, U32, I32, Boolean, Opaque, Sequence, Value}
 use Rattle.yp_xdr.specs.Reading.{Remaining, reading}
 use Rattle.yp_rpc.specs.Call.{auth_kind}
 use Rattle.yp_rpc.specs.Records.{Fragments}
 use Rattle.yp_messages.specs.Numbers.{key_max, value_max}
 use Rattle.yp_messages.specs.Messages.{name}
-use Rattle.yp_version.specs.Rows.{Row, listed}
-use Rattle.yp_version.specs.Versions.{MapVersion, unmarked}
-use Rattle.yp_version.specs.Drafts.{empty_draft, with_rows}
+use Rattle.yp_version.specs.Rows.{Row}
+use Rattle.yp_version.specs.Versions.{MapVersion}
 use Rattle.yp_client.specs.Limits.{reply_max, all_max}
+use Rattle.yp_headline.specs.Listing.{AreListed}
 
 -- the number of the call, 1 for a reply, 0 where it is accepted, any verifier, and 0 for SUCCESS (RFC 5531 section 9)
 abbrev pub head_kind : Kind
@@ -64,15 +64,14 @@ pub record Replied (limit : ℕ) (P : List ℕ → Type 0) (bytes others : List 
 -- Bytes give a version: its order, its master, its rows, the first of each key, and again its order, in replies to the
 -- calls 1 to 4.
 pub record Gives (bytes : List ℕ) (version : MapVersion) : Type 0 where
-  pub order : ℕ
-  pub master : List ℕ
   pub rows : List Row
   pub second : List ℕ
   pub third : List ℕ
   pub fourth : List ℕ
   pub rest : List ℕ
-  pub says_order : Replied reply_max (Says 1 U32 order) bytes second
-  pub says_master : Replied reply_max (Says 2 name master) second third
+  pub says_order : Replied reply_max (Says 1 U32 version.order) bytes second
+  pub says_master : Replied reply_max (Says 2 name version.master) second third
   pub says_rows : Replied all_max (SaysRows 3 rows) third fourth
-  pub says_again : Replied reply_max (Says 4 U32 order) fourth rest
-  pub is : version ≡ unmarked order master (listed (with_rows (empty_draft order master) rows).rows)
+  pub says_again : Replied reply_max (Says 4 U32 version.order) fourth rest
+  pub not_secure : version.secure ≡ false
+  pub listed : AreListed rows version.rows

@@ -1,15 +1,14 @@
 -- The headline: what the whole program does, over the bytes that go in and out.
-use Rattle.std.specs.Prelude.{◌≡◌, ◌⊎◌, ℕ, List}
+use Rattle.std.specs.Prelude.{◌≡◌, ◌⊎◌, ℕ, List, Some}
 use Rattle.std.specs.List.{AllByRecursion}
 use Rattle.yp_io.specs.Disk.{IsImage, LeftIn}
-use Rattle.yp_map_file.specs.Stands.{stands}
 use Rattle.yp_board.specs.Logs.{Log, shown}
-use Rattle.yp_publisher.specs.Standing.{stands_for}
 use Rattle.yp_publisher.specs.Rising.{IsRisingLog}
 use Rattle.yp_headline.specs.World.{World}
 use Rattle.yp_headline.specs.Serving.{IsServed, AreServed}
 use Rattle.yp_headline.specs.Publishing.{IsAmong, IsPublishedLog, OfFile, StandsBy, StandsByFront}
 use Rattle.yp_headline.specs.Sources.{Succeeded}
+use Rattle.yp_headline.specs.Storing.{stood_for}
 
 -- Replies. There is one log of published versions, in which the orders of each map rise. Each connection was answered
 -- in turn on fronts of it that never go back, from what there was at first; and so were the datagrams.
@@ -30,7 +29,7 @@ pub record Crashes (world : World) (begun log : Log) : Type 0 where
   pub at_end : (number : ℕ) → OfFile number world.stores (λ file. (image : List ℕ) → IsImage file.last image
       → IsImage file.first image ⊎ StandsBy world number log image)
   pub stored : (number : ℕ) → IsAmong world.done number → OfFile number world.stores (λ file. (image : List ℕ)
-      → IsImage file.last image → stands image ≡ stands_for (shown number log))
+      → IsImage file.last image → stood_for image ≡ Some (shown number log))
 
 -- Transfers. Each that was told as done is of a map whose version a server that was dialed gave: the log shows it.
 -- Where what came begins with what a source sent whose own log rises, it is the version that the source showed

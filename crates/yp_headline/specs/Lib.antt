@@ -3,6 +3,9 @@ pub mod World
 pub mod Serving
 pub mod Answering
 pub mod Publishing
+pub mod Storing
+pub mod Texts
+pub mod Listing
 pub mod Fetching
 pub mod Sources
 pub mod inside

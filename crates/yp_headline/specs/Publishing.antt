@@ -1,25 +1,20 @@
 -- The log of published versions, and what of them a crash leaves.
-use Rattle.std.specs.Prelude.{◌≡◌, ◌⊎◌, ℕ, ◌+◌, Bool, false, List, [], ◌∷◌, ◌++◌, Option, Some, None, slice_get}
+use Rattle.std.specs.Prelude.{◌≡◌, ◌⊎◌, ℕ, List, ◌∷◌, ◌++◌, Option, Some, None, slice_get}
 use Rattle.std.specs.Prelude.{IfSome, ⊤}
 use Rattle.std.specs.List.{AllZip}
-use Rattle.yp_io.specs.Disk.{DiskState, IsImage, LeftIn}
-use Rattle.yp_version.specs.Rows.{listed}
 use Rattle.yp_version.specs.Versions.{MapVersion}
-use Rattle.yp_version.specs.Drafts.{empty_draft, with_rows}
-use Rattle.yp_map_file.specs.Stands.{Stored, stands}
-use Rattle.yp_board.specs.Catalogues.{Catalogue}
 use Rattle.yp_board.specs.Logs.{Log, shown, starts}
 use Rattle.yp_board.specs.Views.{IsFront}
-use Rattle.yp_publisher.specs.Standing.{stands_for}
 use Rattle.yp_publisher.specs.Grown.{AreMade}
 use Rattle.yp_texts.specs.Builds.{order_after}
 use Rattle.yp_texts.specs.After.{other_master, last_order}
-use Rattle.yp_texts.specs.Pushes.{plain}
-use Rattle.yp_texts.specs.Rows.{rows}
 use Rattle.yp_texts.specs.Readings.{source_of}
 use Rattle.yp_answer.specs.Make.{map_name, field_named}
 use Rattle.yp_headline.specs.World.{World, MapFile, Store, Given, Filed, Dialed}
+use Rattle.yp_headline.specs.Texts.{text_rows}
+use Rattle.yp_headline.specs.Listing.{AreListed}
 use Rattle.yp_headline.specs.Fetching.{Gives}
+use Rattle.yp_headline.specs.Storing.{stood_for}
 
 -- ---- versions that are new
 
@@ -42,8 +37,7 @@ pub record IsBuilt (world : World) (number : ℕ) (log : Log) (version : MapVers
   pub rows : field_named (map_name number world.catalogue) ≡ None
       → IfSome (world.text (source_of (world.reading (map_name number world.catalogue))
       (map_name number world.catalogue)))
-      (λ text. version.rows ≡ listed (with_rows (empty_draft version.order version.master)
-      (plain (rows (world.reading (map_name number world.catalogue)) text))).rows)
+      (λ text. AreListed (text_rows (world.reading (map_name number world.catalogue)) text) version.rows)
 
 -- A version was fetched: a server that was dialed gave it.
 pub record IsFetched (world : World) (version : MapVersion) : Type 0 where
@@ -62,7 +56,7 @@ IsNew world number log version = IsBuilt world number log version ⊎ IsFetched 
 -- A store has this version, or none, at first.
 abbrev pub StoreHas : Store → Option MapVersion → Type 0
 StoreHas (Given version) first = first ≡ Some version
-StoreHas (Filed file) first = stands file.first.reads ≡ stands_for first
+StoreHas (Filed file) first = stood_for file.first.reads ≡ Some first
 
 -- A log was published: it begins with what the stores have, and each version behind that was new.
 pub record IsPublishedLog (world : World) (begun log : Log) : Type 0 where
@@ -86,8 +80,8 @@ OfFile number stores P = IfSome (slice_get stores number) (OfStore P)
 -- These bytes stand for what a log shows of a map, or for a version that is new behind it.
 abbrev pub StandsBy : World → ℕ → Log → List ℕ → Type 0
 StandsBy world number log image =
-    (stands image ≡ stands_for (shown number log))
-    ⊎ ((version : MapVersion) × IsNew world number log version × (stands image ≡ Stored version))
+    (stood_for image ≡ Some (shown number log))
+    ⊎ ((version : MapVersion) × IsNew world number log version × (stood_for image ≡ Some (Some version)))
 
 -- They do by a front of the log that begins with what there was at first.
 pub record StandsByFront (world : World) (number : ℕ) (begun log : Log) (image : List ℕ) : Type 0 where

@@ -1,5 +1,5 @@
 -- How what came is answered: on fronts of one log, which never go back.
-use Rattle.std.specs.Prelude.{◌≡◌, ℕ, Bool, false, List, [], ◌∷◌, ◌++◌, map, flat_map, Option, Some, None, ⊤}
+use Rattle.std.specs.Prelude.{◌≡◌, ℕ, false, List, [], ◌∷◌, ◌++◌, flat_map, Option, Some, None, ⊤}
 use Rattle.std.specs.List.{AllByRecursion}
 use Rattle.yp_io.specs.declared.stream.Peer.{Peer}
 use Rattle.yp_rpc.specs.Records.{Fragments, IsRest}

@@ -21,8 +21,8 @@ use Rattle.yp_headline.specs.Publishing.{IsAmong, IsMarked}
 abbrev pub Answers : Catalogue → Peer → Log → (call bytes : List ℕ) → Type 0
 Answers catalogue caller front call bytes = answer Stream (maps_on catalogue front) caller call ≡ Bytes bytes
 
--- a source whose log rises: the four calls of a fetch, ORDER, MASTER, ALL and ORDER, were answered on fronts of it, each of which begins the next, and
--- the replies are what came, with nothing before them. The names are within their limits.
+-- a source whose log rises: the calls of a fetch, ORDER, MASTER, ALL and ORDER, were answered on fronts of it, each of
+-- which begins the next, and the replies are what came, with nothing before them. The names are within their limits.
 pub record Source (name : Name) (came : List ℕ) : Type 0 where
   pub names : (length name.0 ≤ name_max) × (length name.1 ≤ name_max)
   pub catalogue : Catalogue

@@ -37,14 +37,9 @@ pub record Dialed : Type 0 where
   pub peer : Peer
   pub came : List ℕ
 
--- a datagram that was posted
-pub record Posted : Type 0 where
-  pub peer : Peer
-  pub bytes : List ℕ
-
 -- the own name with the names of the maps, and the store of each; the texts by their names, where they are told, and
--- how that of a map is read; the connections and datagrams that were served; what came of servers that were dialed; the
--- datagrams that tell callers how transfers went; and the maps whose transfer was told as done
+-- how that of a map is read; the connections and datagrams that were served; what came of servers that were dialed; and
+-- the maps whose transfer was told as done
 pub record World : Type 0 where
   pub catalogue : Catalogue
   pub stores : List Store
@@ -53,5 +48,4 @@ pub record World : Type 0 where
   pub connections : List Connection
   pub datagrams : List Datagram
   pub dialed : List Dialed
-  pub posted : List Posted
   pub done : List ℕ

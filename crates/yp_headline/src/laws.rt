@@ -3,11 +3,17 @@
 
 ghost use Rattle.yp_command.specs.office.Seeing.{seeing};
 ghost use Rattle.yp_headline.specs.inside.Running.{RunHolds};
+ghost use Rattle.yp_headline.specs.inside.Words.{WordsAreSame};
 ghost use Rattle.yp_headline.specs.inside.Server.{ServeHolds};
 ghost use Rattle.yp_headline.specs.inside.Laws.{OnceReplies, SessionHolds, XfrHolds, JobHolds, RevnetHolds};
 
 use yp_end_to_end::transfer::laws::{fetched_is_shown, turns_give_fetch};
 use yp_io::{Clock, Dial, Disk, Inbox, Sink, Source, Texts};
+
+/// The words that the headline has of its own are those of other crates.
+pub fn words_are_same()
+    ensures { WordsAreSame }
+{}
 
 /// What `once` does is what the headline says of replies.
 pub fn once_replies<S: Source, K: Sink, D: Disk, C: Clock, A: Dial, I: Inbox, T: Texts>()

@@ -1,7 +1,9 @@
 //! Worlds by which the headline is tried. Each table is the contract of a function that does nothing.
 
-ghost use Rattle.yp_headline.specs.inside.Tried.{RepliesAreFalse, CrashesAreFalse, TransfersAreFalse, HoldsOfRows};
+ghost use Rattle.yp_headline.specs.inside.Tried.{RepliesAreFalse, HoldsOfRows};
+ghost use Rattle.yp_headline.specs.inside.TriedFiles.{CrashesAreFalse, TransfersAreFalse, HoldsOfTransfer};
 
+use yp_end_to_end::transfer::laws::{fetched_is_shown, turns_give_fetch};
 use yp_rpc::laws::{cut_is_one, first_is_one};
 
 /// Worlds of connections and datagrams of which the headline is false.
@@ -27,3 +29,11 @@ pub fn transfers_are_false()
 pub fn holds_of_rows()
     ensures { HoldsOfRows }
 {}
+
+/// A world of a transfer that is told as done, of which it is true.
+pub fn holds_of_transfer()
+    ensures { HoldsOfTransfer }
+{
+    turns_give_fetch();
+    fetched_is_shown();
+}

@@ -1,6 +1,6 @@
 -- The world of a command over one file.
 use Rattle.std.specs.Prelude.{ℕ, ◌-◌, suc, Bool, true, false, List, []}
-use Rattle.std.specs.Prelude.{◌∷◌, ◌++◌, map, take, Option, Some, None, unwrap_or}
+use Rattle.std.specs.Prelude.{◌∷◌, ◌++◌, map, take, Option, Some, unwrap_or}
 use Rattle.yp_io.specs.Disk.{History, states, moment}
 use Rattle.yp_io.specs.Dials.{Connected}
 use Rattle.yp_version.specs.Versions.{MapVersion, unmarked}
@@ -58,7 +58,6 @@ file_world own name text reading wires stored old new = record {
   connections = [];
   datagrams = [];
   dialed = map dialed_of wires;
-  posted = [];
   done = done_where stored;
 }
 

@@ -1,5 +1,5 @@
 -- Worlds by which the headline is tried: of right ones it is true, and of wrong ones false.
-use Rattle.std.specs.Prelude.{ℕ, Bool, true, false, List, [], ◌∷◌, ◌++◌, Option, Some, None, take}
+use Rattle.std.specs.Prelude.{ℕ, Bool, false, List, [], ◌∷◌, ◌++◌, Option, Some, None, take}
 use Rattle.yp_io.specs.declared.stream.Peer.{Peer}
 use Rattle.yp_io.specs.Disk.{DiskState}
 use Rattle.yp_io.specs.Peers.{own_host}
@@ -40,7 +40,6 @@ one_connection came sent cut = record {
   connections = record { peer = somebody; came = came; sent = sent; cut = cut } ∷ [];
   datagrams = [];
   dialed = [];
-  posted = [];
   done = [];
 }
 
@@ -57,14 +56,16 @@ one_datagram answer = record {
   connections = [];
   datagrams = record { peer = somebody; came = null_call 7; sent = answer; lost = false } ∷ [];
   dialed = [];
-  posted = [];
   done = [];
 }
 
--- a cell with an open gate, of generation 1, whose body is 36 bytes behind the cells
+-- a cell with an open gate, of generation 1, whose body is behind the cells and has this length
+abbrev pub cell_of : ℕ → List ℕ
+cell_of len = 1 ∷ 0 ∷ 0 ∷ 0 ∷ 0 ∷ 0 ∷ 0 ∷ 0 ∷ 0 ∷ 0 ∷ 0 ∷ 0 ∷ 0 ∷ 0 ∷ 0 ∷ 1 ∷ 0 ∷ 0 ∷ 0 ∷ 0 ∷ 0 ∷ 0 ∷ 0 ∷ 64
+    ∷ 0 ∷ 0 ∷ 0 ∷ 0 ∷ 0 ∷ 0 ∷ 0 ∷ len ∷ []
+
 abbrev pub open_cell : List ℕ
-open_cell = 1 ∷ 0 ∷ 0 ∷ 0 ∷ 0 ∷ 0 ∷ 0 ∷ 0 ∷ 0 ∷ 0 ∷ 0 ∷ 0 ∷ 0 ∷ 0 ∷ 0 ∷ 1 ∷ 0 ∷ 0 ∷ 0 ∷ 0 ∷ 0 ∷ 0 ∷ 0 ∷ 64
-    ∷ 0 ∷ 0 ∷ 0 ∷ 0 ∷ 0 ∷ 0 ∷ 0 ∷ 36 ∷ []
+open_cell = cell_of 36
 
 abbrev pub shut_cell : List ℕ
 shut_cell = 0 ∷ 0 ∷ 0 ∷ 0 ∷ 0 ∷ 0 ∷ 0 ∷ 0 ∷ 0 ∷ 0 ∷ 0 ∷ 0 ∷ 0 ∷ 0 ∷ 0 ∷ 0 ∷ 0 ∷ 0 ∷ 0 ∷ 0 ∷ 0 ∷ 0 ∷ 0 ∷ 0
@@ -104,7 +105,6 @@ one_file first middle last done dialed = record {
   connections = [];
   datagrams = [];
   dialed = dialed;
-  posted = [];
   done = done;
 }
 
@@ -137,7 +137,6 @@ one_match sent_back = record {
   connections = record { peer = somebody; came = sent match_call; sent = sent_back; cut = false } ∷ [];
   datagrams = [];
   dialed = [];
-  posted = [];
   done = [];
 }
 
@@ -177,7 +176,6 @@ make_world = record {
   } ∷ [];
   datagrams = [];
   dialed = [];
-  posted = [];
   done = [];
 }
 
@@ -198,7 +196,6 @@ skewed_world came = record {
   connections = [];
   datagrams = [];
   dialed = record { peer = own_caller; came = came } ∷ [];
-  posted = [];
   done = [];
 }
 
@@ -216,7 +213,6 @@ installing = record {
   connections = [];
   datagrams = [];
   dialed = [];
-  posted = [];
   done = 0 ∷ [];
 }
 
@@ -266,7 +262,6 @@ transfer_world = record {
   } ∷ [];
   datagrams = [];
   dialed = record { peer = somebody; came = fetched_bytes } ∷ [];
-  posted = [];
   done = [];
 }
 
@@ -289,29 +284,6 @@ pub record RepliesAreFalse : Type 0 where
   pub mail_of_another : IsWrong (one_datagram (Some (null_reply 8)))
   pub never_shown : IsWrong (one_match (sent (match_reply 119)))
   pub answered_as_null : IsWrong (one_match (sent (reply_head 7 Success)))
-
--- Files: one that is damaged at the end, or at a moment; a version that is gone at the end, or at a moment; and one
--- that nobody made or sent.
-pub record CrashesAreFalse : Type 0 where
-  pub torn_at_end : IsTornWorld (one_file [] [] torn_file [] [])
-  pub torn_meanwhile : IsTornWorld (one_file [] torn_file [] [] [])
-  pub lost_at_end : IsTornWorld (one_file (whole_file 7 118) [] [] [] [])
-  pub lost_meanwhile : IsTornWorld (one_file (whole_file 7 118) [] (whole_file 7 118) [] [])
-  pub from_nowhere : IsTornWorld (one_file (whole_file 7 118) (whole_file 7 118) (whole_file 9 119) [] [])
-
--- one file that was empty, and a server that gave these bytes
-abbrev pub transfer_of : List ℕ → World
-transfer_of came = one_file [] [] (whole_file 7 118) (0 ∷ []) (record { peer = somebody; came = came } ∷ [])
-
--- Transfers that are told as done: of no server; and of one that gave nothing, its order alone, no rows, or another
--- order at last.
-pub record TransfersAreFalse : Type 0 where
-  pub of_no_server : IsWrongTransfer (one_file [] [] (whole_file 7 118) (0 ∷ []) [])
-  pub gave_nothing : IsWrongTransfer (transfer_of [])
-  pub gave_order : IsWrongTransfer (transfer_of (sent (order_reply 1 9)))
-  pub gave_no_rows : IsWrongTransfer (transfer_of (sent (order_reply 1 9) ++ sent (master_reply 2)))
-  pub gave_skewed : IsWrongTransfer (transfer_of
-      (sent (order_reply 1 9) ++ (sent (master_reply 2) ++ (sent (all_reply 3) ++ sent (order_reply 4 10)))))
 
 -- ---- the table of the right ones
 

@@ -35,7 +35,6 @@ once_world store rows status came sent = record {
   connections = connection_of nobody status came sent ∷ [];
   datagrams = [];
   dialed = [];
-  posted = [];
   done = [];
 }
 
@@ -53,7 +52,6 @@ session_world service cut old new came sent wires = record {
   connections = record { peer = service.peer; came = came; sent = sent; cut = cut } ∷ [];
   datagrams = [];
   dialed = map dialed_of wires;
-  posted = [];
   done = [];
 }
 

@@ -1,5 +1,6 @@
 use Rattle.yp_headline.proofs.Torn as torn
 use Rattle.yp_headline.proofs.Lost as lost
+use Rattle.yp_headline.proofs.Spoiled as spoiled
 use Rattle.yp_headline.proofs.worlds.crashes_are_false.Goals as goal
 
 pub returns : goal.returns
@@ -9,4 +10,10 @@ returns c = record {
   lost_at_end = lost.lost_at_end;
   lost_meanwhile = lost.lost_meanwhile;
   from_nowhere = lost.from_nowhere;
+  cut_at_end = spoiled.cut_at_end;
+  torn_body = spoiled.torn_body;
+  older_at_end = spoiled.older_at_end;
+  of_no_text = spoiled.of_no_text;
+  of_another_map = spoiled.of_another_map;
+  told_too_early = spoiled.told_too_early;
 }

@@ -1,5 +1,6 @@
 use Rattle.yp_headline.proofs.Torn.{of_no_server}
 use Rattle.yp_headline.proofs.Skewed as skewed
+use Rattle.yp_headline.proofs.Mixed as mixed
 use Rattle.yp_headline.proofs.worlds.transfers_are_false.Goals as goal
 
 pub returns : goal.returns
@@ -11,4 +12,11 @@ returns c =
       gave_order = skewed.gave_order one;
       gave_no_rows = skewed.gave_no_rows one;
       gave_skewed = skewed.gave_skewed one;
+      gave_refusal = mixed.gave_refusal one;
+      of_another_call = mixed.of_another_call one;
+      stored_nothing = mixed.stored_nothing one;
+      stored_another_row = mixed.stored_another_row one;
+      stored_another_order = mixed.stored_another_order one;
+      row_missing = mixed.row_missing one;
+      row_added = mixed.row_added one;
     }
