@@ -7,8 +7,9 @@ mod outside;
 mod row;
 mod stage;
 
+pub use outside::Memory;
 pub use row::{After, Datagram, DiskCalls, FAIR, NEVER, QUIET, Row, Stands, Words};
 pub use stage::{
-    Wrong, strings_of, try_alone, try_crash, try_disk, try_made, try_reads, try_row, try_stops,
-    try_writes,
+    SetUp, Wrong, set_up, strings_of, try_alone, try_crash, try_disk, try_ended, try_made,
+    try_reads, try_row, try_stops, try_writes,
 };

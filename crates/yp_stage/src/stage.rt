@@ -1,5 +1,9 @@
 //! Rows that are tried.
 
+ghost use Rattle.std.specs.Prelude.{◌≡◌, IfOk};
+ghost use Rattle.yp_command.specs.Words.{disk_names, texts};
+ghost use Rattle.yp_command.specs.office.Disks.{names_of};
+
 use crate::ended::{Ended, ended_of, stands_of, wanted_of};
 use crate::outside::{Memory, bytes_of, memory_of};
 use crate::row::{After, DiskCalls, FAIR, Row, Stands};
@@ -143,6 +147,43 @@ fn compare(alloc: Global, came: &Ended, wanted: &Ended) -> Result<(), Wrong> {
     }
     let text = format!(in alloc; "{came}came, not\n{wanted}")?;
     Err(Wrong::Came(text))
+}
+
+/// What a row finds outside: its words, and all that the program reaches.
+#[derive(Drop)]
+pub struct SetUp {
+    pub words: Vec<String>,
+    pub outside: Memory,
+}
+
+/// Sets a row up for a run that isn't [`run`] itself.
+pub fn set_up<R: Threads + Wait + RandomSource + Clock + Sync>(
+    alloc: Global,
+    rt: &R,
+    row: &Row,
+) -> Result<SetUp, AllocError>
+    ensures { IfOk result (λ it. names_of it.outside.disks.items ≡ disk_names (texts it.words.items)) }
+{
+    let words = strings_of(alloc, row.words)?;
+    let input = joined(alloc, row.input, row.text)?;
+    let file = bytes_of(alloc, row.file)?;
+    let wire = wire_of(alloc, rt, row)?;
+    let outside = memory_of(alloc, row, &words, &input, &file, &wire)?;
+    Ok(SetUp { words, outside })
+}
+
+/// Compares what came of a row that was set up.
+pub fn try_ended(
+    alloc: Global,
+    rt: &impl RandomSource,
+    row: &Row,
+    status: &Status,
+    outside: &Memory,
+) -> Result<(), Wrong> {
+    let output = joined(alloc, row.replies, row.output)?;
+    let wanted = wanted_of(alloc, row, &output)?;
+    let ended = ended_of(alloc, rt, row, status, outside)?;
+    compare(alloc, &ended, &wanted)
 }
 
 /// Runs a row over this file, and compares what came of it. The files are those that a crash may leave then.

@@ -1,0 +1,5 @@
+//! Whole runs over memory of which the headline is told.
+#![tactic(auto)]
+
+#[cfg(test)]
+mod told;
