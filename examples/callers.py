@@ -3,10 +3,10 @@
 
 The server, of its own, has eight workers and a map of 20,000 rows. It is held, one after the other, by IDLE callers, or
 5,000, who bring nothing; who bring half a call; who were answered and stay; by 64 who bring a byte of a call each
-second; and by UNREAD, or 1,000, who ask for the whole map and don't read it. While they stay, MATCH is asked twenty
-times, each time over a new connection, and twenty times in a datagram. It prints the longest that each waited for its
-reply, and the memory of the server, and ends with status 1 where a reply is wrong, or took longer than 0.2 seconds, or
-the server has more than 300 MiB. It isn't part of the gate.
+second; by UNREAD, or 1,000, who ask for the whole map and don't read it; and by one who has a map of 262,144 rows made.
+Meanwhile MATCH is asked twenty times, each time over a new connection, and twenty times in a datagram. It prints the
+longest that each waited for its reply, and the memory of the server, and ends with status 1 where a reply is wrong, or
+took longer than 0.2 seconds, or the server has more than 300 MiB. It isn't part of the gate.
 """
 
 import os
@@ -23,6 +23,7 @@ import server
 
 WORKERS = 8
 ROWS = 20_000
+MOST_ROWS = 262_144
 ASKED = 20
 LONGEST = 0.2  # seconds
 MEMORY = 300 * 1024  # KiB
@@ -31,18 +32,18 @@ SPARE = 200  # descriptors beside those of the callers
 KEY, VALUE = b"host00007", b"10.0.0.7 host00007"
 
 
-def write_text(room):
-    """The text of the map."""
-    os.mkdir(os.path.join(room, "ypsrc"))
+def write_text(room, rows):
+    """The text of the maps."""
+    os.makedirs(os.path.join(room, "ypsrc"), exist_ok=True)
     with open(os.path.join(room, "ypsrc", "hosts"), "w", encoding="ascii") as file:
-        for number in range(ROWS):
+        for number in range(rows):
             file.write(f"10.{number >> 16}.{number >> 8 & 255}.{number & 255} host{number:05}\n")
 
 
-def make_map(running):
-    """Has the server make its map."""
+def make_map(running, name):
+    """Has the server make a map."""
     with running.connect(60) as connection, connection.makefile("rb") as stream:
-        connection.sendall(rpc.record(server.make_call(7, b"hosts.byname")))
+        connection.sendall(rpc.record(server.make_call(7, name)))
         reply = rpc.read_message(stream)
     if reply is None or not reply.endswith(rpc.word(1)):
         raise RuntimeError(f"the map isn't made: {reply}")
@@ -151,6 +152,18 @@ def held_so(running, name, count, given, is_read=False, room=None, drips=False):
     return is_well
 
 
+def made_beside(running, room):
+    """Has a map of as many rows made as there may be, and looks until it is."""
+    write_text(room, MOST_ROWS)
+    maker = threading.Thread(target=make_map, args=(running, b"hosts.byaddr"))
+    maker.start()
+    is_well = True
+    while maker.is_alive():
+        is_well = look(running, f"while a map of {MOST_ROWS:,} rows is made") and is_well
+    maker.join()
+    return is_well
+
+
 def main(idle=5000, unread=1000):
     idle, unread = int(idle), int(unread)
     limit = max(idle, unread) + SPARE
@@ -158,10 +171,10 @@ def main(idle=5000, unread=1000):
     server.build()
     call = rpc.record(server.match_call(8, KEY))
     with tempfile.TemporaryDirectory() as room:
-        write_text(room)
+        write_text(room, ROWS)
         running = server.Server(room, server.free_port(), WORKERS)
         try:
-            make_map(running)
+            make_map(running, b"hosts.byname")
             wells = [
                 look(running, "nobody"),
                 held_so(running, "who bring nothing", idle, b""),
@@ -171,6 +184,7 @@ def main(idle=5000, unread=1000):
                 held_so(running, "who don't read a map of 20,000 rows", unread,
                     rpc.record(server.all_call(8, b"hosts.byname")), room=4096),
                 look(running, "nobody"),
+                made_beside(running, room),
             ]
             is_running = running.is_running()
         finally:

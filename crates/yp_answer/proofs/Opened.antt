@@ -33,7 +33,7 @@ IsAsked maps peer (Open xid job) = (domain : List ℕ) × (map : Option (List �
 IsAsked maps peer (Takes bytes taken) = (asked : XfrRequest) × (map : ℕ) × (xfr_check maps asked ≡ Ok map) × (taken ≡ taken_for asked map)
 IsAsked maps peer _ = ⊥
 
-open_is_special : (xid : ℕ) (job : MakeJob) → IsSpecial (Open xid job)
+pub open_is_special : (xid : ℕ) (job : MakeJob) → IsSpecial (Open xid job)
 open_is_special xid job = record { no_bytes = λ bytes e. absurd cc; no_silence = λ e. absurd cc }
 
 takes_is_special : (bytes : List ℕ) (taken : Taken) → IsSpecial (Takes bytes taken)

@@ -6,3 +6,4 @@ pub mod Sessions
 pub mod Cutting
 pub mod Putting
 pub mod Talking
+pub mod Making

@@ -120,7 +120,7 @@ pub fn answer_order<V: View>(
         Err(stat) => RespOrder { stat, ordernum: 0 },
         Ok(held) => RespOrder {
             stat: YpStat::True,
-            ordernum: held.version.order(),
+            ordernum: held.version.order().number(),
         },
     };
     let at = put_head(buf, caller.xid, &ReplyHead::Success);

@@ -10,6 +10,7 @@ mod buffers;
 mod conversation;
 mod errand;
 mod host;
+mod makes;
 mod open;
 mod put;
 mod send;

@@ -5,7 +5,7 @@ use crate::sample::*;
 use std::alloc::Global;
 use std::process::Abort;
 use std::random::RandomSource;
-use yp_version::{Version, VersionBuilder};
+use yp_version::{Order, Version, VersionBuilder};
 
 // The whole reply to a call where the map has this version, and its pieces.
 fn reply_on(rt: &impl Abort, alloc: Global, version: Version, call: &[u8]) -> Streamed {
@@ -100,7 +100,7 @@ fn push_items(rt: &impl Abort, alloc: Global, builder: &mut VersionBuilder, item
 
 // A version of order 100 of the master `m1`, with these rows.
 pub fn version_with<R: RandomSource + Abort>(rt: &R, alloc: Global, items: &[Item]) -> Version {
-    let mut builder = VersionBuilder::new(alloc, rt, 100, b"m1").expect(rt, "a builder");
+    let mut builder = VersionBuilder::new(alloc, rt, Order(100), b"m1").expect(rt, "a builder");
     push_items(rt, alloc, &mut builder, items);
     builder.finish().expect(rt, "a version")
 }

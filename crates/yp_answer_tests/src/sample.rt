@@ -16,7 +16,7 @@ use yp_answer::*;
 use yp_board::{Catalog, MapName, PlainBoard};
 use yp_io::Peer;
 use yp_rpc::DATAGRAM_MAX;
-use yp_version::{Version, VersionBuilder};
+use yp_version::{Order, Version, VersionBuilder};
 
 // ---- words
 
@@ -113,7 +113,7 @@ pub fn version_of<R: RandomSource + Abort>(
 ) -> Version
     requires { length master.now ≤ master_max }
 {
-    let mut builder = VersionBuilder::new(alloc, rt, order, master).expect(rt, "a builder");
+    let mut builder = VersionBuilder::new(alloc, rt, Order(order), master).expect(rt, "a builder");
     push_rows(rt, &mut builder, rows);
     builder.finish().expect(rt, "a version")
 }

@@ -109,6 +109,23 @@ pub trait Tell: Show {
         ensures one { IsFront (kept one) (kept result) }
         ensures other { IsFront (kept other) (kept result) };
 
+    /// What a reader knew at a moment, with the versions that it had, for another reader.
+    type Knowledge: Drop;
+
+    /// The log that it is.
+    ghost knows: { Self.Knowledge → Log };
+
+    /// What a reader knows, for another one. It takes no memory, and is refused where the versions have too many owners.
+    fn knowledge(reader: &Self::Reader) -> Result<Self::Knowledge, NoMemory>
+        ensures { IfOk result (λ knowledge. knows knowledge ≡ (Self.Reader.seen reader.now).known) };
+
+    /// Lets a reader know what another one knew. It waits for nobody, and makes no read step.
+    fn teach(reader: &mut Self::Reader, knowledge: Self::Knowledge)
+        ensures known { IsFront (knows knowledge) (Self.Reader.seen reader.new).known }
+        ensures grown { IsFront (Self.Reader.seen reader.old).known (Self.Reader.seen reader.new).known }
+        ensures same { Self.Reader.seen reader.new
+            ≡ record (Self.Reader.seen reader.old) { known = (Self.Reader.seen reader.new).known } };
+
     /// What was known is a front of all that was shown. The call changes nothing: its contract is the fact.
     fn covers(&mut self, front: &Self::Front)
         ensures front { IsFront (kept front.now) (Self.log self.old) }

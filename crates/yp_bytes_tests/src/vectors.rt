@@ -7,7 +7,7 @@ use crate::given::{assert_same, bytes};
 use std::alloc::Global;
 use std::process::Abort;
 use yp_client::read_found;
-use yp_io::{MemSink, MemSource};
+use yp_memory::{MemSink, MemSource};
 use yp_messages::protocol::{FIRST, YPPROG, YPVERS};
 use yp_messages::{Message, ReqNokey};
 use yp_rpc::{RecordReader, RecordWriter, write_call};

@@ -15,6 +15,7 @@ use std::alloc::Global;
 use yp_messages::protocol::{KEY_MAX, NAME_MAX, VALUE_MAX};
 use yp_messages::{MapList, MapListFault, ReadMessage, RespMake, RespXfr, XfrStat, YpStat};
 use yp_rpc::{ReplyHead, read_reply_at};
+use yp_version::Order;
 use yp_xdr::Cursor;
 
 /// A row of a map, as it stands in a reply.
@@ -160,23 +161,23 @@ pub fn read_found(message: &[u8], xid: u32) -> Result<Row<'_>, ClientFault>
 pub struct OrderResult;
 
 impl ProcedureResult for OrderResult {
-    type Value = u32;
+    type Value = Order;
 
     ghost answers = { SaysNumber order_of };
 
-    fn judge(&self, _alloc: Global, message: &[u8], xid: u32) -> Result<u32, ClientFault> {
+    fn judge(&self, _alloc: Global, message: &[u8], xid: u32) -> Result<Order, ClientFault> {
         read_order(message, xid)
     }
 }
 
 /// Reads the result of ORDER from the whole reply to the call with this number.
-pub fn read_order(message: &[u8], xid: u32) -> Result<u32, ClientFault>
+pub fn read_order(message: &[u8], xid: u32) -> Result<Order, ClientFault>
     ensures says { SaysNumber order_of xid message.now result }
     ensures of_reply { IsOfReply result }
 {
     let mut cursor = read_results(message, xid)?;
     read_true(&mut cursor)?;
-    Ok(cursor.u32()?)
+    Ok(Order(cursor.u32()?))
 }
 
 /// The result of MAPLIST.

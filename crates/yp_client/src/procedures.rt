@@ -33,6 +33,7 @@ use yp_messages::protocol::{
     ORDER, XFR, YPPROG, YPVERS,
 };
 use yp_messages::{MapList, Message, ReqDomain, ReqKey, ReqMake, ReqNokey, ReqXfr, XfrStat};
+use yp_version::Order;
 
 /// No arguments.
 struct NoArguments;
@@ -165,7 +166,7 @@ impl<S: Source, K: Sink> Client<S, K> {
     }
 
     /// ORDER: the order number of a map.
-    pub fn order(&mut self, domain: &[u8], map: &[u8]) -> Result<u32, ClientFault>
+    pub fn order(&mut self, domain: &[u8], map: &[u8]) -> Result<Order, ClientFault>
         requires domain { length domain.now ≤ name_max }
         requires map { length map.now ≤ name_max }
         ensures { Calls reply_max (order_call domain.now map.now) (SaysNumber order_of) result

@@ -2,7 +2,7 @@
 
 ghost use Rattle.std.specs.Prelude.{◌<◌};
 
-use crate::given::{assert_same, bytes};
+use crate::given::{assert_same, bytes, number};
 use crate::lent::{MemClient, assert_sent, builder, client, with_builder};
 use std::alloc::Global;
 use std::process::Abort;
@@ -114,7 +114,7 @@ const GOES_ON: Result<u32, ClientFault> = Ok(7);
 const SPENT: Result<u32, ClientFault> = Err(ClientFault::Spent);
 
 fn fetch_and_order(client: &mut MemClient, into: &mut VersionBuilder) -> FetchedAndOrder {
-    (fetch(client, into), client.order(b"d", b"m"))
+    (fetch(client, into), number(client.order(b"d", b"m")))
 }
 
 // The rows of a version where the key `k` came again: its first value stands.

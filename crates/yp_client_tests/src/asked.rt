@@ -10,7 +10,8 @@ use std::process::Abort;
 use std::random::RandomSource;
 use yp_client::Question;
 use yp_client::query::QueryFault;
-use yp_io::{MemDial, MemSink, MemSource, Pair, Peer};
+use yp_io::{Pair, Peer};
+use yp_memory::{MemDial, MemSink, MemSource};
 
 /// Who is asked.
 pub const SERVER: Peer = Peer {

@@ -1,11 +1,12 @@
 //! Calls and replies written out by hand, from RFC 5531 and yp.x.
 
-use crate::given::{assert_same, bytes};
+use crate::given::{assert_same, bytes, number};
 use crate::lent::{MemClient, assert_sent, client_over};
 use std::alloc::Global;
 use std::process::Abort;
 use yp_client::{ClientFault, Row};
-use yp_io::{MemSink, MemSource, Pair};
+use yp_io::Pair;
+use yp_memory::{MemSink, MemSource};
 use yp_messages::{MapList, ReqXfr, XfrStat, YpStat};
 use yp_rpc::ReplyHead;
 
@@ -60,7 +61,7 @@ fn order_and_master(rt: HostRuntime) {
     let mut client = fair_client(&rt, alloc, &[replies], u32::MAX);
     assert_same(
         &rt,
-        &client.order(b"lab", b"hosts.byname"),
+        &number(client.order(b"lab", b"hosts.byname")),
         &Ok(100),
         "ORDER",
     );
@@ -193,7 +194,10 @@ static REFUSALS: [Refusal; 13] = [
 
 // The answers to ORDER, twice.
 fn orders(client: &mut MemClient) -> [Result<u32, ClientFault>; 2] {
-    [client.order(b"d", b"m"), client.order(b"d", b"m")]
+    [
+        number(client.order(b"d", b"m")),
+        number(client.order(b"d", b"m")),
+    ]
 }
 
 fn try_refusal<R: Abort>(rt: &R, alloc: Global, refusal: &Refusal) {

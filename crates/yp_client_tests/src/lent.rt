@@ -7,8 +7,9 @@ use std::alloc::Global;
 use std::process::Abort;
 use std::random::RandomSource;
 use yp_client::Client;
-use yp_io::{MemSink, MemSource, MemWire, Pair};
-use yp_version::VersionBuilder;
+use yp_io::Pair;
+use yp_memory::{MemSink, MemSource, MemWire};
+use yp_version::{Order, VersionBuilder};
 
 /// A client over a wire in memory.
 pub type MemClient = Client<MemSource, MemSink>;
@@ -31,7 +32,7 @@ pub fn client<R: Abort>(rt: &R, alloc: Global, input: Vec<u8>, piece: usize) -> 
 
 /// A builder of order 7 of the master `m1`.
 pub fn builder<R: RandomSource + Abort>(rt: &R, alloc: Global) -> VersionBuilder {
-    VersionBuilder::new(alloc, rt, 7, b"m1").expect(rt, "a builder")
+    VersionBuilder::new(alloc, rt, Order(7), b"m1").expect(rt, "a builder")
 }
 
 /// Lends a client over a wire with this input, and a builder.

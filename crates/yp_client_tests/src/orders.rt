@@ -8,7 +8,8 @@ use std::process::Abort;
 use yp_client::ClientFault;
 use yp_client::orders::compare_orders;
 use yp_client::query::QueryFault;
-use yp_io::{MemDial, MemSink, MemSource, Pair, Peer};
+use yp_io::{Pair, Peer};
+use yp_memory::{MemDial, MemSink, MemSource};
 use yp_messages::YpStat;
 use yp_rpc::ReplyHead;
 

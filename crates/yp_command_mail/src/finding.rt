@@ -17,7 +17,7 @@ use yp_command::office::{NamedDisk, Status, status_of_file};
 use yp_command::{is_ypservers, ypservers_of};
 use yp_io::Disk;
 use yp_map_file::{Slot, SlotFault};
-use yp_version::Version;
+use yp_version::{Order, Version};
 
 /// What was loaded of the two files.
 #[derive(Drop)]
@@ -32,7 +32,7 @@ pub struct LoadedFiles {
 #[derive(Drop)]
 pub struct Found {
     /// The order of the map's version.
-    pub order: u32,
+    pub order: Order,
     /// The version of the map of servers.
     pub servers: Version,
 }

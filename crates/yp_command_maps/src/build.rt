@@ -44,7 +44,7 @@ use yp_io::{
 use yp_map_file::SlotFault;
 use yp_publisher::{InstallFault, Installed, OpenFault, Origin, Publisher, open_publisher};
 use yp_texts::{AfterFault, BuildFault, Kind, Reading, build_after};
-use yp_version::Version;
+use yp_version::{Order, Version};
 
 /// What is to be built.
 #[derive(Drop)]
@@ -62,7 +62,7 @@ pub(crate) struct BuildJob {
 /// What was built and stored.
 #[derive(Clone, Copy, Drop)]
 pub(crate) struct Built {
-    pub order: u32,
+    pub order: Order,
     pub rows: usize,
     pub generation: u64,
 }
@@ -92,7 +92,7 @@ fn line(store: &MapName, built: &Built) -> Line
     let mut line = Line::new();
     add_map(&mut line, store);
     add(&mut line, b" order ");
-    add_number(&mut line, u64::from(built.order));
+    add_number(&mut line, u64::from(built.order.number()));
     add(&mut line, b" rows ");
     add_number(&mut line, built.rows as u64);
     add(&mut line, b" generation ");

@@ -27,7 +27,7 @@ fn line(store: &MapName, generation: u64, version: &Version) -> Line
     let mut line = Line::new();
     add_map(&mut line, store);
     add(&mut line, b" order ");
-    add_number(&mut line, u64::from(version.order()));
+    add_number(&mut line, u64::from(version.order().number()));
     add(&mut line, b" master ");
     add(&mut line, version.master());
     add(&mut line, b" rows ");

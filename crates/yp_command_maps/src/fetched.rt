@@ -22,7 +22,7 @@ use yp_io::Disk;
 use yp_map_file::SlotFault;
 use yp_publisher::{Installed, OpenFault, Publisher, open_publisher};
 use yp_transfer::{XfrFault, install_fetched};
-use yp_version::Version;
+use yp_version::{Order, Version};
 
 /// The file of the only map wasn't loaded. Its disk is handed back, and nothing was written.
 #[derive(Debug, Drop)]
@@ -67,7 +67,7 @@ pub fn open_only<D: Disk>(
 }
 
 /// The order of the version that a publisher shows of its only map, if it shows one.
-pub fn shown_order<D: Disk>(publisher: &Publisher<D, PlainBoard>) -> Option<u32>
+pub fn shown_order<D: Disk>(publisher: &Publisher<D, PlainBoard>) -> Option<Order>
     requires { length publisher.now.maps ≡ 1 }
     ensures { result ≡ option_map (λ version. version.order) (shown 0 publisher.now.board.known) }
 {

@@ -34,7 +34,7 @@ use yp_io::{Clock, Dial, Disk, Failed, Inbox, Sink, Source, Texts};
 use yp_map_file::Slot;
 use yp_netgroup::reverse::{Field, RevFault, reverse};
 use yp_texts::{next_order, other_master};
-use yp_version::Version;
+use yp_version::{Order, Version};
 
 /// The part of a triple by which a map has netgroups.
 fn field_of(map: &[u8]) -> Field
@@ -48,7 +48,12 @@ fn field_of(map: &[u8]) -> Field
 }
 
 /// The order of a version behind the last one, whose master has to be the own name.
-fn order_behind(alloc: Global, name: &[u8], last: Option<&Version>, now: u32) -> Result<u32, Status>
+fn order_behind(
+    alloc: Global,
+    name: &[u8],
+    last: Option<&Version>,
+    now: u32,
+) -> Result<Order, Status>
     ensures order { IfOk result (HasNextOrder name.now now (last_view last.entry)) }
     ensures unmade { IfErr result (λ status. (field : Field) (rows : List Row)
         → IsUnmade name.now field now (last_view last.entry) rows status) }

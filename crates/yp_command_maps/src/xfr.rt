@@ -60,7 +60,7 @@ fn line(store: &MapName, installed: &Installed) -> Line
     let mut line = Line::new();
     add_map(&mut line, store);
     add(&mut line, b" order ");
-    add_number(&mut line, u64::from(installed.order));
+    add_number(&mut line, u64::from(installed.order.number()));
     add(&mut line, b" generation ");
     add_number(&mut line, installed.generation);
     add(&mut line, b"\n");

@@ -30,7 +30,7 @@ use yp_command::KeyValue;
 use yp_command::office::{Office, Status, status_of_row};
 use yp_io::{Clock, Dial, Disk, Inbox, NoMemory, Pair, Peer, Sink, Source, Texts};
 use yp_rpc::laws;
-use yp_version::{Version, VersionBuilder, VersionFault};
+use yp_version::{Order, Version, VersionBuilder, VersionFault};
 
 /// The caller that is answered: nobody's address, and port 0.
 pub const NOBODY: Peer = Peer {
@@ -88,7 +88,7 @@ pub fn version_of(
     ensures cause { IfErr result (λ status.
         (status ≡ Status.NoMemory) ⊎ IsRows (rows_fault (map row_view rows.now)) status) }
 {
-    let Ok(mut builder) = VersionBuilder::new(alloc, rt, ORDER, ONCE) else {
+    let Ok(mut builder) = VersionBuilder::new(alloc, rt, Order(ORDER), ONCE) else {
         return Err(Status::NoMemory);
     };
     if let Err(refused) = push_rows(&mut builder, rows) {

@@ -8,7 +8,7 @@ use std::random::RandomSource;
 use std::sync::Wait;
 use std::thread::Threads;
 use std::time::Clock;
-use yp_io::{MemDial, MemDisk, MemInbox, MemSink, MemSource, MemTexts, SetClock};
+use yp_memory::{MemDial, MemDisk, MemInbox, MemSink, MemSource, MemTexts, SetClock};
 use yp_program::laws;
 use yp_stage::{FAIR, Row, try_reads, try_row, try_writes};
 

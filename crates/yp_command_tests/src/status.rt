@@ -8,7 +8,7 @@ use crate::given::assert_same;
 use std::alloc::Global;
 use std::process::Abort;
 use yp_board::MapName;
-use yp_io::MemSink;
+use yp_memory::MemSink;
 use yp_messages::YpStat;
 use yp_program::{Status, tell};
 use yp_transfer::XfrFault;

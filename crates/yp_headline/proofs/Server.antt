@@ -1,17 +1,14 @@
 -- The connections of a server are served.
-use Rattle.std.proofs.Common.{◌≡◌, ◌⊎◌, ℕ, zero, suc, ◌<◌, Bool, true, false, List, [], ◌∷◌, ◌++◌, length, map, Option, Some, None, refl, sym, ap, ◌∙◌, subst, arith, inl, inr, ⊎_elim, append_assoc}
-use Rattle.std.specs.Prelude.{slice_index_or, Contains, IfSome}
+use Rattle.std.proofs.Common.{◌≡◌, ℕ, suc, Bool, true, false, List, [], ◌∷◌, ◌++◌, Option, Some, None, refl, sym, ap, ◌∙◌, subst, arith, inl, inr, ⊎_elim, append_assoc}
+use Rattle.std.specs.Prelude.{Contains}
 use Rattle.std.specs.List.{All, AllByRecursion, AllZip, flat_map}
-use Rattle.std.specs.Io.KnownBytes.{Appends, Consumes, IsAtEnd, append_known}
+use Rattle.std.specs.Io.KnownBytes.{Appends, IsAtEnd, append_known}
 use Rattle.std.proofs.lemmas.List.{append-nil}
-use Rattle.std.proofs.lemmas.Bool.{cases_Bool}
 use Rattle.yp_io.specs.declared.stream.Peer.{Peer}
 use Rattle.yp_io.specs.Calls.{ClosedConnection, ListenerHistory}
-use Rattle.yp_rpc.specs.Records.{Fragments, IsRest, IsTorn, IsTooLong, IsLong}
+use Rattle.yp_rpc.specs.Records.{IsRest, IsTorn, IsLong}
 use Rattle.yp_board.specs.Catalogues.{Catalogue}
 use Rattle.yp_board.specs.Logs.{Log}
-use Rattle.yp_board.specs.Views.{IsFront}
-use Rattle.yp_answer.specs.declared.procedure.Path.TheVariants.{Stream}
 use Rattle.yp_answer.specs.Numbers.{record_max}
 use Rattle.yp_answer.specs.declared.session.session.End.{End}
 use Rattle.yp_answer.specs.declared.session.session.End.TheVariants as ends
@@ -24,11 +21,10 @@ use Rattle.yp_worker.specs.Working.{deeds_of}
 use Rattle.yp_worker.specs.Receptions.{Terms}
 use Rattle.yp_worker.specs.Summing.{Counting, ServedConnection, WorkerRun, IsWorkerRun, WasServed, IsOver, ends_of}
 use Rattle.yp_headline.specs.World.{Connection}
-use Rattle.yp_headline.specs.Serving.{Exchange, BeginsWith, AnswersInTurn, sent_over, IsServed}
-use Rattle.yp_headline.specs.inside.Files.{is_cut}
+use Rattle.yp_headline.specs.Serving.{BeginsWith, sent_over, IsServed}
 use Rattle.yp_headline.specs.inside.Server.{IsToldClosed, IsOfClosed, ConnectionsAreServed}
-use Rattle.yp_headline.proofs.Runs.{exchange_of, exchanges_of, all_callers, taken, ended, grown}
-use Rattle.yp_headline.proofs.Steps.{earlier, steps_answer, of_steps}
+use Rattle.yp_headline.proofs.Runs.{exchanges_of, all_callers, taken, ended}
+use Rattle.yp_headline.proofs.Steps.{of_steps, had_answered}
 
 -- ---- the bytes of a conversation
 
@@ -155,20 +151,17 @@ record Made (catalogue : Catalogue) (begun log : Log) (closed : ClosedConnection
 module _ {H T : Type 0} (conduct : Conduct H) (counting : Counting H T) (terms : Terms) (past : Option ListenerHistory)
     (log : Log) where
   made : (run : WorkerRun H) (is : IsWorkerRun conduct counting terms past log run) (stay : ServedConnection)
-      → Contains run.stays stay → WasServed past terms.most run.steps stay → IsToldClosed stay.ended
+      → Contains run.stays stay → WasServed conduct counting terms past run.steps stay → IsToldClosed stay.ended
       → Made terms.catalogue terms.starts log stay.ended
   made run is stay among was told =
       let peer = stay.ended.came.peer in
-      let deeds = deeds_of stay.number run.steps in
+      let deeds = was.earlier ++ deeds_of stay.number run.steps in
       let input = was.whole ∙ told.input in
       let untaken = was.untaken ∙ told.untaken in
       let output : was.cut.wire.sink.output ≡ Some told.sent =
       ap (λ (c : ClosedConnection). c.wire.output) (sym was.ended) ∙ told.output in
       let parts = parts_of peer was.before deeds was.cut told.came told.sent input untaken output was.is_cut in
       let close = closing peer was.before deeds was.cut told.came told.sent was.is_cut parts terms.most stay.let_go was.over in
-      let answered = steps_answer conduct counting.counted stay.number peer run.steps run.first.host run.last.host log is.takes
-      (of_steps conduct counting.counted run.stays is.apart stay among run.steps is.owned) is.front in
-      let first_known = (conduct.seen run.first.host).known in
       record {
         connection = record { peer = peer; came = told.came; sent = told.sent; cut = close.cut };
         of_closed = record { peer = refl; input = told.input; output = told.output };
@@ -177,9 +170,9 @@ module _ {H T : Type 0} (conduct : Conduct H) (counting : Counting H T) (terms :
           callers = all_callers peer (turns_of deeds);
           rest = close.rest;
           came = close.begins;
-          answered = earlier terms.catalogue Stream (exchanges_of peer (turns_of deeds)) terms.starts first_known log is.under.knows
-              (subst (λ (c : Catalogue). AnswersInTurn c Stream (exchanges_of peer (turns_of deeds)) first_known log) is.under.catalogue
-              answered);
+          answered = had_answered conduct counting terms stay.number peer was.earlier run.first.host run.last.host log
+              is.under.catalogue is.front run.steps is.under.knows is.takes
+              (of_steps conduct counting.counted run.stays run.left is.apart stay among run.steps is.owned) was.began;
           unsent = close.missing;
           sent = close.all;
           whole = close.whole;
@@ -215,7 +208,7 @@ module _ {H T : Type 0} (conduct : Conduct H) (counting : Counting H T) (terms :
   ToldAll closed = AllByRecursion IsToldClosed closed
 
   of_worker : (run : WorkerRun H) (is : IsWorkerRun conduct counting terms past log run) (stays : List ServedConnection)
-      → ((stay : ServedConnection) → Contains stays stay → Contains run.stays stay) → All (WasServed past terms.most run.steps) stays
+      → ((stay : ServedConnection) → Contains stays stay → Contains run.stays stay) → All (WasServed conduct counting terms past run.steps) stays
       → ToldAll (ends_of stays) → ConnectionsAreServed terms.catalogue terms.starts log (ends_of stays)
   of_worker run is [] among served told = record { connections = []; are = tt; served = tt }
   of_worker run is (stay ∷ stays) among served told = add stay.ended (ends_of stays)

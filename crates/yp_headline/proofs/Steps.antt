@@ -1,36 +1,26 @@
 -- What a worker does in the conversation of one connection is that its records are answered in turn.
-use Rattle.std.proofs.Common.{◌≡◌, ◌≢◌, ◌⊎◌, ℕ, zero, suc, ◌+◌, ◌<◌, Bool, true, false, cond, List, [], ◌∷◌, ◌++◌, length, map, Option, Some, None, refl, sym, ap, ◌∙◌, subst, arith, inl, inr, ⊎_elim, append_assoc, eqb}
-use Rattle.std.specs.Prelude.{◌==◌, slice_index_or, Contains}
-use Rattle.std.specs.List.{All, flat_map}
-use Rattle.std.specs.Io.KnownBytes.{Appends, Consumes, IsAtEnd, append_known}
-use Rattle.std.proofs.lemmas.List.{append-nil}
-use Rattle.std.proofs.lemmas.Bool.{cases_Bool}
+use Rattle.std.proofs.Common.{◌≡◌, ◌≢◌, ℕ, zero, suc, ◌<◌, Bool, true, false, cond, List, [], ◌∷◌, ◌++◌, length, map, refl, sym, ap, ◌∙◌, subst, arith, inl, inr, append_assoc, eqb}
+use Rattle.std.specs.Prelude.{slice_index_or, Contains}
+use Rattle.std.specs.List.{All}
 use Rattle.std.proofs.lemmas.Bool.Decides.{eqb_tells}
 use Rattle.yp_io.specs.declared.stream.Peer.{Peer}
-use Rattle.yp_rpc.specs.Records.{Fragments, IsRest, IsTorn, IsTooLong, IsLong}
 use Rattle.yp_board.specs.Catalogues.{Catalogue}
 use Rattle.yp_board.specs.Logs.{Log}
-use Rattle.yp_board.specs.Views.{Seen, IsFront, Refreshes}
+use Rattle.yp_board.specs.Views.{Seen, IsFront}
 use Rattle.yp_answer.specs.declared.procedure.Path.{Path}
 use Rattle.yp_answer.specs.declared.procedure.Path.TheVariants.{Stream}
-use Rattle.yp_answer.specs.Numbers.{record_max}
 use Rattle.yp_answer.specs.Answers.{StepsWhere}
-use Rattle.yp_answer.specs.Maps.{Maps, maps_of}
+use Rattle.yp_answer.specs.Maps.{maps_of}
 use Rattle.yp_answer.specs.Served.{maps_on}
 use Rattle.yp_answer.specs.Transfer.{Taken}
 use Rattle.yp_answer.specs.Reply.{Response, Silence, Bytes, Takes, Open, reply, asks}
-use Rattle.yp_answer.specs.declared.session.session.End.{End}
-use Rattle.yp_answer.specs.declared.session.session.End.TheVariants as ends
 use Rattle.yp_answer.specs.session.Hosts.{Conduct, Turn, Link, Carries, CarriesWhere}
-use Rattle.yp_answer.specs.session.Wires.{Wire}
-use Rattle.yp_answer.specs.session.Runs.{sent_reply}
-use Rattle.yp_answer.specs.session.Cuts.{Deed, Answered, Carried, Read, turns_of, DoesDeed, Cut, AreFramed, messages_of, IsCut, EndsSo, written}
-use Rattle.yp_answer.specs.session.Cuts as cuts
-use Rattle.yp_worker.specs.Working.{WorkerStep, Learned, Did, deeds_of, TakesStep, TakesSteps}
-use Rattle.yp_worker.specs.Summing.{ServedConnection, AreApart, IsStepOf, IsOver}
-use Rattle.yp_headline.specs.Serving.{Exchange, IsReply, AnswersInTurn, BeginsWith, sent_over}
-use Rattle.yp_headline.specs.inside.Files.{is_cut}
-use Rattle.yp_headline.proofs.Runs.{exchange_of, exchanges_of, succeeded, front_self, taken, ended}
+use Rattle.yp_answer.specs.session.Cuts.{Deed, Answered, Carried, Read, turns_of, DoesDeed}
+use Rattle.yp_worker.specs.Working.{WorkerStep, Learned, TookOver, Did, IsDoneWith, deeds_of, TakesStep, TakesSteps}
+use Rattle.yp_worker.specs.Receptions.{Terms}
+use Rattle.yp_worker.specs.Summing.{Counting, ServedConnection, LeftConnection, AreApart, numbers_of, IsStepOf, HadBefore, WasTakenOver}
+use Rattle.yp_headline.specs.Serving.{Exchange, IsReply, AnswersInTurn}
+use Rattle.yp_headline.proofs.Runs.{exchanges_of, succeeded, front_self, taken}
 
 pub front_then : (a b c : Log) → IsFront a b → IsFront b c → IsFront a c
 front_then a b c first second =
@@ -42,6 +32,21 @@ pub earlier : (catalogue : Catalogue) (path : Path) (exchanges : List Exchange) 
 earlier catalogue path [] less known log front answered = front_then less known log front answered
 earlier catalogue path (one ∷ more) less known log front answered =
     (answered.0, answered.1, front_then less known answered.0 front answered.2, answered.3, answered.4, answered.5)
+
+-- what is answered in turn, and then more on what was shown by then
+pub joined : (catalogue : Catalogue) (path : Path) (exchanges others : List Exchange) (known middle later log : Log)
+    → AnswersInTurn catalogue path exchanges known middle → IsFront middle later
+    → AnswersInTurn catalogue path others later log → AnswersInTurn catalogue path (exchanges ++ others) known log
+joined catalogue path [] others known middle later log answered front more =
+    earlier catalogue path others known later log (front_then known middle later answered front) more
+joined catalogue path (one ∷ exchanges) others known middle later log answered front more = (
+  answered.0,
+  answered.1,
+  answered.2,
+  answered.3,
+  answered.4,
+  joined catalogue path exchanges others answered.1 middle later log answered.5 front more,
+)
 
 -- ---- one record
 
@@ -140,6 +145,7 @@ module _ {H : Type 0} (conduct : Conduct H) where
     -- the steps of one conversation are all with one peer
     abbrev pub HasPeer : ℕ → Peer → WorkerStep → Type 0
     HasPeer number peer Learned = Unit {0}
+    HasPeer number peer (TookOver one seen) = Unit {0}
     HasPeer number peer (Did one other deed) = eqb one number ≡ true → other ≡ peer
 
     abbrev pub HavePeer : ℕ → Peer → List WorkerStep → Type 0
@@ -195,9 +201,58 @@ module _ {H : Type 0} (conduct : Conduct H) where
     steps_answer number peer (Learned ∷ steps) first last log takes owned front =
         before_others (exchanges_in number peer steps) first takes.0 log (told_on first takes.0 takes.1)
         (steps_answer number peer steps takes.0 last log takes.2 owned.1 front)
+    steps_answer number peer (TookOver one seen ∷ steps) first last log takes owned front =
+        before_others (exchanges_in number peer steps) first takes.0 log (told_on first takes.0 takes.1.0)
+        (steps_answer number peer steps takes.0 last log takes.2 owned.1 front)
     steps_answer number peer (Did one other deed ∷ steps) first last log takes owned front =
         before_did (eqb one number) number peer other deed (deeds_of number steps) first takes.0 log owned.0 takes.1
         (steps_answer number peer steps takes.0 last log takes.2 owned.1 front)
+
+    -- ---- a conversation that was taken over
+
+    step_on : (step : WorkerStep) (old new : H) → TakesStep conduct counted step old new → GoesOn old new
+    step_on Learned old new takes = told_on old new takes
+    step_on (TookOver number seen) old new takes = told_on old new takes.0
+    step_on (Did number peer deed) old new takes = deed_on peer deed old new takes
+
+    -- what is done behind a conversation's taking over is answered on more than was known of it
+    behind_answer : (number : ℕ) (peer : Peer) (one : ℕ) (seen : Log) (before behind : List WorkerStep) (first last : H) (log : Log)
+        → TakesSteps conduct counted (before ++ TookOver one seen ∷ behind) first last
+        → HavePeer number peer (before ++ TookOver one seen ∷ behind) → IsFront (known last) log
+        → AnswersInTurn (catalogue_of first) Stream (exchanges_in number peer behind) seen log
+    behind_answer number peer one seen [] behind first last log takes owned front =
+        let mid = takes.0 in
+        earlier (catalogue_of first) Stream (exchanges_in number peer behind) seen (known mid) log takes.1.1
+        (subst (λ (c : Catalogue). AnswersInTurn c Stream (exchanges_in number peer behind) (known mid) log)
+        (told_on first mid takes.1.0).catalogue
+        (steps_answer number peer behind mid last log takes.2 owned.1 front))
+    behind_answer number peer one seen (step ∷ before) behind first last log takes owned front =
+        subst (λ (c : Catalogue). AnswersInTurn c Stream (exchanges_in number peer behind) seen log)
+        (step_on step first takes.0 takes.1).catalogue
+        (behind_answer number peer one seen before behind takes.0 last log takes.2 owned.1 front)
+
+-- the deeds of steps and of more steps
+kept_in_front : (b : Bool) (deed : Deed) (all front back : List Deed) → all ≡ front ++ back
+    → cond b (deed ∷ all) all ≡ cond b (deed ∷ front) front ++ back
+kept_in_front true deed all front back is = ap (λ (l : List Deed). deed ∷ l) is
+kept_in_front false deed all front back is = is
+
+deeds_over : (number : ℕ) (before behind : List WorkerStep)
+    → deeds_of number (before ++ behind) ≡ deeds_of number before ++ deeds_of number behind
+deeds_over number [] behind = refl
+deeds_over number (Learned ∷ before) behind = deeds_over number before behind
+deeds_over number (TookOver one seen ∷ before) behind = deeds_over number before behind
+deeds_over number (Did one peer deed ∷ before) behind =
+    kept_in_front (eqb one number) deed (deeds_of number (before ++ behind)) (deeds_of number before) (deeds_of number behind)
+    (deeds_over number before behind)
+
+exchanges_over : (peer : Peer) (front back : List Deed)
+    → exchanges_of peer (turns_of (front ++ back)) ≡ exchanges_of peer (turns_of front) ++ exchanges_of peer (turns_of back)
+exchanges_over peer [] back = refl
+exchanges_over peer (Answered turn ∷ front) back =
+    ap (λ (l : List Exchange). exchanges_of peer (turn ∷ []) ++ l) (exchanges_over peer front back)
+exchanges_over peer (Carried taken wire ∷ front) back = exchanges_over peer front back
+exchanges_over peer (Read wire ∷ front) back = exchanges_over peer front back
 
 -- ---- whose steps they are
 
@@ -207,32 +262,140 @@ same_number a b is = elim (eqb_tells a b) [
   | inr differ ↦ absurd (let e : false ≡ true = sym differ.0 ∙ is in cc)
 ]
 
-one_stay : (stays : List ServedConnection) (a b : ServedConnection) → AreApart stays → (j k : ℕ) → j < length stays
+-- a number that all of these differ from isn't among those of connections that were closed, nor of those that were left
+not_closed : (stays : List ServedConnection) (others : List ℕ) (a : ServedConnection) (number j : ℕ) → j < length stays
+    → slice_index_or stays j a ≡ a → All (λ other. other ≢ number) (map (λ stay. stay.number) stays ++ others)
+    → a.number ≡ number → ⊥
+not_closed [] others a number j within is all same = absurd (omega (arith, within))
+not_closed (stay ∷ stays) others a number zero within is all same =
+    all 0 number (omega arith) (ap (λ (s : ServedConnection). s.number) is ∙ same)
+not_closed (stay ∷ stays) others a number (suc j) within is all same =
+    not_closed stays others a number j (omega (arith, within)) is (λ k d within'. all (suc k) d (omega (arith, within'))) same
+
+not_left : (numbers : List ℕ) (left : List LeftConnection) (one : LeftConnection) (number j : ℕ) → j < length left
+    → slice_index_or left j one ≡ one → All (λ other. other ≢ number) (numbers ++ map (λ one. one.number) left)
+    → one.number ≡ number → ⊥
+not_left [] [] one number j within is all same = absurd (omega (arith, within))
+not_left [] (other ∷ left) one number zero within is all same =
+    all 0 number (omega arith) (ap (λ (o : LeftConnection). o.number) is ∙ same)
+not_left [] (other ∷ left) one number (suc j) within is all same =
+    not_left [] left one number j (omega (arith, within)) is (λ k d within'. all (suc k) d (omega (arith, within'))) same
+not_left (first ∷ numbers) left one number j within is all same =
+    not_left numbers left one number j within is (λ k d within'. all (suc k) d (omega (arith, within'))) same
+
+one_stay : (stays : List ServedConnection) (left : List LeftConnection) (a b : ServedConnection)
+    → AreApart (numbers_of stays left) → (j k : ℕ) → j < length stays
     → k < length stays → slice_index_or stays j a ≡ a → slice_index_or stays k b ≡ b → a.number ≡ b.number → a ≡ b
-one_stay [] a b apart j k within within' is is' same = absurd (omega (arith, within))
-one_stay (stay ∷ stays) a b apart zero zero within within' is is' same = sym is ∙ is'
-one_stay (stay ∷ stays) a b apart zero (suc k) within within' is is' same =
-    absurd (apart.0 k b (omega (arith, within')) (ap (λ (s : ServedConnection). s.number) is' ∙ sym same
-    ∙ ap (λ (s : ServedConnection). s.number) (sym is)))
-one_stay (stay ∷ stays) a b apart (suc j) zero within within' is is' same =
-    absurd (apart.0 j a (omega (arith, within)) (ap (λ (s : ServedConnection). s.number) is ∙ same
-    ∙ ap (λ (s : ServedConnection). s.number) (sym is')))
-one_stay (stay ∷ stays) a b apart (suc j) (suc k) within within' is is' same =
-    one_stay stays a b apart.1 j k (omega (arith, within)) (omega (arith, within')) is is' same
+one_stay [] left a b apart j k within within' is is' same = absurd (omega (arith, within))
+one_stay (stay ∷ stays) left a b apart zero zero within within' is is' same = sym is ∙ is'
+one_stay (stay ∷ stays) left a b apart zero (suc k) within within' is is' same =
+    absurd (not_closed stays (map (λ one. one.number) left) b stay.number k (omega (arith, within')) is' apart.0
+    (sym same ∙ ap (λ (s : ServedConnection). s.number) (sym is)))
+one_stay (stay ∷ stays) left a b apart (suc j) zero within within' is is' same =
+    absurd (not_closed stays (map (λ one. one.number) left) a stay.number j (omega (arith, within)) is apart.0
+    (same ∙ ap (λ (s : ServedConnection). s.number) (sym is')))
+one_stay (stay ∷ stays) left a b apart (suc j) (suc k) within within' is is' same =
+    one_stay stays left a b apart.1 j k (omega (arith, within)) (omega (arith, within')) is is' same
 
-module _ {H T : Type 0} (conduct : Conduct H) (counted : H → T) (stays : List ServedConnection) (apart : AreApart stays)
-    (stay : ServedConnection) (among : Contains stays stay) where
-  of_step : (step : WorkerStep) → IsStepOf stays step → HasPeer conduct counted stay.number stay.ended.came.peer step
+closed_or_left : (stays : List ServedConnection) (left : List LeftConnection) (a : ServedConnection) (one : LeftConnection)
+    → AreApart (numbers_of stays left) → (j k : ℕ) → j < length stays → k < length left → slice_index_or stays j a ≡ a
+    → slice_index_or left k one ≡ one → one.number ≡ a.number → ⊥
+closed_or_left [] left a one apart j k within within' is is' same = absurd (omega (arith, within))
+closed_or_left (stay ∷ stays) left a one apart zero k within within' is is' same =
+    not_left (map (λ stay. stay.number) stays) left one stay.number k within' is' apart.0
+    (same ∙ ap (λ (s : ServedConnection). s.number) (sym is))
+closed_or_left (stay ∷ stays) left a one apart (suc j) k within within' is is' same =
+    closed_or_left stays left a one apart.1 j k (omega (arith, within)) within' is is' same
+
+module _ {H T : Type 0} (conduct : Conduct H) (counted : H → T) (stays : List ServedConnection) (left : List LeftConnection)
+    (apart : AreApart (numbers_of stays left)) (stay : ServedConnection) (among : Contains stays stay) where
+  of_step : (step : WorkerStep) → IsStepOf stays left step → HasPeer conduct counted stay.number stay.ended.came.peer step
   of_step Learned is = tt
-  of_step (Did one other deed) is = λ same.
+  of_step (TookOver one seen) is = tt
+  of_step (Did one other deed) (inl is) = λ same.
       let number : is.0.number ≡ stay.number = is.2 ∙ same_number one stay.number same in
-      let it : is.0 ≡ stay = one_stay stays is.0 stay apart is.1.0 among.0 is.1.1 among.1 is.1.2 among.2 number in
+      let it : is.0 ≡ stay = one_stay stays left is.0 stay apart is.1.0 among.0 is.1.1 among.1 is.1.2 among.2 number in
       sym is.3 ∙ ap (λ (s : ServedConnection). s.ended.came.peer) it
+  of_step (Did one other deed) (inr is) = λ same.
+      absurd (closed_or_left stays left stay is.0 apart among.0 is.1.0 among.1 is.1.1 among.2 is.1.2
+      (is.2 ∙ same_number one stay.number same))
 
-  pub of_steps : (steps : List WorkerStep) → All (IsStepOf stays) steps
+  pub of_steps : (steps : List WorkerStep) → All (IsStepOf stays left) steps
       → HavePeer conduct counted stay.number stay.ended.came.peer steps
   of_steps [] owned = tt
   of_steps (step ∷ steps) owned = (
     of_step step (owned 0 step (omega arith)),
     of_steps steps (λ k d within. owned (suc k) d (omega (arith, within))),
   )
+
+-- ---- all that was done in a conversation
+
+module _ {H T : Type 0} (conduct : Conduct H) (counting : Counting H T) (terms : Terms) where
+  alone_step : (number : ℕ) (peer : Peer) (step : WorkerStep) → IsDoneWith number peer step
+      → HasPeer conduct counting.counted number peer step
+  alone_step number peer Learned is = tt
+  alone_step number peer (TookOver one seen) is = tt
+  alone_step number peer (Did one other deed) is = λ same. is (same_number one number same)
+
+  alone : (number : ℕ) (peer : Peer) (steps : List WorkerStep) → All (IsDoneWith number peer) steps
+      → HavePeer conduct counting.counted number peer steps
+  alone number peer [] all = tt
+  alone number peer (step ∷ steps) all = (
+    alone_step number peer step (all 0 step (omega arith)),
+    alone number peer steps (λ k d within. all (suc k) d (omega (arith, within))),
+  )
+
+  module _ (number : ℕ) (peer : Peer) (deeds : List Deed) (first last : H) (log : Log)
+      (catalogue : catalogue_of conduct first ≡ terms.catalogue) (front : IsFront (known conduct last) log) where
+    abbrev answered_from : Log → List Deed → Type 0
+    answered_from start done = AnswersInTurn terms.catalogue Stream (exchanges_of peer (turns_of done)) start log
+
+    -- what was left was answered, and then what is behind its taking over
+    over_answer : (seen : Log) (before behind : List WorkerStep)
+        → AnswersInTurn terms.catalogue Stream (exchanges_of peer (turns_of deeds)) terms.starts seen
+        → TakesSteps conduct counting.counted (before ++ TookOver number seen ∷ behind) first last
+        → HavePeer conduct counting.counted number peer (before ++ TookOver number seen ∷ behind)
+        → deeds_of number before ≡ []
+        → answered_from terms.starts (deeds ++ deeds_of number (before ++ TookOver number seen ∷ behind))
+    over_answer seen before behind answered takes owned none =
+        let more = subst (λ (c : Catalogue). AnswersInTurn c Stream (exchanges_of peer (turns_of (deeds_of number behind))) seen log)
+        catalogue (behind_answer conduct counting.counted number peer number seen before behind first last log takes owned front) in
+        let all = joined terms.catalogue Stream (exchanges_of peer (turns_of deeds))
+        (exchanges_of peer (turns_of (deeds_of number behind))) terms.starts seen seen log answered (front_self seen) more in
+        let same : deeds_of number (before ++ TookOver number seen ∷ behind) ≡ deeds_of number behind =
+        deeds_over number before (TookOver number seen ∷ behind) ∙ ap (λ (l : List Deed). l ++ deeds_of number behind) none in
+        subst (λ (l : List Deed). answered_from terms.starts (deeds ++ l)) (sym same)
+        (subst (λ (l : List Exchange). AnswersInTurn terms.catalogue Stream l terms.starts log)
+        (sym (exchanges_over peer deeds (deeds_of number behind))) all)
+
+    left_answer : (steps : List WorkerStep) (was : WasTakenOver conduct counting terms peer number deeds steps)
+        → AnswersInTurn terms.catalogue Stream (exchanges_of peer (turns_of deeds)) terms.starts was.known
+    left_answer steps was =
+        let left = was.left in
+        let start = known conduct left.first.host in
+        let there = exchanges_of peer (turns_of (deeds_of left.number left.steps)) in
+        let reached : IsFront (known conduct left.last) was.known =
+        subst (λ (l : Log). IsFront (known conduct left.last) l) left.known_is (front_self (known conduct left.last)) in
+        let answered = steps_answer conduct counting.counted left.number peer left.steps left.first.host left.last was.known left.takes
+        (alone left.number peer left.steps left.alone) reached in
+        subst (λ (l : List Deed). AnswersInTurn terms.catalogue Stream (exchanges_of peer (turns_of l)) terms.starts was.known)
+        left.deeds_are
+        (earlier terms.catalogue Stream there terms.starts start was.known left.under.knows
+        (subst (λ (c : Catalogue). AnswersInTurn c Stream there start was.known) left.under.catalogue answered))
+
+    pub had_answered : (steps : List WorkerStep) → IsFront terms.starts (known conduct first)
+        → TakesSteps conduct counting.counted steps first last → HavePeer conduct counting.counted number peer steps
+        → HadBefore conduct counting terms peer number deeds steps
+        → answered_from terms.starts (deeds ++ deeds_of number steps)
+    had_answered steps knows takes owned (inl none) =
+        let there = exchanges_of peer (turns_of (deeds_of number steps)) in
+        subst (λ (l : List Deed). answered_from terms.starts (l ++ deeds_of number steps)) (sym none)
+        (earlier terms.catalogue Stream there terms.starts (known conduct first) log knows
+        (subst (λ (c : Catalogue). AnswersInTurn c Stream there (known conduct first) log) catalogue
+        (steps_answer conduct counting.counted number peer steps first last log takes owned front)))
+    had_answered steps knows takes owned (inr was) =
+        subst (λ (l : List WorkerStep). answered_from terms.starts (deeds ++ deeds_of number l)) (sym was.steps_are)
+        (over_answer was.known was.before was.behind (left_answer steps was)
+        (subst (λ (l : List WorkerStep). TakesSteps conduct counting.counted l first last) was.steps_are takes)
+        (subst (λ (l : List WorkerStep). HavePeer conduct counting.counted number peer l) was.steps_are owned)
+        was.none_before)

@@ -33,6 +33,7 @@ where
     L::In: Send,
     L::Out: Send,
     L::Closer: Send,
+    L::Waker: Send,
     L::Watch: Send,
     A: Dial + Send + Drop,
     A::In: Send,

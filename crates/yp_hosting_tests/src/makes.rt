@@ -1,6 +1,8 @@
 //! A map that callers make: each call of its text, of its disk and of a connection fails in turn.
 
-use crate::bytes::{ADDRESS, FILE, FIRST, MADE, MAKE, MATCH, NEXT, NOMAP, UNMADE, VERSION_100};
+use crate::bytes::{
+    ADDRESS, FILE, FIRST, MADE, MAKE, MATCH, NEXT, NOMAP, NULL, NULL_REPLY, UNMADE, VERSION_100,
+};
 use crate::given::{try_all, try_each, try_rows_after};
 use yp_stage::{After, DiskCalls, FAIR, Row, Stands, Words};
 
@@ -335,14 +337,14 @@ fn disk_stops_at_each_call(rt: HostRuntime) {
 
 // ---- a connection
 
-/// MAKE and MATCH over a connection that fails, and behind it MATCH over another one, of the same worker. Both go in
-/// pieces of 40 bytes at most.
+/// MAKE and MATCH over a connection that fails, and beside it NULL over another one. Both go in pieces of 40 bytes at
+/// most.
 const SERVED: Row = Row {
     name: "nothing fails",
     words: &["serve", "m1", "7001", "1", "2", "0", "lab/hosts.byname"],
     calls: &[
         &["80000034 00000004", MAKE, "8000004c 00000005", MATCH],
-        &["8000004c 00000006", MATCH],
+        &["80000028", NULL],
     ],
     most: 2,
     piece: 40,
@@ -357,7 +359,7 @@ const SERVED: Row = Row {
 
 const TOLD_OF_BOTH: &[Words] = &[
     &["8000001c 00000004", MADE, "80000030 00000005", ADDRESS],
-    &["80000030 00000006", ADDRESS],
+    &["80000018", NULL_REPLY],
 ];
 
 /// No call of the first connection is read. Two reads bring all of MAKE, two more all of MATCH, and one the end of the
@@ -366,17 +368,14 @@ const UNREAD: Row = Row {
     name: "the front of MAKE isn't read",
     call_reads: 0,
     output: "connections 2 calls 1\n",
-    takes: &[&[], &["80000020 00000006", NOMAP]],
+    takes: &[&[], &["80000018", NULL_REPLY]],
     stands: None,
     left: &[],
     ..SERVED
 };
 
 /// The first connection has the reply to MAKE alone.
-const TOLD_OF_MAKE: &[Words] = &[
-    &["8000001c 00000004", MADE],
-    &["80000030 00000006", ADDRESS],
-];
+const TOLD_OF_MAKE: &[Words] = &[&["8000001c 00000004", MADE], &["80000018", NULL_REPLY]];
 
 const UNREAD_BEHIND: Row = Row {
     name: "more of MATCH isn't read",
@@ -391,7 +390,7 @@ const UNWRITTEN: Row = Row {
     name: "the reply to MAKE isn't written",
     call_writes: 0,
     output: "connections 2 calls 2\n",
-    takes: &[&[], &["80000030 00000006", ADDRESS]],
+    takes: &[&[], &["80000018", NULL_REPLY]],
     ..SERVED
 };
 
@@ -407,7 +406,7 @@ const FOLLOWED: Row = Row {
             MATCH,
             "80000028",
         ],
-        &["8000004c 00000006", MATCH],
+        &["80000028", NULL],
     ],
     piece: 84,
     ..SERVED
@@ -432,7 +431,7 @@ const IN_PIECES: Row = Row {
             "80000030 00000005 00000001 00000000 00000000 00000000 00000000",
             "00000001 0000000e 31302e30 2e302e31 20616c70",
         ],
-        &["80000030 00000006", ADDRESS],
+        &["80000018", NULL_REPLY],
     ],
     ..FOLLOWED
 };
@@ -442,7 +441,7 @@ const TOGETHER: Row = Row {
     name: "both replies aren't written",
     piece: 4_096,
     call_writes: 0,
-    takes: &[&[], &["80000030 00000006", ADDRESS]],
+    takes: &[&[], &["80000018", NULL_REPLY]],
     ..SERVED
 };
 

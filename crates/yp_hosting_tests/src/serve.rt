@@ -30,7 +30,8 @@ const TWO_CONNECTIONS: Row = Row {
     ..FAIR
 };
 
-/// One accept fails. Behind each that doesn't, a connection is served. The worker asks for its watch before the first.
+/// One accept fails. Behind each that doesn't, a connection is served. The worker asks for its watch before the first,
+/// and the one that does what takes long asks once more, behind it, whether all were accepted.
 const UNACCEPTED: Row = Row {
     name: "the first accept fails",
     accepts: 1,
@@ -48,7 +49,7 @@ fn two_connections(rt: HostRuntime) {
     try_rows_after(&rt, rt.alloc(), &TWO, &[]);
 }
 
-static LISTENS: [Row; 5] = [
+static LISTENS: [Row; 6] = [
     Row {
         name: "there is no watch",
         accepts: 0,
@@ -68,8 +69,14 @@ static LISTENS: [Row; 5] = [
         ..UNACCEPTED
     },
     Row {
-        name: "no fourth accept",
+        name: "the accept fails that would tell the other worker",
         accepts: 4,
+        takes: &[REPLY, REPLY],
+        ..UNACCEPTED
+    },
+    Row {
+        name: "no fifth accept",
+        accepts: 5,
         ..TWO_CONNECTIONS
     },
 ];

@@ -1,6 +1,6 @@
 //! A map that a caller has fetched: each call of the dial, its wire, the disk and the connection fails in turn.
 
-use crate::bytes::{ADDRESS, FILE, FIRST, MATCH, NOMAP};
+use crate::bytes::{ADDRESS, FILE, FIRST, MATCH, NOMAP, NULL, NULL_REPLY};
 use crate::given::{try_all, try_each, try_rows_after};
 use yp_io::Peer;
 use yp_stage::{After, Datagram, DiskCalls, FAIR, Row, Words, try_reads, try_writes};
@@ -255,8 +255,8 @@ fn each_disk_call_fails(rt: HostRuntime) {
 
 // ---- the connection
 
-/// XFR and MATCH over a connection that fails, and behind it MATCH over another one, of the same worker. All go in
-/// pieces of 52 bytes at most: two reads bring all of XFR, two more all of MATCH, and one the end of the input.
+/// XFR and MATCH over a connection that fails, and beside it NULL over another one. All go in pieces of 52 bytes at
+/// most: two reads bring all of XFR, two more all of MATCH, and one the end of the input.
 const SERVED: Row = Row {
     words: &[
         "serve",
@@ -270,14 +270,14 @@ const SERVED: Row = Row {
     ],
     calls: &[
         &["80000058 00000002", XFR, "8000004c 00000003", MATCH],
-        &["8000004c 00000006", MATCH],
+        &["80000028", NULL],
     ],
     most: 2,
     piece: 52,
     output: "connections 2 calls 3\n",
     takes: &[
         &["80000020 00000002", TAKEN, "80000030 00000003", ADDRESS],
-        &["80000030 00000006", ADDRESS],
+        &["80000018", NULL_REPLY],
     ],
     ..FETCHED
 };
@@ -285,7 +285,7 @@ const SERVED: Row = Row {
 /// XFR isn't read, or its reply isn't flushed: nothing is fetched.
 const UNASKED: Row = Row {
     output: "connections 2 calls 1\n",
-    takes: &[&[], &["80000020 00000006", NOMAP]],
+    takes: &[&[], &["80000018", NULL_REPLY]],
     posts: &[],
     wires: 0,
     stands: None,
@@ -294,10 +294,7 @@ const UNASKED: Row = Row {
 };
 
 /// XFR was carried out, and the first connection has its reply alone.
-const TOLD_OF_XFR: &[Words] = &[
-    &["80000020 00000002", TAKEN],
-    &["80000030 00000006", ADDRESS],
-];
+const TOLD_OF_XFR: &[Words] = &[&["80000020 00000002", TAKEN], &["80000018", NULL_REPLY]];
 
 const UNREAD_BEHIND: Row = Row {
     name: "more of MATCH isn't read",
@@ -326,7 +323,7 @@ const FOLLOWED: Row = Row {
             MATCH,
             "80000028",
         ],
-        &["8000004c 00000006", MATCH],
+        &["80000028", NULL],
     ],
     piece: 100,
     ..SERVED
@@ -364,7 +361,7 @@ static CONNECTIONS: [Row; 13] = [
     Row {
         name: "the reply to XFR isn't flushed",
         call_writes: 1,
-        takes: &[&["80000020 00000002", TAKEN], &["80000020 00000006", NOMAP]],
+        takes: &[&["80000020 00000002", TAKEN], &["80000018", NULL_REPLY]],
         ..UNWRITTEN
     },
     FOLLOWED,

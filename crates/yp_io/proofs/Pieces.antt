@@ -1,18 +1,9 @@
--- Lemmas on pieces of a list that are read or written one after another.
+-- Lemmas on pieces of a list that are written one after another.
 use Rattle.std.proofs.Common.{◌≡◌, ℕ, ◌+◌, ◌-◌, ◌≤◌, List, ◌++◌, Option, length, take, drop, sym, arith, length-drop}
-use Rattle.std.proofs.Common.{drop-drop, take-append-drop, length-take-le, refl, ◌∙◌}
-use Rattle.std.proofs.lemmas.List.{take_at, drop-take, take-take}
+use Rattle.std.proofs.Common.{drop-drop, take-append-drop, refl, ◌∙◌}
+use Rattle.std.proofs.lemmas.List.{drop-take, take-take}
 use Rattle.std.proofs.KnownBytes.{Appends-trans}
 use Rattle.std.specs.Io.KnownBytes.{Appends}
-
--- what is copied to the front of a buffer, and what is left after it, is what was left before
-pub front_then_rest : (bytes front beyond : List ℕ) (at count : ℕ) → count ≤ length (drop at bytes)
-    → front ≡ take count (drop at bytes)
-    → drop at bytes ≡ take count (front ++ beyond) ++ drop (at + count) bytes
-front_then_rest bytes front beyond at count within copied =
-    let size : length front ≡ count = rw copied (length-take-le count (drop at bytes) within) in
-    rw (take_at front beyond count size, copied, ← drop-drop count at bytes)
-    (sym (take-append-drop count (drop at bytes)))
 
 -- the first n of a list, and the k after them
 pub take-add : (n k : ℕ) (xs : List ℕ) → take (n + k) xs ≡ take n xs ++ take k (drop n xs)

@@ -1,12 +1,5 @@
 pub mod DiskLaws
 pub mod Inboxes
-pub mod Mem
-pub mod MemDial
-pub mod MemDisk
-pub mod MemDiskLaws
-pub mod MemSteps
 pub mod Streams
 pub mod Texts
-pub mod MemInbox
 pub mod Trails
-pub mod MemHall

@@ -12,20 +12,3 @@ pub trait Clock {
         ensures told { IfSome (moment self.old) (λ told. result ≡ told) }
         ensures same { moment self.new ≡ moment self.old };
 }
-
-/// A clock in memory, which stands still.
-#[derive(Clone, Copy, Debug, PartialEq, Eq)]
-pub struct SetClock {
-    pub moment: u32,
-}
-
-impl Clock for SetClock {
-    ghost moment = { λ c. Some c.moment };
-
-    fn now(&mut self) -> u32
-        ensures told { result ≡ self.old.moment }
-        ensures same { self.new ≡ self.old }
-    {
-        self.moment
-    }
-}

@@ -8,9 +8,9 @@ ghost use Rattle.yp_io.specs.Calls.{none_closed, closed_then, taken_in};
 ghost use Rattle.yp_io.specs.Calls.{accepting_of, IsFreshCall};
 ghost use Rattle.yp_io.specs.Hall.{try_halves_of, IfComes, OnNotNow, OnNoMore, NoneComes, let_go_behind};
 
+use crate::Failed;
 use crate::called::Called;
 use crate::ready::{TrySink, TrySource};
-use crate::{Failed, Pair};
 
 /// What came of trying to accept.
 #[derive(Drop)]
@@ -26,7 +26,7 @@ pub enum Coming<S, K> {
 /// What a worker is told by its watch. It is a hint: no promise rests on it, and a wrong one does no harm.
 #[derive(Clone, Copy, Debug, PartialEq, Eq)]
 pub enum Notice {
-    /// Somebody may have come.
+    /// Somebody may have come, or the watch was woken.
     Door,
     /// The connection of this place may go on.
     Ready { place: u32 },
@@ -47,6 +47,12 @@ pub enum Awaited {
     Payment,
 }
 
+/// What wakes a watch.
+pub trait Wake {
+    /// Has the watch answer `Door`: a wait that is under way, or the next one, ends.
+    fn wake(&self);
+}
+
 /// What watches the connections of one worker, each under a number of its own, and the door by which they come. Memory
 /// goes with the greatest of these numbers, so they are small.
 ///
@@ -60,14 +66,18 @@ pub enum Awaited {
 pub trait Watch {
     type In;
 
-    type Out;
+    /// What wakes it from another thread.
+    type Waker: Wake + Drop;
 
     /// How many connections it has let go, up to 2^64 - 1: those that it couldn't watch, and those that it told late.
     ghost let_go: { Self → ℕ };
 
-    /// Watches a connection under this place from now on, of which a record is awaited. A place that is taken is taken
-    /// over. After `Failed` the connection isn't watched.
-    fn enter(&mut self, place: u32, wire: &Pair<Self::In, Self::Out>) -> Result<(), Failed>
+    /// What wakes it, where that can be had.
+    fn waker(&self) -> Option<Self::Waker>;
+
+    /// Watches a connection with this source under this place from now on, of which a record is awaited. A place that is
+    /// taken is taken over. After `Failed` the connection isn't watched.
+    fn enter(&mut self, place: u32, source: &Self::In) -> Result<(), Failed>
         ensures let_go { let_go self.new ≡ faults_after (let_go self.old) result };
 
     /// What of it is awaited from now on. `moved` says whether a record was read whole since this was told last, or a
@@ -99,8 +109,11 @@ pub trait Hall {
     /// What closes connections, one after another.
     type Closer: Drop;
 
+    /// What wakes a watch.
+    type Waker: Wake + Drop;
+
     /// What watches the connections of one worker, and the door.
-    type Watch: Watch<In = Self::In, Out = Self::Out> + Drop;
+    type Watch: Watch<In = Self::In, Waker = Self::Waker> + Drop;
 
     /// Its connections, where they are told.
     ghost past: { Self → Option ListenerHistory };
@@ -144,8 +157,8 @@ pub trait Hall {
         ensures number { accepted self.new < 2 ^ 64 }
         ensures cause { CountsFaults (faults self.old) (faults self.new) result };
 
-    /// A watch that has let nobody go and watches the door alone.
-    fn watch(&mut self) -> Result<Self::Watch, Failed>
+    /// A watch that has let nobody go and watches the door alone, or nothing yet where it isn't to stand at the door.
+    fn watch(&mut self, is_at_door: bool) -> Result<Self::Watch, Failed>
         ensures fresh { IfOk result (λ watch. Self.Watch.Watch.let_go watch ≡ 0) }
         ensures same { accepting_of past most accepted self.new ≡ accepting_of past most accepted self.old }
         ensures returned { returned self.new ≡ returned self.old }

@@ -1,4 +1,4 @@
-//! What the program reaches outside itself, as traits, with forms in memory for tests.
+//! What the program reaches outside itself, as traits.
 //!
 //! A source gives bytes and a sink takes them, and those that are never waited for say where nothing can go on now; a
 //! disk keeps bytes through a crash; texts and a clock are read; a dial opens wires, sends datagrams and asks by them;
@@ -18,17 +18,7 @@ mod dial;
 mod disk;
 mod hall;
 mod inbox;
-mod mem;
-mod mem_closer;
-mod mem_dial;
-mod mem_disk;
-mod mem_hall;
-mod mem_inbox;
-mod mem_texts;
-mod mem_watch;
-mod plan;
 mod ready;
-mod scheduled;
 mod slice_source;
 mod stream;
 mod texts;
@@ -36,22 +26,12 @@ mod trail;
 mod whole;
 
 pub use called::{CallOrigin, Called};
-pub use clock::{Clock, SetClock};
+pub use clock::Clock;
 pub use dial::{Dial, Letter, Sending};
 pub use disk::Disk;
-pub use hall::{Awaited, Coming, Hall, Notice, Watch};
+pub use hall::{Awaited, Coming, Hall, Notice, Wake, Watch};
 pub use inbox::{Inbox, Mail};
-pub use mem::{MemSink, MemSource, MemWire};
-pub use mem_closer::MemCloser;
-pub use mem_dial::{MemDial, MemDialed};
-pub use mem_disk::MemDisk;
-pub use mem_hall::{HallCall, HallCloser, MemHall};
-pub use mem_inbox::MemInbox;
-pub use mem_texts::MemTexts;
-pub use mem_watch::MemWatch;
-pub use plan::Plan;
 pub use ready::{TrySink, TrySource};
-pub use scheduled::Scheduled;
 pub use slice_source::SliceSource;
 pub use stream::{
     Failed, NoMemory, OWN_HOST, Pair, Peer, Sink, Source, count_fault, write_all, write_through,

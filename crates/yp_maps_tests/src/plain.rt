@@ -9,11 +9,11 @@ use std::process::Abort;
 use std::random::RandomSource;
 use std::sync::Arc;
 use yp_board::*;
-use yp_version::{Version, VersionBuilder};
+use yp_version::{Order, Version, VersionBuilder};
 
 // A version of this order, without rows.
 fn version<R: RandomSource + Abort>(rt: &R, alloc: Global, order: u32) -> Arc<Version> {
-    let builder = VersionBuilder::new(alloc, rt, order, b"m1").expect(rt, "a builder");
+    let builder = VersionBuilder::new(alloc, rt, Order(order), b"m1").expect(rt, "a builder");
     let version = builder.finish().expect(rt, "a version");
     Arc::new(alloc, version).expect(rt, "a shared version")
 }
@@ -44,7 +44,7 @@ fn board<R: RandomSource + Abort>(rt: &R, alloc: Global) -> PlainBoard {
 fn held_order<V: View>(rt: &impl Abort, view: &V, map: u32) -> Option<u32> {
     assert_has(rt, view.catalog(), map);
     match view.held(map) {
-        Some(version) => Some(version.order()),
+        Some(version) => Some(version.order().number()),
         None => None,
     }
 }

@@ -4,9 +4,9 @@ use crate::given::{assert_same, bytes};
 use std::alloc::Global;
 use std::process::Abort;
 use std::random::RandomSource;
-use yp_io::MemDisk;
 use yp_map_file::*;
-use yp_version::{Version, VersionBuilder};
+use yp_memory::MemDisk;
+use yp_version::{Order, Version, VersionBuilder};
 
 // A file of 116 bytes: order 100, master `m1`, and the row `alpha`, `10.0.0.1 alpha`, at generation 1.
 const HOSTS_FILE: &str = "01000000 00000000 00000000 00000001 00000000 00000040 00000000 00000034
@@ -38,7 +38,11 @@ fn stored(order: u32, generation: u64) -> Found {
 fn load<R: RandomSource>(rt: &R, alloc: Global, slot: &mut Slot<MemDisk>) -> Found {
     match slot.load(alloc, rt) {
         Ok(None) => Ok(None),
-        Ok(Some(version)) => Ok(Some((version.order(), version.secure(), slot.generation()))),
+        Ok(Some(version)) => Ok(Some((
+            version.order().number(),
+            version.secure(),
+            slot.generation(),
+        ))),
         Err(fault) => Err(fault),
     }
 }
@@ -174,7 +178,7 @@ fn calls_of_a_load(rt: HostRuntime) {
 
 // A version of this order with the row of the hosts file.
 fn version<R: RandomSource + Abort>(rt: &R, alloc: Global, order: u32) -> Version {
-    let mut builder = VersionBuilder::new(alloc, rt, order, b"m1").expect(rt, "a builder");
+    let mut builder = VersionBuilder::new(alloc, rt, Order(order), b"m1").expect(rt, "a builder");
     let pushed = builder.push(b"alpha", b"10.0.0.1 alpha");
     assert_same(rt, &pushed, &Ok(true), "a row");
     builder.finish().expect(rt, "a version")

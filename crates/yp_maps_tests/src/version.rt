@@ -11,7 +11,7 @@ type Row<'a> = (&'a [u8], &'a [u8]);
 
 // A builder of order 7 of the master `m1`.
 fn builder<R: RandomSource + Abort>(rt: &R, alloc: Global) -> VersionBuilder {
-    VersionBuilder::new(alloc, rt, 7, b"m1").expect(rt, "a builder")
+    VersionBuilder::new(alloc, rt, Order(7), b"m1").expect(rt, "a builder")
 }
 
 // A version of order 7 of the master `m1`, with these rows.
@@ -112,7 +112,7 @@ fn assert_marked<R: Abort>(rt: &R, version: &Version, secure: bool, row: &str) {
     let rows = [version.row(0), version.row(1)];
     let facts = (
         version.secure(),
-        version.order(),
+        version.order().number(),
         version.master(),
         version.body_len(),
     );
@@ -364,7 +364,7 @@ fn assert_colliding<R: Abort>(rt: &R, version: &Version) {
 
 #[test]
 fn colliding_keys(rt: HostRuntime) {
-    let builder = VersionBuilder::new(rt.alloc(), &Zeros, 7, b"m1");
+    let builder = VersionBuilder::new(rt.alloc(), &Zeros, Order(7), b"m1");
     let mut builder = builder.expect(&rt, "a builder");
     for (key, value) in &COLLIDING {
         assert_same(&rt, &builder.push(*key, *value), &Ok(true), "a new row");

@@ -5,6 +5,7 @@ ghost use Rattle.yp_version.specs.inside.Bodies.{IsBody};
 
 use std::alloc::AllocError;
 use yp_io::{Failed, NoMemory};
+use yp_version::Order;
 
 /// Where an offered version comes from.
 #[derive(Clone, Copy, Debug, PartialEq, Eq)]
@@ -19,7 +20,7 @@ pub enum Origin {
 #[derive(Clone, Copy, Debug, PartialEq, Eq)]
 pub struct Installed {
     /// The order of the version.
-    pub order: u32,
+    pub order: Order,
     /// The generation of its file.
     pub generation: u64,
 }

@@ -340,8 +340,8 @@ fn refuse_after(
     }
     if !force && version.order() <= shown.order() {
         return Err(InstallFault::Age {
-            shown: shown.order(),
-            offered: version.order(),
+            shown: shown.order().number(),
+            offered: version.order().number(),
         });
     }
     Ok(())

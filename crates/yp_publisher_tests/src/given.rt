@@ -8,7 +8,7 @@ use std::process::Abort;
 use std::random::RandomSource;
 use yp_board::readers::{Naming, Reader};
 use yp_board::{Catalog, MapName, View};
-use yp_version::{Version, VersionBuilder};
+use yp_version::{Order, Version, VersionBuilder};
 
 /// The bytes of texts of hexadecimal words, as `8000004c 00000001`.
 pub fn bytes<R: Abort>(rt: &R, alloc: Global, texts: &[&str]) -> Vec<u8> {
@@ -27,7 +27,7 @@ pub fn version<R: RandomSource + Abort>(
     order: u32,
     master: &[u8; 2],
 ) -> Version {
-    let mut builder = VersionBuilder::new(alloc, rt, order, master).expect(rt, "a builder");
+    let mut builder = VersionBuilder::new(alloc, rt, Order(order), master).expect(rt, "a builder");
     let is_pushed = matches!(builder.push(b"alpha", b"10.0.0.1 alpha"), Ok(true));
     assert!(rt; is_pushed);
     builder.finish().expect(rt, "a version")
@@ -63,7 +63,7 @@ pub fn one_of<J: Naming>(rt: &impl Abort, readers: &mut Vec<Reader<J>>) -> Reade
 /// The order of the version of a map that a reader holds.
 pub fn held<J: Naming>(reader: &Reader<J>, map: u32) -> Option<u32> {
     if map < reader.catalog().len() {
-        Some(reader.held(map)?.order())
+        Some(reader.held(map)?.order().number())
     } else {
         None
     }

@@ -8,10 +8,10 @@ use std::process::Abort;
 use std::random::RandomSource;
 use std::sync::Arc;
 use yp_board::PlainBoard;
-use yp_io::MemDisk;
 use yp_map_file::SlotFault;
+use yp_memory::MemDisk;
 use yp_publisher::*;
-use yp_version::Version;
+use yp_version::{Order, Version};
 
 // A file of 116 bytes: order 100, master `m1`, and the row `alpha`, `10.0.0.1 alpha`, at generation 1.
 const HOSTS_FILE: &str = "01000000 00000000 00000000 00000001 00000000 00000040 00000000 00000034
@@ -94,7 +94,7 @@ type State = (Option<u32>, u64, Standing);
 fn state(rt: &impl Abort, maps: &Maps, map: u32) -> State {
     assert!(rt; map < maps.catalog().len());
     let order = match maps.shown(map) {
-        Some(version) => Some(version.order()),
+        Some(version) => Some(version.order().number()),
         None => None,
     };
     (order, maps.generation(map), maps.standing(map))
@@ -149,7 +149,10 @@ fn build<R: RandomSource + Abort>(rt: &R, alloc: Global, maps: &mut Maps, order:
         force: false,
     };
     match install(rt, alloc, maps, offer) {
-        Ok(Installed { order, generation }) => Answer::Done { order, generation },
+        Ok(Installed { order, generation }) => Answer::Done {
+            order: order.number(),
+            generation,
+        },
         Err(InstallFault::DiskFault) => Answer::DiskFault,
         Err(InstallFault::Behind) => Answer::Behind,
         Err(_) => Answer::Other,
@@ -307,7 +310,7 @@ fn stopped<R: RandomSource + Abort>(rt: &R, alloc: Global, stop: u64, kept: u64)
 fn orders(rt: &impl Abort, alloc: Global, shown: &[Option<Arc<Version>>]) -> Vec<Option<u32>> {
     let mut orders = Vec::new(alloc);
     for version in shown {
-        let order = version.as_ref().map(|version| version.order());
+        let order = version.as_ref().map(|version| version.order().number());
         orders.push(order).expect(rt, "memory for orders");
     }
     orders
@@ -577,7 +580,10 @@ static OFFERS: [Offered; 14] = [
 ];
 
 fn done(order: u32, generation: u64) -> Result<Installed, InstallFault> {
-    Ok(Installed { order, generation })
+    Ok(Installed {
+        order: Order(order),
+        generation,
+    })
 }
 
 // The state before an offer of map 0, what it answers, and the state behind it.

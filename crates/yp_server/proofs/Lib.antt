@@ -1,3 +1,4 @@
+mod Crossing
 mod Rows
 mod Fronts
 mod Posted

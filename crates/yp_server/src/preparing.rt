@@ -5,6 +5,7 @@ ghost use Rattle.std.specs.List.{All};
 ghost use Rattle.yp_io.specs.Counts.{HasRisen};
 ghost use Rattle.yp_board.specs.Logs.{Log};
 ghost use Rattle.yp_board.specs.Views.{IsFront};
+ghost use Rattle.yp_board.specs.readers.Boards.{workers_max};
 ghost use Rattle.yp_worker.specs.Receptions.{IsListenerState, IsUnder, opening_by};
 ghost use Rattle.yp_worker.specs.inside.Receptions.{terms_by};
 ghost use Rattle.yp_host.specs.inside.workers.Makings.{SiteBuilds};
@@ -63,12 +64,14 @@ impl<
     G: Gate,
     R: RandomSource + Wait,
 > WorkerMaker<'a, J, D, B, A, T, C, G, R> {
-    /// A worker with this reader and this memory, which is charged by these.
+    /// A worker with this reader and this memory, which is charged by these, and does what takes long where that is
+    /// said.
     fn worker(
         &self,
         reader: B::Reader,
         buffers: Buffers,
         charges: Charges<J>,
+        carries: bool,
     ) -> Worker<WorkerHost<'a, J, D, B, A, T, C, &'a R>, &'a G>
         requires most { (self.now.most ≡ J.most) × (self.now.most ≤ CALLS_MAX) }
         requires knows { IsAtStart J.catalogue J.starts (B.Reader.seen reader) }
@@ -86,7 +89,7 @@ impl<
             charges,
             self.journal,
         );
-        Worker::new(host, buffers, self.gate, self.most)
+        Worker::new(host, buffers, self.gate, self.most, carries)
     }
 
     /// A worker with a part of the listener and of the charges.
@@ -94,6 +97,7 @@ impl<
         &self,
         reader: B::Reader,
         buffers: Buffers,
+        carries: bool,
         charges: &mut Charges<J>,
         out: &mut Share<J>,
         ended: &mut Share<E>,
@@ -109,14 +113,15 @@ impl<
         ensures ended { (ended.new.parts + 1 ≡ ended.old.parts) × (ended.new.amount ≡ 0) }
         ensures charges { charges.new.parts + 1 ≡ charges.old.parts }
     {
-        let worker = self.worker(reader, buffers, charges.split_off());
+        let worker = self.worker(reader, buffers, charges.split_off(), carries);
         ConnectionWorker::new(
             worker,
             Pass::new(out.split_off(1, 0), ended.split_off(1, 0)),
         )
     }
 
-    /// Makes a worker of each reader, behind that of the datagrams.
+    /// Makes a worker of each reader, behind that of the datagrams. The last one does what takes long for all others,
+    /// so where there are too few threads it works behind them.
     fn add_connection_workers<E: Ledger, I>(
         &self,
         all_workers: &mut Vec<
@@ -136,12 +141,12 @@ impl<
         requires builds { SiteBuilds J.text J.catalogue J.built }
         requires one { length all_workers.old.items ≡ 1 }
         requires room { length all_buffers.items + 1 ≤ vec_capacity all_workers.old }
-        requires out { (out.old.parts ≡ length all_buffers.items + 1) × (out.old.amount ≡ 0) }
+        requires out { (out.old.parts ≡ length all_buffers.items + 2) × (out.old.amount ≡ 0) }
         requires ended { (ended.old.parts ≡ length all_buffers.items + 1) × (ended.old.amount ≡ 0) }
         requires charges { length all_buffers.items + 2 ≡ charges.old.parts }
         ensures all_workers { AddsWorkers before_work all_workers.old.items all_workers.new.items }
         ensures count { length all_workers.new.items ≡ length all_buffers.items + 1 }
-        ensures out { (out.new.parts ≡ 1) × (out.new.amount ≡ 0) }
+        ensures out { (out.new.parts ≡ 2) × (out.new.amount ≡ 0) }
         ensures ended { (ended.new.parts ≡ 1) × (ended.new.amount ≡ 0) }
         ensures charges { charges.new.parts ≡ 2 }
     {
@@ -149,7 +154,10 @@ impl<
             let Some(reader) = readers.pop() else {
                 unreachable!();
             };
-            let connection_worker = self.connection_worker(reader, buffers, charges, out, ended);
+            let carries = all_buffers.is_empty();
+            let connection_worker = self.connection_worker(
+                reader, buffers, carries, charges, out, ended,
+            );
             all_workers.push_reserved(ServerWorker::Connections(connection_worker));
         }
     }
@@ -176,12 +184,12 @@ impl<
         requires builds { SiteBuilds J.text J.catalogue J.built }
         requires none { all_workers.old.items ≡ [] }
         requires room { length all_buffers.items + 1 ≤ vec_capacity all_workers.old }
-        requires out { (out.old.parts ≡ length all_buffers.items + 1) × (out.old.amount ≡ 0) }
+        requires out { (out.old.parts ≡ length all_buffers.items + 2) × (out.old.amount ≡ 0) }
         requires ended { (ended.old.parts ≡ length all_buffers.items + 1) × (ended.old.amount ≡ 0) }
         requires charges { length all_buffers.items + 3 ≡ charges.old.parts }
         ensures manned { AreWorkers (datagram_worker_of datagram_resources) before_work all_workers.new.items }
         ensures count { length all_workers.new.items ≡ length all_buffers.items + 1 }
-        ensures out { (out.new.parts ≡ 1) × (out.new.amount ≡ 0) }
+        ensures out { (out.new.parts ≡ 2) × (out.new.amount ≡ 0) }
         ensures ended { (ended.new.parts ≡ 1) × (ended.new.amount ≡ 0) }
         ensures charges { charges.new.parts ≡ 2 }
     {
@@ -217,7 +225,8 @@ impl<
     R: Threads + Wait + RandomSource + Sync,
 > WorkerMaker<'a, J, D, B, A, T, C, G, R> {
     /// Serves the connections of a listener by workers in threads, one for each of these buffers, which have room in
-    /// `all_workers`, and the datagrams of an inbox beside them.
+    /// `all_workers`, and the datagrams of an inbox beside them. One of the workers does what takes long for the
+    /// others.
     pub(crate) fn serve<E: Ledger + Send + Sync, L: Hall + Send, I: Inbox + Send + Drop>(
         &self,
         mut all_workers: Vec<ServerWorker<J, E, WorkerHost<'a, J, D, B, A, T, C, &'a R>, &'a G, I>>,
@@ -232,10 +241,12 @@ impl<
     where
         B::Reader: Send + Drop,
         B::Front: Send,
+        B::Knowledge: Send,
         L::In: Send,
         L::Out: Send,
         L::Closer: Send,
         L::Watch: Send,
+        L::Waker: Send,
         A::In: Send,
         A::Out: Send,
         requires most { (self.now.most ≡ J.most) × (self.now.most ≤ CALLS_MAX) }
@@ -243,10 +254,10 @@ impl<
         requires knows { All (λ reader. IsAtStart J.catalogue J.starts (B.Reader.seen reader)) readers.items }
         requires builds { SiteBuilds J.text J.catalogue J.built }
         requires none { all_workers.items ≡ [] }
-        requires some { 0 < length all_buffers.items }
+        requires some { (0 < length all_buffers.items) × (length all_buffers.items ≤ workers_max + 1) }
         requires room { length all_buffers.items + 1 ≤ vec_capacity all_workers }
         requires opening { opening_by L.Hall listen ≡ J.opening }
-        requires out { (out.name ≡ J.name) × (out.parts ≡ J.parts) × (out.parts ≡ length all_buffers.items + 1) }
+        requires out { (out.name ≡ J.name) × (out.parts ≡ J.parts) × (out.parts ≡ length all_buffers.items + 2) }
         requires ended { (ended.name ≡ E.name) × (ended.parts ≡ E.parts)
             × (ended.parts ≡ length all_buffers.items + 1) }
         requires charges { charges.parts ≡ length all_buffers.items + 3 }
@@ -262,6 +273,7 @@ impl<
     {
         let (book, mut share) = out.open::<J>();
         let (ends, mut mine) = ended.open::<E>();
+        let workers = all_buffers.len() as u32 - 1;
         let front = B::known(&datagram_resources.reader);
         self.add_workers(
             &mut all_workers,
@@ -272,7 +284,9 @@ impl<
             &mut share,
             &mut mine,
         );
-        let listening = Listening::new(listen, book, ends, Account::new(charges, front));
+        let held = share.split_off(1, 0);
+        let account = Account::new(charges, front);
+        let listening = Listening::new(self.alloc, listen, book, ends, account, held, workers);
         run_workers(self.rt, listening, all_workers, Pass::new(share, mine))
     }
 }

@@ -2,6 +2,7 @@
 
 ghost use Rattle.std.specs.Prelude.{◌≡◌, ℕ, ◌+◌, ◌≤◌, [], ◌∷◌, ◌++◌, length, vec_len, IfOk};
 ghost use Rattle.yp_board.specs.Views.{IsFront};
+ghost use Rattle.yp_board.specs.readers.Boards.{workers_max};
 ghost use Rattle.yp_server.specs.Serving.{DisksStand};
 ghost use Rattle.yp_server.specs.Counting.{DiskTellsFaults};
 ghost use Rattle.std.specs.List.{All};
@@ -101,22 +102,25 @@ pub(crate) struct WorkerResources<V> {
 }
 
 impl<V: Drop> WorkerResources<V> {
-    /// The resources of this many workers of connections, and one reader more for the worker of datagrams.
+    /// The resources of this many workers of connections and of the one that does what takes long for them, and one
+    /// reader more for the worker of datagrams.
     pub(crate) fn of(
         alloc: Global,
         mut readers: Vec<V>,
         workers: u32,
     ) -> Result<WorkerResources<V>, NoMemory>
-        requires { vec_len readers ≡ workers + 1 }
-        ensures all_buffers { IfOk result (λ worker_resources. length worker_resources.all_buffers.items ≡ workers) }
-        ensures readers { IfOk result (λ worker_resources. length worker_resources.readers.items ≡ workers) }
+        requires readers { vec_len readers ≡ workers + 2 }
+        requires workers { workers ≤ workers_max }
+        ensures all_buffers { IfOk result (λ worker_resources.
+            length worker_resources.all_buffers.items ≡ workers + 1) }
+        ensures readers { IfOk result (λ worker_resources. length worker_resources.readers.items ≡ workers + 1) }
         ensures all { IfOk result (λ worker_resources. readers.items
             ≡ worker_resources.readers.items ++ worker_resources.spare ∷ []) }
     {
         let Some(spare) = readers.pop() else {
             unreachable!();
         };
-        let all_buffers = buffers_of(alloc, workers)?;
+        let all_buffers = buffers_of(alloc, workers + 1)?;
         let room = Room::new(alloc)?;
         Ok(WorkerResources {
             all_buffers,

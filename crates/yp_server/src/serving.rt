@@ -46,10 +46,11 @@ use yp_worker::{Gate, Reception};
 
 /// Serves the connections of a listener and the datagrams of an inbox, over maps and a desk that all workers share:
 /// connections until as many were accepted as are to be or the listener has failed, datagrams until all turns are taken
-/// or the inbox has failed. Each worker has a thread of its own, and the datagrams have one more. Where one can't be
-/// started, its work is done in another's.
+/// or the inbox has failed. Each worker has a thread of its own, and the datagrams have one more. One worker more, in a
+/// thread of its own, too, does for the others what takes long: makes and transfers, in the connections that they leave
+/// to it. Where a thread can't be started, its work is done in another's.
 ///
-/// There is one reader more than workers of connections. Where there is a journal, the workers tell it what they do.
+/// There are two readers more than workers of connections. Where there is a journal, the workers tell it what they do.
 pub fn serve<D, B, A, T, C, L, I, G, R>(
     alloc: Global,
     rt: &R,
@@ -67,6 +68,7 @@ where
     B: Tell + Send + Drop,
     B::Reader: Send + Drop,
     B::Front: Send,
+    B::Knowledge: Send,
     A: Dial + Send + Drop,
     T: Texts + Send + Drop,
     C: Clock + Send + Drop,
@@ -76,12 +78,13 @@ where
     L::Out: Send,
     L::Closer: Send,
     L::Watch: Send,
+    L::Waker: Send,
     A::In: Send,
     A::Out: Send,
     G: Gate + Sync,
     R: Threads + Wait + RandomSource + Sync,
     requires workers { (1 ≤ spec.now.workers) × (spec.now.workers ≤ workers_max) }
-    requires readers { vec_len readers ≡ spec.now.workers + 1 }
+    requires readers { vec_len readers ≡ spec.now.workers + 2 }
     requires starts { All (λ reader. IsAtStart publisher.catalogue (B.log publisher.board) (B.Reader.seen reader))
         readers.items }
     requires most { spec.now.most ≤ CALLS_MAX }
@@ -153,7 +156,7 @@ where
     let Ok(worker_resources) = WorkerResources::of(alloc, readers, spec.workers) else {
         return Err(refuse(resources));
     };
-    let parts = spec.workers as u64 + 1;
+    let parts = spec.workers as u64 + 2;
     under_locks::<Brand, Brand, D, B, A, T, C, L, I, G, R>(
         alloc,
         rt,
@@ -162,7 +165,7 @@ where
         spec,
         journal,
         gate,
-        Blank::new(parts),
+        Blank::new(parts + 1),
         Blank::new(parts),
         Blanks::new(parts + 2),
     )
@@ -188,6 +191,7 @@ where
     B: Tell + Send + Drop,
     B::Reader: Send + Drop,
     B::Front: Send,
+    B::Knowledge: Send,
     A: Dial + Send + Drop,
     T: Texts + Send + Drop,
     C: Clock + Send + Drop,
@@ -197,6 +201,7 @@ where
     L::Out: Send,
     L::Closer: Send,
     L::Watch: Send,
+    L::Waker: Send,
     A::In: Send,
     A::Out: Send,
     G: Gate + Sync,
@@ -206,13 +211,14 @@ where
     requires supplied { IsSupplied T.Texts J.text J.hosts resources.desk }
     requires opening { opening_by L.Hall resources.listen ≡ J.opening }
     requires most { (spec.now.most ≡ J.most) × (spec.now.most ≤ CALLS_MAX) }
-    requires some { 0 < length worker_resources.all_buffers.items }
+    requires some { (0 < length worker_resources.all_buffers.items)
+        × (length worker_resources.all_buffers.items ≤ workers_max + 1) }
     requires readers { length worker_resources.readers.items ≡ length worker_resources.all_buffers.items }
     requires know { All (λ reader. IsAtStart J.catalogue J.starts (B.Reader.seen reader))
         worker_resources.readers.items }
     requires spare { IsAtStart J.catalogue J.starts (B.Reader.seen worker_resources.spare) }
     requires out { (out.name ≡ J.name) × (out.parts ≡ J.parts)
-        × (out.parts ≡ length worker_resources.all_buffers.items + 1) }
+        × (out.parts ≡ length worker_resources.all_buffers.items + 2) }
     requires ended { (ended.name ≡ E.name) × (ended.parts ≡ E.parts)
         × (ended.parts ≡ length worker_resources.all_buffers.items + 1) }
     requires builds { SiteBuilds J.text J.catalogue J.built }

@@ -1,6 +1,6 @@
 //! Workers that run side by side.
 
-ghost use Rattle.std.specs.Prelude.{◌≡◌, ◌<◌, ◌+◌, length, true};
+ghost use Rattle.std.specs.Prelude.{◌≡◌, ◌<◌, ◌≤◌, ◌+◌, length, true};
 ghost use Rattle.yp_io.specs.Counts.{HasRisen};
 ghost use Rattle.yp_board.specs.Logs.{Log};
 ghost use Rattle.yp_board.specs.Views.{IsFront};
@@ -56,7 +56,7 @@ impl<J: Reception, E: Ledger, H: HandsOver, G: Gate + Copy + Drop> ConnectionWor
     }
 
     /// Serves connections until the listener has no more.
-    fn work<L: Hall, R: Wait>(&mut self, rt: &R, listening: &Mutex<Listening<J, E, H, L>>)
+    fn work<L: Hall, R: Wait>(&mut self, rt: &R, listening: &Mutex<Listening<J, E, H, L, G>>)
         ensures { self.new ≡ record self.old { ended = self.old.ended + 1 } }
     {
         self.worker.run(rt, listening, &mut self.pass);
@@ -69,6 +69,28 @@ impl<J: Reception, E: Ledger, H: HandsOver + Drop, G: Gate + Copy + Drop> Connec
     H,
     G,
 > {
+    /// Serves until no guest waits for it. Where all others have ended none is left to come.
+    fn drain<L: Hall, R: Wait>(
+        &mut self,
+        rt: &R,
+        listening: Listening<J, E, H, L, G>,
+    ) -> Listening<J, E, H, L, G>
+        ensures drained { result.waiting ≡ 0 }
+        ensures out { (self.new.parts ≡ self.old.parts) × (self.new.out ≡ self.old.out) }
+        ensures ended { self.old.ended ≤ self.new.ended }
+    {
+        let mut listening = listening;
+        for _ in rt.forever() {
+            if listening.is_drained() {
+                return listening;
+            }
+            let shared = Mutex::new(listening);
+            self.work(rt, &shared);
+            listening = shared.into_inner();
+        }
+        unreachable!()
+    }
+
     /// What it holds of its listener.
     fn into_pass(self) -> Pass<J, E>
         ensures { result ≡ self }
@@ -85,29 +107,51 @@ pub(crate) enum ServerWorker<J: Reception, E: Ledger, H: HandsOver, G: Gate + Co
     Datagrams(DatagramWorker<I, H>),
 }
 
-impl<J: Reception, E: Ledger, H: HandsOver, G: Gate + Copy + Drop, I: Inbox> ServerWorker<
-    J,
-    E,
-    H,
-    G,
-    I,
-> {
-    /// Works until there is nothing more to do.
-    fn work<L: Hall, R: Wait>(&mut self, rt: &R, listening: &Mutex<Listening<J, E, H, L>>)
-        ensures { Works (AnswersDatagrams (conduct_by H.Host) H.counted (box_by I.Inbox) I.faults) self.old self.new }
-    {
-        match self {
-            ServerWorker::Connections(connection_worker) => connection_worker.work(rt, listening),
+/// Works at places of a kind, at several at once.
+trait Work<P> {
+    /// What it makes of a place.
+    ghost works: { P → P → Type 0 };
+
+    /// Works at a place until there is nothing more to do.
+    fn work(&self, place: &mut P)
+        ensures { works place.old place.new };
+}
+
+/// What is lent to all places of a server: its listener.
+#[derive(Drop)]
+struct Lent<'a, J: Reception, E: Ledger, H: HandsOver, G, L: Hall, R> {
+    rt: &'a R,
+    listening: &'a Mutex<Listening<J, E, H, L, G>>,
+}
+
+impl<
+    'a,
+    J: Reception,
+    E: Ledger,
+    H: HandsOver,
+    G: Gate + Copy + Drop,
+    L: Hall,
+    I: Inbox,
+    R: Wait,
+> Work<ServerWorker<J, E, H, G, I>> for Lent<'a, J, E, H, G, L, R> {
+    ghost works = { Works (AnswersDatagrams (conduct_by H.Host) H.counted (box_by I.Inbox) I.faults) };
+
+    fn work(&self, place: &mut ServerWorker<J, E, H, G, I>) {
+        match place {
+            ServerWorker::Connections(connection_worker) => {
+                connection_worker.work(self.rt, self.listening)
+            }
             ServerWorker::Datagrams(datagram_worker) => datagram_worker.work(),
         }
     }
 }
 
 /// Serves the connections of a listener at all workers but the first, and the datagrams of an inbox at the first, side
-/// by side, until all have ended. What came of the connections and of the datagrams, and the sum of what was counted.
+/// by side, until all have ended. The last one does for all others what takes long. What came of the connections and of
+/// the datagrams, and the sum of what was counted.
 pub(crate) fn run_workers<J, E, H, G, L, I, R: Threads + Wait + Sync>(
     rt: &R,
-    listening: Listening<J, E, H, L>,
+    listening: Listening<J, E, H, L, G>,
     mut all_workers: Vec<ServerWorker<J, E, H, G, I>>,
     mut pass: Pass<J, E>,
 ) -> (L, Tally, EndedInbox<I>, H::Sum)
@@ -116,6 +160,7 @@ where
     E: Ledger + Send + Sync,
     H: HandsOver + Send + Drop,
     H::Sum: Send,
+    H::Front: Send,
     G: Gate + Copy + Send + Drop,
     I: Inbox + Send + Drop,
     L: Hall + Send,
@@ -123,10 +168,11 @@ where
     L::Out: Send,
     L::Closer: Send,
     L::Watch: Send,
+    L::Waker: Send,
     requires manned { (datagram_worker : DatagramWorker I H H.Count)
         × AreWorkers datagram_worker before_work all_workers.items }
     requires some { 1 < length all_workers.items }
-    requires parts { length all_workers.items ≡ J.parts }
+    requires parts { length all_workers.items + 1 ≡ J.parts }
     requires pass { pass ≡ before_work }
     ensures kept { IsListenerState J.opening (opening_by L.Hall result.0) result.1.connections result.1.listen_fault
         0 1 }
@@ -142,26 +188,29 @@ where
         → result.2.fault ≡ true → HasRisen (I.faults datagram_worker.inbox) (I.faults result.2.inbox) }
 {
     let listening = Mutex::new(listening);
-    work_all(rt, &listening, &mut all_workers);
+    work_beside(rt, &listening, &mut all_workers);
+    let mut maker = last_of(&mut all_workers);
+    let listening = maker.drain(rt, listening.into_inner());
+    pass.merge(maker.into_pass());
     let datagram_worker = gather(&mut pass, all_workers);
-    let (listen, tally, mut sum) = listening.into_inner().close(&mut pass);
+    let (listen, tally, mut sum) = listening.close(&mut pass);
     let mailed = datagram_worker.hand_over(&mut sum);
     sums_reach_further::<H>();
     (listen, tally, mailed, sum)
 }
 
-/// Works at all workers side by side, at each in a thread of its own, until all have ended. Where a thread can't be
-/// started, its work is done in another's.
-fn work_all<J, E, H, G, L, I, R: Threads + Wait + Sync>(
+/// Works at all places of a server side by side, until all have ended.
+fn work_beside<J, E, H, G, L, I, R: Threads + Wait + Sync>(
     rt: &R,
-    listening: &Mutex<Listening<J, E, H, L>>,
-    all_workers: &mut [ServerWorker<J, E, H, G, I>],
+    listening: &Mutex<Listening<J, E, H, L, G>>,
+    places: &mut [ServerWorker<J, E, H, G, I>],
 )
 where
     J: Reception + Send + Sync,
     E: Ledger + Send + Sync,
     H: HandsOver + Send + Drop,
     H::Sum: Send,
+    H::Front: Send,
     G: Gate + Copy + Send + Drop,
     I: Inbox + Send + Drop,
     L: Hall + Send,
@@ -169,16 +218,55 @@ where
     L::Out: Send,
     L::Closer: Send,
     L::Watch: Send,
-    ensures count { length all_workers.new ≡ length all_workers.old }
-    ensures works { AllWork (AnswersDatagrams (conduct_by H.Host) H.counted (box_by I.Inbox) I.faults) all_workers.old
-        all_workers.new }
+    L::Waker: Send,
+    ensures count { length places.new ≡ length places.old }
+    ensures works { AllWork (Works (AnswersDatagrams (conduct_by H.Host) H.counted (box_by I.Inbox) I.faults))
+        places.old places.new }
+{
+    let lent = Lent { rt, listening };
+    work_all(rt, &lent, places);
+}
+
+/// Works at all places side by side, at each in a thread of its own, until all have ended. Where a thread can't be
+/// started, its work is done in another's.
+fn work_all<P: Send, W: Work<P> + Sync, R: Threads + Sync>(rt: &R, work: &W, places: &mut [P])
+    ensures count { length places.new ≡ length places.old }
+    ensures works { AllWork W.works places.old places.new }
 {
     for_each_mut(
         rt,
-        all_workers,
-        WORKERS_MAX as usize + 1,
-        &|_, server_worker| server_worker.work(rt, listening),
+        places,
+        WORKERS_MAX as usize + 2,
+        &|_, place| work.work(place),
     );
+}
+
+/// Takes the last worker of connections away.
+fn last_of<J, E, H, G, I>(
+    all_workers: &mut Vec<ServerWorker<J, E, H, G, I>>,
+) -> ConnectionWorker<J, E, H, G>
+where
+    J: Reception,
+    E: Ledger,
+    H: HandsOver + Drop,
+    G: Gate + Copy + Drop,
+    I: Drop,
+    requires manned { (datagram_worker : DatagramWorker I H H.Count)
+        × AreWorkers datagram_worker after_work all_workers.old.items }
+    requires some { 1 < length all_workers.old.items }
+    ensures last { result ≡ after_work }
+    ensures others { (datagram_worker : DatagramWorker I H H.Count)
+        → AreWorkers datagram_worker after_work all_workers.old.items
+        → AreWorkers datagram_worker after_work all_workers.new.items }
+    ensures count { length all_workers.new.items + 1 ≡ length all_workers.old.items }
+{
+    let Some(server_worker) = all_workers.pop() else {
+        unreachable!()
+    };
+    let ServerWorker::Connections(last) = server_worker else {
+        unreachable!()
+    };
+    last
 }
 
 /// Takes in what each worker of connections holds, and answers the worker of datagrams, once all have ended.

@@ -8,8 +8,9 @@ use std::random::RandomSource;
 use yp_answer::session::End;
 use yp_board::Catalog;
 use yp_host::*;
-use yp_io::{MemDial, MemDisk, MemTexts, MemWire, SetClock, Source, Trail};
+use yp_io::{Source, Trail};
 use yp_map_file::SlotFault;
+use yp_memory::{MemDial, MemDisk, MemTexts, MemWire, SetClock};
 use yp_publisher::OpenFault;
 
 // A disk with this file. From call `stop` on its calls fail, and the call `failing` fails.

@@ -1,14 +1,12 @@
 //! Halls in memory, and what is taken of their connections.
 
-ghost use Rattle.yp_io.specs.inside.MemHall.{EntryIsNew};
+ghost use Rattle.yp_memory.specs.inside.MemHall.{EntryIsNew};
 
 use crate::given::named;
 use std::alloc::Global;
 use std::process::Abort;
-use yp_io::{
-    CallOrigin, Called, HallCall, HallCloser, MemHall, MemSink, MemSource, Notice, Pair, Peer,
-    Scheduled,
-};
+use yp_io::{CallOrigin, Called, Notice, Pair, Peer};
+use yp_memory::{HallCall, HallCloser, MemHall, MemSink, MemSource, Scheduled};
 
 /// What a caller sends, and which of the first 64 reads of it and which of the first 64 writes to it say "not now":
 /// two sets of numbers by their bits. A flush is a write, too.

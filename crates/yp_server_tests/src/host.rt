@@ -7,7 +7,8 @@ use std::process::Abort;
 use yp_answer::session::{End, Session};
 use yp_board::{Catalog, PlainBoard};
 use yp_host::*;
-use yp_io::{MemDial, MemDisk, MemTexts, Peer, SetClock, Trail};
+use yp_io::{Peer, Trail};
+use yp_memory::{MemDial, MemDisk, MemTexts, SetClock};
 use yp_publisher::open_publisher;
 
 type MemHost = LocalHost<MemDisk, PlainBoard, MemDial, MemTexts, SetClock, HostRuntime>;

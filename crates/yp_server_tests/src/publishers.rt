@@ -14,7 +14,7 @@ use std::random::RandomSource;
 use std::sync::{Arc, Wait};
 use yp_board::Catalog;
 use yp_board::readers::{Naming, Opened, Reader, Writer, board};
-use yp_io::MemDisk;
+use yp_memory::MemDisk;
 use yp_publisher::laws::starts_are_shown;
 use yp_publisher::{Loaded, Publisher, load_all};
 use yp_version::Version;
@@ -47,8 +47,8 @@ fn shown<R: Abort>(rt: &R, alloc: Global, loaded: &Loaded<MemDisk>) -> Vec<Optio
     shown
 }
 
-/// A publisher of hosts.byname of `lab` with this file, on a host of this name, and so many readers of its board, 1 to
-/// 9.
+/// A publisher of hosts.byname of `lab` with this file, on a host of this name, and so many readers of its board, at
+/// least one.
 pub fn publisher<'r, J: Naming, R: Wait + RandomSource + Abort>(
     rt: &'r R,
     alloc: Global,
@@ -58,7 +58,7 @@ pub fn publisher<'r, J: Naming, R: Wait + RandomSource + Abort>(
     readers: u32,
 ) -> (Maps<'r, J, R>, Vec<Reader<J>>)
     requires opened { opened ≡ J.book }
-    requires readers { (1 ≤ readers) × (readers ≤ 9) }
+    requires readers { 1 ≤ readers }
     ensures count { length result.1.items ≡ readers }
     ensures seen { All (λ reader. reader.catalogue ≡ result.0.catalogue) result.1.items }
     ensures known { All (λ reader. IsAtStart result.0.catalogue result.0.board.log reader) result.1.items }

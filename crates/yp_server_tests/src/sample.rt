@@ -1,7 +1,7 @@
 //! Calls, replies and files, written out by hand from RFC 5531 sections 9 and 11, yp.x and docs/FORMATS.md, and what
 //! hosts and connections are made of.
 
-ghost use Rattle.yp_io.specs.inside.MemDial.{WireIsNew};
+ghost use Rattle.yp_memory.specs.inside.MemDial.{WireIsNew};
 
 use crate::given::{NEVER, named};
 use std::alloc::Global;
@@ -9,10 +9,9 @@ use std::process::Abort;
 use std::random::RandomSource;
 use yp_board::{Catalog, MapName};
 use yp_host::Desk;
-use yp_io::{
-    MemDial, MemDisk, MemSink, MemSource, MemTexts, MemWire, Pair, Peer, Sending, SetClock,
-};
+use yp_io::{Pair, Peer, Sending};
 use yp_map_file::Slot;
+use yp_memory::{MemDial, MemDisk, MemSink, MemSource, MemTexts, MemWire, SetClock};
 use yp_transfer::Hosts;
 
 // Names of words of calls, replies and files.
@@ -137,7 +136,7 @@ fn load_stored(
     slot: &mut Slot<MemDisk>,
 ) -> Stored {
     let shown = match slot.load(alloc, random).expect(rt, "a file") {
-        Some(version) => Some((version.order(), version.secure())),
+        Some(version) => Some((version.order().number(), version.secure())),
         None => None,
     };
     (shown, slot.generation())

@@ -7,7 +7,7 @@ use std::alloc::Global;
 use std::process::Abort;
 use std::random::RandomSource;
 use yp_answer::session::End;
-use yp_io::MemDisk;
+use yp_memory::MemDisk;
 
 // The host that the table has, what the source sends, and the calls of XFR and MATCH. What comes of it: what is posted,
 // if anything, the replies, and the file.

@@ -1,17 +1,19 @@
 //! What comes of a run, and what a row wants of it.
 
-use crate::outside::{Memory, bytes_of};
+use crate::hall::StageHall;
+use crate::outside::{FIRST_PORT, Memory, bytes_of};
 use crate::row::{Datagram, Row, Stands};
 use std::alloc::{AllocError, Global};
 use std::random::RandomSource;
-use yp_io::{HallCall, Letter, MemDial, MemDisk, MemHall, Peer, Sending};
+use yp_io::{Letter, Peer, Sending};
 use yp_map_file::Slot;
+use yp_memory::{HallCall, MemDial, MemDisk};
 use yp_program::{NamedDisk, Status};
 
 /// What came of a run, or what a row wants, as a text with a line for each thing that a row looks at, in one order: the
 /// status, the output and the note; the letters and the turns of the inbox; the letters and the wires of the dial, and
-/// how many bytes the first wire took; what each connection had taken that went back; and what the first file stands
-/// for, and its bytes.
+/// how many bytes the first wire took; what each connection had taken that went back, in the order in which they
+/// came; and what the first file stands for, and its bytes.
 #[derive(Drop)]
 pub struct Ended {
     text: String,
@@ -81,7 +83,7 @@ pub fn stands_of(alloc: Global, rt: &impl RandomSource, file: &[u8]) -> Result<S
     let file = Vec::from_slice(alloc, file)?;
     let disk = MemDisk::new(alloc, file, None, Vec::new(alloc));
     match Slot::new(disk).load(alloc, rt) {
-        Ok(Some(version)) => Ok(Some((version.order(), version.len(), version.secure()))),
+        Ok(Some(version)) => Ok(Some((version.order().number(), version.len(), version.secure()))),
         _ => Ok(None),
     }
 }
@@ -104,16 +106,29 @@ fn put_dialed(ended: &mut Ended, alloc: Global, sendings: &[Sending]) -> Result<
     Ok(())
 }
 
-fn put_taken(ended: &mut Ended, alloc: Global, calls: &[HallCall]) -> Result<(), AllocError> {
+// What the connection from this port has taken, where it is one of these.
+fn put_taken(
+    ended: &mut Ended,
+    alloc: Global,
+    calls: &[HallCall],
+    port: u16,
+) -> Result<(), AllocError> {
     for call in calls {
-        ended.bytes(alloc, "taken", call.wire.sink.wire.taken())?;
+        if call.origin.peer().port == port {
+            ended.bytes(alloc, "taken", call.wire.sink.wire.taken())?;
+        }
     }
     Ok(())
 }
 
-fn put_closed(ended: &mut Ended, alloc: Global, listen: &MemHall) -> Result<(), AllocError> {
-    for closer in listen.closers() {
-        put_taken(ended, alloc, closer.calls())?;
+// In the order in which the connections came, whichever worker closed them.
+fn put_closed(ended: &mut Ended, alloc: Global, listen: &StageHall) -> Result<(), AllocError> {
+    let mut port = FIRST_PORT;
+    for _ in 0..listen.accepted() {
+        for closer in listen.closers() {
+            put_taken(ended, alloc, closer.calls(), port)?;
+        }
+        port = port.saturating_add(1);
     }
     Ok(())
 }

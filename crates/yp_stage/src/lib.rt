@@ -3,6 +3,7 @@
 #![tactic(auto)]
 
 mod ended;
+mod hall;
 mod outside;
 mod row;
 mod stage;

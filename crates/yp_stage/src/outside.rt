@@ -1,17 +1,19 @@
 //! The outside of a row, over memory.
 
 ghost use Rattle.std.specs.Prelude.{◌≡◌, All, IfOk};
-ghost use Rattle.yp_io.specs.inside.MemDial.{WireIsNew};
-ghost use Rattle.yp_io.specs.inside.MemHall.{EntryIsNew};
+ghost use Rattle.yp_memory.specs.inside.MemDial.{WireIsNew};
+ghost use Rattle.yp_memory.specs.inside.MemHall.{EntryIsNew};
 ghost use Rattle.yp_command.specs.Words.{disk_names, texts};
 ghost use Rattle.yp_command.specs.office.Disks.{names_of};
 
+use crate::hall::StageHall;
 use crate::row::{Datagram, NEVER, Row, Words};
 use std::alloc::{AllocError, Global};
 use yp_board::MapName;
-use yp_io::{
-    CallOrigin, Called, HallCall, Letter, MemDial, MemDisk, MemHall, MemInbox, MemSink, MemSource,
-    MemTexts, MemWire, OWN_HOST, Pair, Peer, Scheduled, SetClock,
+use yp_io::{CallOrigin, Called, Letter, OWN_HOST, Pair, Peer};
+use yp_memory::{
+    HallCall, MemDial, MemDisk, MemHall, MemInbox, MemSink, MemSource, MemTexts, MemWire,
+    Scheduled, SetClock,
 };
 use yp_program::{NamedDisk, Outside, disk_names, named_disks};
 
@@ -21,7 +23,7 @@ pub type Memory = Outside<
     MemSink,
     MemDisk,
     SetClock,
-    MemHall,
+    StageHall,
     MemDial,
     MemInbox,
     MemTexts,
@@ -157,15 +159,14 @@ fn texts_of(alloc: Global, row: &Row) -> Result<MemTexts, AllocError> {
     Ok(MemTexts::new(texts, failing))
 }
 
-/// Who calls by connections.
-const CALLER: Peer = Peer {
-    addr: OWN_HOST,
-    port: 40_000,
-};
+/// The port from which the first connection comes. Each one behind it comes from the next port.
+pub const FIRST_PORT: u16 = 40_000;
 
-/// A connection that sends these words and can always go on, and the read, and the write or flush, of it that fail.
+/// A connection from this port that sends these words and can always go on, and the read, and the write or flush, of it
+/// that fail.
 fn call_of(
     alloc: Global,
+    port: u16,
     words: &[&str],
     piece: usize,
     reads: u64,
@@ -179,30 +180,37 @@ fn call_of(
         source: Scheduled::new(source, Vec::new(alloc)),
         sink: Scheduled::new(sink, Vec::new(alloc)),
     };
+    let caller = Peer {
+        addr: OWN_HOST,
+        port,
+    };
     Ok(Called {
-        origin: CallOrigin::new(CALLER, &wire),
+        origin: CallOrigin::new(caller, &wire),
         wire,
     })
 }
 
 /// The listener. The first connection alone has calls that fail.
-fn hall_of(alloc: Global, row: &Row) -> Result<MemHall, AllocError> {
+fn hall_of(alloc: Global, row: &Row) -> Result<StageHall, AllocError> {
     let failing = plan(alloc, row.accepts)?;
     let (mut reads, mut writes) = (row.call_reads, row.call_writes);
+    let mut port = FIRST_PORT;
     let mut calls = Vec::new(alloc);
     for words in row.calls {
-        let call = call_of(alloc, *words, row.piece, reads, writes)?;
+        let call = call_of(alloc, port, *words, row.piece, reads, writes)?;
         calls.push(call)?;
         (reads, writes) = (NEVER, NEVER);
+        port = port.saturating_add(1);
     }
-    Ok(MemHall::new(
+    let hall = MemHall::new(
         alloc,
         calls,
         row.most,
         failing,
         Vec::new(alloc),
         Vec::new(alloc),
-    ))
+    );
+    Ok(StageHall::new(alloc, hall))
 }
 
 /// The streams of a row.
@@ -227,7 +235,7 @@ fn streams_of(alloc: Global, row: &Row, input: &[u8]) -> Result<Streams, AllocEr
 /// What a row has of the network, with a first wire that gives these bytes.
 #[derive(Drop)]
 struct Network {
-    listen: MemHall,
+    listen: StageHall,
     dial: MemDial,
     inbox: MemInbox,
 }

@@ -60,8 +60,8 @@ pub struct Row {
     pub brings: &'static [Datagram],
     pub inbox: u64,
     /// What each connection sends that calls, in turn, how many of them are to be accepted, and the call of the
-    /// listener that fails: a watch or an accept; and the read, and the write or flush, of the first connection that
-    /// fail.
+    /// listener that fails: a watch of the door or an accept; and the read, and the write or flush, of the first
+    /// connection that fail.
     pub calls: &'static [Words],
     pub most: u32,
     pub accepts: u64,
@@ -86,7 +86,7 @@ pub struct Row {
     pub posts: &'static [Datagram],
     pub wires: usize,
     pub asked: usize,
-    /// What each connection has taken that went back.
+    /// What each connection has taken that went back, in the order in which they came.
     pub takes: &'static [Words],
     /// What the first file stands for then; and its bytes, where it may not be torn.
     pub stands: Stands,

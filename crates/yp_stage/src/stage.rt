@@ -12,7 +12,7 @@ use std::random::RandomSource;
 use std::sync::Wait;
 use std::thread::Threads;
 use std::time::Clock;
-use yp_io::MemDisk;
+use yp_memory::MemDisk;
 use yp_program::{NamedDisk, Status, run};
 
 /// What is wrong with a row.

@@ -168,14 +168,14 @@ impl Calls {
             self.callers.push(None).ok()?;
             return u32::try_from(self.callers.len() - 1).ok();
         }
-        let place = self.places.oldest(now)?;
+        let place = self.places.oldest(now, Duration::ZERO)?;
         self.let_go(place);
         Some(place)
     }
 
     // Lets the caller go that was idle longest, if there is one.
     fn let_oldest_go(&mut self, now: Instant) -> bool {
-        match self.places.oldest(now) {
+        match self.places.oldest(now, Duration::ZERO) {
             Some(place) => {
                 self.let_go(place);
                 true

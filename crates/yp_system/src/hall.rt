@@ -10,7 +10,7 @@ use crate::inbox::peer_of;
 use crate::places::Limits;
 use crate::reserved::{accept_socket, check};
 use crate::socket::{SocketSink, SocketSource};
-use crate::watch::{Door, TcpWatch};
+use crate::watch::{Door, TcpWaker, TcpWatch};
 use libc::net::{IPPROTO_TCP, TCP_NODELAY, setsockopt};
 use mio::net::{TcpListener, TcpStream};
 use std::alloc::Global;
@@ -155,6 +155,7 @@ fn opened<'a, R: Net>(
         let new = Door {
             listener: listen_at(net, port)?,
             is_short: AtomicBool::new(false),
+            is_held: AtomicBool::new(false),
             is_closed: AtomicBool::new(false),
         };
         *door = Some(shared(alloc, new)?);
@@ -243,6 +244,8 @@ impl<R: Net + Clock + Copy + Drop> Hall for TcpHall<R> {
 
     type Closer = TcpCloser;
 
+    type Waker = TcpWaker;
+
     type Watch = TcpWatch<R>;
 
     ghost past = { λ _. None };
@@ -282,14 +285,15 @@ impl<R: Net + Clock + Copy + Drop> Hall for TcpHall<R> {
 
     /// It fails where the port can't be opened, or the system gives no more to watch by; then no watch tells of the
     /// door any more. Where no more are to be accepted no port is opened.
-    fn watch(&mut self) -> Result<TcpWatch<R>, Failed> {
+    fn watch(&mut self, is_at_door: bool) -> Result<TcpWatch<R>, Failed> {
         let watch = if self.accepted == self.most {
-            TcpWatch::new(self.alloc, self.system, None, self.limits)
+            TcpWatch::new(self.alloc, self.system, None, is_at_door, self.limits)
         } else {
             opened_watch(
                 self.alloc,
                 self.system,
                 self.port,
+                is_at_door,
                 self.limits,
                 &mut self.door,
             )
@@ -329,11 +333,12 @@ impl<R: Net + Clock + Copy + Drop> Hall for TcpHall<R> {
     }
 }
 
-// A watch of the door at a port.
+// A watch by the door at a port.
 fn opened_watch<R: Net + Clock + Drop>(
     alloc: Global,
     system: R,
     port: u16,
+    is_at_door: bool,
     limits: Limits,
     door: &mut Option<Arc<Door>>,
 ) -> io::Result<TcpWatch<R>>
@@ -342,5 +347,5 @@ fn opened_watch<R: Net + Clock + Drop>(
     let Ok(same) = opened(alloc, &system, port, door)?.clone() else {
         return Err(ErrorKind::OutOfMemory.into());
     };
-    TcpWatch::new(alloc, system, Some(same), limits)
+    TcpWatch::new(alloc, system, Some(same), is_at_door, limits)
 }

@@ -268,14 +268,25 @@ impl Places {
             .or_else(|| self.late_for(Awaited::Record, now, limits))
     }
 
-    /// Who was idle longest, else who has been waited for longest. Its time begins anew.
-    pub fn oldest(&mut self, now: Instant) -> Option<u32> {
+    /// Whether nobody is waited for.
+    pub fn is_empty(&self) -> bool {
+        self.records.first().is_none()
+            && self.rests.first().is_none()
+            && self.payments.first().is_none()
+    }
+
+    /// Who was idle longest, else who has been waited for longest, where that is at least so long. Its time begins anew.
+    pub fn oldest(&mut self, now: Instant, least: Duration) -> Option<u32> {
         let place = self
             .records
             .first()
             .or(self.rests.first())
             .or(self.payments.first())?;
-        self.await_from(place, self.at(place)?.what, now);
+        let entry = self.at(place)?;
+        if now.saturating_duration_since(entry.since) < least {
+            return None;
+        }
+        self.await_from(place, entry.what, now);
         Some(place)
     }
 

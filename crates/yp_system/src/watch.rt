@@ -4,10 +4,10 @@ ghost use Rattle.std.specs.Prelude.{◌≡◌, IfOk};
 
 use crate::epoll::{tell_no_more, tell_of, tell_of_callers, tell_turned};
 use crate::places::{Limits, Places};
-use crate::socket::{SocketSink, SocketSource};
+use crate::socket::SocketSource;
 use mio::net::TcpListener;
 use mio::unix::SourceFd;
-use mio::{Events, Interest, Poll, Token};
+use mio::{Events, Interest, Poll, Token, Waker};
 use std::alloc::Global;
 use std::io;
 use std::io::ErrorKind;
@@ -17,7 +17,7 @@ use std::sync::Arc;
 use std::sync::atomic::{AtomicBool, Ordering};
 use std::thread::sleep;
 use std::time::{Clock, Duration, Instant};
-use yp_io::{Awaited, Failed, Notice, Pair, Watch, count_fault};
+use yp_io::{Awaited, Failed, Notice, Wake, Watch, count_fault};
 
 /// A listening socket that the watches of all workers have in common.
 #[derive(Drop)]
@@ -25,12 +25,17 @@ pub(crate) struct Door {
     pub listener: TcpListener,
     /// Whether an accept found no descriptor left.
     pub is_short: AtomicBool,
+    /// Whether the watch that isn't told of the door has connections.
+    pub is_held: AtomicBool,
     /// Whether nobody is let in any more.
     pub is_closed: AtomicBool,
 }
 
 // The number by which the system tells of the door.
 const DOOR: Token = Token(usize::MAX);
+
+// The number by which it tells that the watch was woken.
+const WOKEN: Token = Token(usize::MAX - 1);
 
 // How much the system tells at once.
 const EVENTS: usize = 256;
@@ -65,9 +70,11 @@ enum DoorState {
 pub struct TcpWatch<R> {
     system: R,
     door: Option<Arc<Door>>,
-    door_state: DoorState,
-    // whether the system tells of the door, and whether anybody has entered since it was asked for that
+    // Whether the system is to tell of the door. Else the door only says whether descriptors are short.
     is_at_door: bool,
+    door_state: DoorState,
+    // Whether it does, and whether anybody has entered since it was asked for that.
+    is_told: bool,
     has_let_in: bool,
     poll: Poll,
     events: Events,
@@ -75,6 +82,19 @@ pub struct TcpWatch<R> {
     limits: Limits,
     now: Instant,
     let_go: u64,
+}
+
+/// What wakes such a watch.
+#[derive(Drop)]
+pub struct TcpWaker {
+    waker: Waker,
+}
+
+impl Wake for TcpWaker {
+    fn wake(&self) {
+        // Where it fails, the worker looks within a second.
+        let _ = self.waker.wake();
+    }
 }
 
 // Has the system tell of a socket by this number, also of what it has come to before.
@@ -96,17 +116,18 @@ pub(crate) fn register(
 }
 
 impl<R: Net + Clock + Drop> TcpWatch<R> {
-    /// A watch of the door alone, where there is one.
+    /// A watch of the door alone, where there is one and it is to be told of that.
     pub(crate) fn new(
         alloc: Global,
         system: R,
         door: Option<Arc<Door>>,
+        is_at_door: bool,
         limits: Limits,
     ) -> io::Result<TcpWatch<R>>
         ensures { IfOk result (λ watch. ⟦<TcpWatch<R> as Watch>⟧.let_go watch ≡ 0) }
     {
         let poll = Poll::new(&system)?;
-        if let Some(door) = &door {
+        if is_at_door && let Some(door) = &door {
             tell_of_callers(&poll, door.listener.as_raw_fd(), DOOR)?;
         }
         let Ok(events) = Events::with_capacity(alloc, EVENTS) else {
@@ -115,9 +136,10 @@ impl<R: Net + Clock + Drop> TcpWatch<R> {
         let now = Instant::now(&system)?;
         Ok(TcpWatch {
             system,
-            is_at_door: door.is_some(),
+            is_told: is_at_door && door.is_some(),
             has_let_in: false,
             door,
+            is_at_door,
             door_state: DoorState::Pending,
             poll,
             events,
@@ -138,29 +160,65 @@ impl<R: Net + Clock + Drop> TcpWatch<R> {
         self.now
     }
 
-    // One that is to be let go, where descriptors are short.
+    // One that is to be let go, where descriptors are short. Where it has none, another watch may have one.
     fn relief(&mut self) -> Option<u32>
         ensures let_go { self.new.let_go ≡ self.old.let_go }
     {
-        let Some(door) = &self.door else {
-            return None;
-        };
-        if !door.is_short.load(Ordering::SeqCst) {
+        if !self.is_short() {
             return None;
         }
-        let door = &**door;
-        let now = Instant::now(&self.system).unwrap_or(self.now);
-        self.now = now;
-        match self.places.oldest(now) {
-            Some(oldest) if door.is_short.swap(false, Ordering::SeqCst) => Some(oldest),
-            Some(_) => None,
-            // It is left to those who have somebody to let go.
-            None => {
-                if self.door_state == DoorState::Told {
-                    self.door_state = DoorState::Pausing;
-                }
-                None
+        let now = self.time();
+        let least = self.least_idle();
+        let oldest = self.places.oldest(now, least);
+        if oldest.is_none() {
+            self.pause();
+            return None;
+        }
+        if self.ends_shortage() { oldest } else { None }
+    }
+
+    // Whether an accept found no descriptor left, for which nobody was let go yet.
+    fn is_short(&self) -> bool {
+        match &self.door {
+            Some(door) => door.is_short.load(Ordering::SeqCst),
+            None => false,
+        }
+    }
+
+    // Whether it is the one that lets somebody go.
+    fn ends_shortage(&self) -> bool {
+        match &self.door {
+            Some(door) => door.is_short.swap(false, Ordering::SeqCst),
+            None => false,
+        }
+    }
+
+    // How long whom it lets go has to have been idle: a second where there may be one elsewhere who was for longer.
+    fn least_idle(&self) -> Duration {
+        match &self.door {
+            Some(door) if self.is_at_door && door.is_held.load(Ordering::SeqCst) => {
+                Duration::from_millis(WAIT_MILLIS)
             }
+            _ => Duration::ZERO,
+        }
+    }
+
+    // Tells the watches at the door whether it has connections, where it isn't told of the door itself.
+    fn tell_held(&self) {
+        if let Some(door) = &self.door
+            && !self.is_at_door
+        {
+            door.is_held
+                .store(!self.places.is_empty(), Ordering::SeqCst);
+        }
+    }
+
+    // Has the door told again behind a pause, where it was told.
+    fn pause(&mut self)
+        ensures let_go { self.new.let_go ≡ self.old.let_go }
+    {
+        if self.is_at_door && self.door_state == DoorState::Told {
+            self.door_state = DoorState::Pausing;
         }
     }
 
@@ -212,6 +270,9 @@ impl<R: Net + Clock + Drop> TcpWatch<R> {
             return;
         };
         let socket = door.listener.as_raw_fd();
+        if !self.is_at_door {
+            return;
+        }
         if door.is_closed.load(Ordering::SeqCst) {
             self.leave_door();
             return;
@@ -219,10 +280,10 @@ impl<R: Net + Clock + Drop> TcpWatch<R> {
         if self.has_let_in {
             self.leave_door();
         }
-        if !self.is_at_door {
-            self.is_at_door = tell_of_callers(&self.poll, socket, DOOR).is_ok();
+        if !self.is_told {
+            self.is_told = tell_of_callers(&self.poll, socket, DOOR).is_ok();
         }
-        if self.is_at_door {
+        if self.is_told {
             self.has_let_in = false;
             self.door_state = DoorState::Watched;
         }
@@ -233,10 +294,10 @@ impl<R: Net + Clock + Drop> TcpWatch<R> {
         ensures let_go { self.new.let_go ≡ self.old.let_go }
     {
         if let Some(door) = &self.door
-            && self.is_at_door
+            && self.is_told
         {
             let _ = tell_no_more(&self.poll, door.listener.as_raw_fd());
-            self.is_at_door = false;
+            self.is_told = false;
         }
     }
 
@@ -246,7 +307,7 @@ impl<R: Net + Clock + Drop> TcpWatch<R> {
     {
         for event in &self.events {
             match event.token() {
-                DOOR => self.door_state = DoorState::Pending,
+                DOOR | WOKEN => self.door_state = DoorState::Pending,
                 Token(number) => self.places.mark_ready(number),
             }
         }
@@ -299,14 +360,22 @@ impl<R: Net + Clock + Drop> TcpWatch<R> {
 impl<R: Net + Clock + Drop> Watch for TcpWatch<R> {
     type In = SocketSource;
 
-    type Out = SocketSink;
+    type Waker = TcpWaker;
 
     ghost let_go = { λ w. w.let_go };
 
+    /// There is none where the system gives no descriptor for it.
+    fn waker(&self) -> Option<TcpWaker> {
+        match Waker::new(self.poll.registry(), WOKEN) {
+            Ok(waker) => Some(TcpWaker { waker }),
+            Err(_) => None,
+        }
+    }
+
     /// It fails where memory has run out, or the system can't watch so many.
-    fn enter(&mut self, place: u32, wire: &Pair<SocketSource, SocketSink>) -> Result<(), Failed> {
+    fn enter(&mut self, place: u32, source: &SocketSource) -> Result<(), Failed> {
         let now = self.time();
-        let socket = wire.source.descriptor();
+        let socket = source.descriptor();
         let Ok(number) = self.places.enter(place, socket, now) else {
             return Err(count_fault(&mut self.let_go));
         };
@@ -314,6 +383,7 @@ impl<R: Net + Clock + Drop> Watch for TcpWatch<R> {
             Ok(()) => {
                 self.has_let_in = true;
                 self.places.go_at_once(place);
+                self.tell_held();
                 Ok(())
             }
             Err(_) => {
@@ -335,8 +405,14 @@ impl<R: Net + Clock + Drop> Watch for TcpWatch<R> {
         self.places.go_again(place);
     }
 
+    /// The system tells nothing more of it here, so it can be watched elsewhere.
     fn leave(&mut self, place: u32) {
+        if let Some(socket) = self.places.socket(place) {
+            // One that was closed meanwhile isn't watched any more.
+            let _ = tell_no_more(&self.poll, socket);
+        }
         self.places.leave(place);
+        self.tell_held();
     }
 
     fn next(&mut self) -> Notice {

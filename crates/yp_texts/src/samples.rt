@@ -11,7 +11,7 @@ use crate::fault::BuildFault;
 use crate::push::push_row;
 use std::alloc::{AllocError, Global};
 use std::random::RandomSource;
-use yp_version::{ROWS_MAX, Version, VersionBuilder};
+use yp_version::{Order, ROWS_MAX, Version, VersionBuilder};
 
 const MULTIPLIER: u64 = 1_664_525;
 
@@ -120,7 +120,7 @@ pub fn sample(
             line: ROWS_MAX as u32 + 1,
         });
     }
-    let mut builder = VersionBuilder::new(alloc, rt, 1, b"sample")?;
+    let mut builder = VersionBuilder::new(alloc, rt, Order(1), b"sample")?;
     push_samples(alloc, start, n, &mut builder)?;
     Ok(builder.finish()?.indexed(alloc))
 }

@@ -11,7 +11,7 @@ use crate::push::rows_of;
 use crate::reading::Reading;
 use std::alloc::Global;
 use std::random::RandomSource;
-use yp_version::{Version, VersionBuilder};
+use yp_version::{Order, Version, VersionBuilder};
 
 /// Builds a version of a text at a moment, in seconds, where `previous` is the order of the last version. The text is
 /// let go before its rows are sorted, which takes as much memory again as they have.
@@ -20,7 +20,7 @@ pub fn build(
     rt: &impl RandomSource,
     reading: Reading,
     text: Vec<u8>,
-    previous: Option<u32>,
+    previous: Option<Order>,
     now: u32,
     master: &[u8],
 ) -> Result<Version, BuildFault>

@@ -1,6 +1,6 @@
 -- How a map is fetched (ypxfr): ORDER, MASTER, ALL and again ORDER are asked, each where the one before it had a value
 -- against which nothing stands.
-use Rattle.std.specs.Prelude.{◌≡◌, ◌⊎◌, ℕ, ◌==◌, ◌||◌, nat_le, Bool, List, [], length, Option, None, Some, Result, Ok}
+use Rattle.std.specs.Prelude.{◌≡◌, ◌⊎◌, ℕ, ◌==◌, ◌||◌, nat_le, Bool, List, length, Option, None, Some, Result, Ok}
 use Rattle.std.specs.Prelude.{Err, if◌then◌else◌}
 use Rattle.yp_version.specs.Rows.{listed}
 use Rattle.yp_version.specs.Versions.{MapVersion, unmarked}

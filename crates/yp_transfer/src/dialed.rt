@@ -14,7 +14,7 @@ use std::alloc::Global;
 use std::random::RandomSource;
 use yp_client::{Unconnected, connect};
 use yp_io::{Dial, Peer};
-use yp_version::Version;
+use yp_version::{Order, Version};
 
 /// Finds the source in the table, dials it, fetches a map from it, and gives the wire back, with every outcome.
 ///
@@ -28,7 +28,7 @@ pub fn fetch_from<A: Dial>(
     source: &[u8],
     domain: &[u8],
     map: &[u8],
-    shown: Option<u32>,
+    shown: Option<Order>,
     force: bool,
 ) -> Result<Version, XfrFault>
     requires domain { length domain.now ≤ name_max }

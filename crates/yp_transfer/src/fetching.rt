@@ -15,7 +15,7 @@ use std::random::RandomSource;
 use yp_client::Client;
 use yp_io::{NoMemory, Sink, Source};
 use yp_messages::protocol::NAME_MAX;
-use yp_version::{Version, VersionBuilder};
+use yp_version::{Order, Version, VersionBuilder};
 
 /// Fetches a map of a domain from the server that the client calls: ORDER, MASTER, ALL and again ORDER, each where
 /// nothing stands against it. The rows go from the reply into the version, which isn't secure.
@@ -28,7 +28,7 @@ pub fn fetch<S: Source, K: Sink>(
     client: &mut Client<S, K>,
     domain: &[u8],
     map: &[u8],
-    shown: Option<u32>,
+    shown: Option<Order>,
     force: bool,
 ) -> Result<Version, XfrFault>
     requires domain { length domain.now ≤ name_max }
@@ -53,7 +53,7 @@ fn fetch_by_calls<S: Source, K: Sink>(
     client: &mut Client<S, K>,
     domain: &[u8],
     map: &[u8],
-    shown: Option<u32>,
+    shown: Option<Order>,
     force: bool,
 ) -> Result<Version, XfrFault>
     requires domain { length domain.now ≤ name_max }
@@ -75,13 +75,13 @@ fn fetch_by_calls<S: Source, K: Sink>(
 }
 
 /// Why a version with this order isn't fetched.
-pub fn against_order(shown: Option<u32>, force: bool, order: u32) -> Option<XfrFault>
+pub fn against_order(shown: Option<Order>, force: bool, order: Order) -> Option<XfrFault>
     ensures { result ≡ against_order (wanted_of [] [] shown force) order }
 {
     match shown {
         Some(shown) if !force && order <= shown => Some(XfrFault::Age {
-            shown,
-            offered: order,
+            shown: shown.number(),
+            offered: order.number(),
         }),
         _ => None,
     }
@@ -94,7 +94,7 @@ fn fetch_newer<S: Source, K: Sink>(
     client: &mut Client<S, K>,
     domain: &[u8],
     map: &[u8],
-    order: u32,
+    order: Order,
 ) -> Result<Version, XfrFault>
     requires domain { length domain.now ≤ name_max }
     requires map { length map.now ≤ name_max }
@@ -115,7 +115,7 @@ fn fetch_newer<S: Source, K: Sink>(
 pub fn begin(
     alloc: Global,
     rt: &impl RandomSource,
-    order: u32,
+    order: Order,
     master: &[u8],
 ) -> Result<VersionBuilder, XfrFault>
     ensures { BeginsDraft order master.now result }
@@ -161,9 +161,9 @@ fn fetch_second<S: Source, K: Sink>(
     ensures { AsksAgain (by_calls domain.now map.now) builder result
         (state_of S.Source K.Sink client.old) (state_of S.Source K.Sink client.new) }
 {
-    let first = builder.order();
+    let first = builder.order().number();
     let second = match client.order(domain, map) {
-        Ok(second) => second,
+        Ok(order) => order.number(),
         Err(fault) => return Err(fault.into()),
     };
     if first != second {

@@ -3,7 +3,8 @@
 use crate::given::{FAIR, SOURCE, assert_same, bytes, dial, list};
 use std::alloc::Global;
 use std::process::Abort;
-use yp_io::{MemDial, Peer, Sending};
+use yp_io::{Peer, Sending};
+use yp_memory::MemDial;
 use yp_messages::XfrStat;
 use yp_transfer::{Asker, call_back, tell_back};
 

@@ -7,10 +7,10 @@ use crate::given::{
 use std::alloc::Global;
 use std::process::Abort;
 use std::random::RandomSource;
-use yp_io::MemDial;
+use yp_memory::MemDial;
 use yp_messages::YpStat;
 use yp_transfer::{Hosts, XfrFault, fetch_from};
-use yp_version::Version;
+use yp_version::{Order, Version};
 
 /// A version: its order, its master, whether it is secure, how many rows it has, and the first one.
 type Seen<'a> = (u32, &'a [u8], bool, usize, Option<(&'a [u8], &'a [u8])>);
@@ -46,7 +46,7 @@ const FIRST: Case = Case {
 fn seen(fetched: &Result<Version, XfrFault>) -> Result<Seen<'_>, XfrFault> {
     match fetched {
         Ok(version) => Ok((
-            version.order(),
+            version.order().number(),
             version.master(),
             version.secure(),
             version.len(),
@@ -66,6 +66,7 @@ fn fetch_over<R: RandomSource>(
     force: bool,
 ) -> Result<Version, XfrFault> {
     let map = b"hosts.byname";
+    let shown = shown.map(|number| Order(number));
     fetch_from(alloc, rt, dial, hosts, b"m1", b"lab", map, shown, force)
 }
 

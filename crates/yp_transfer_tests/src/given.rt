@@ -3,7 +3,8 @@
 use std::alloc::Global;
 use std::fmt::Debug;
 use std::process::Abort;
-use yp_io::{MemDial, MemSink, MemSource, Pair, Peer};
+use yp_io::{Pair, Peer};
+use yp_memory::{MemDial, MemSink, MemSource};
 use yp_transfer::Hosts;
 
 /// The bytes of texts of hexadecimal words, as `8000004c 00000001`.

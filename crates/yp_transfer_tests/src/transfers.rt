@@ -11,9 +11,11 @@ use std::alloc::Global;
 use std::process::Abort;
 use std::random::RandomSource;
 use yp_board::{Catalog, MapName, PlainBoard};
-use yp_io::{MemDial, MemDisk, Peer};
+use yp_io::Peer;
+use yp_memory::{MemDial, MemDisk};
 use yp_publisher::{Installed, Publisher, open_publisher};
 use yp_transfer::{Asker, Hosts, XfrFault, transfer, transfer_for};
+use yp_version::Order;
 
 // The cells of a file of one version, at generation 1, and the second one of a file of two: the body behind the first.
 const CELLS: &str = "01000000 00000000 00000000 00000001 00000000 00000040 00000000 00000034
@@ -89,7 +91,7 @@ fn transfer_over<R: RandomSource + Abort>(
 ) -> Came {
     assert!(rt; 0 < maps.catalog().len());
     let came = match transfer(alloc, rt, maps, dial, hosts, 0, b"m1", force, mark) {
-        Ok(Installed { order, generation }) => Ok((order, generation)),
+        Ok(Installed { order, generation }) => Ok((order.number(), generation)),
         Err(fault) => Err(fault),
     };
     let secure = match maps.shown(0) {

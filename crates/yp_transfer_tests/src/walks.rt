@@ -13,6 +13,7 @@ use yp_io::Peer;
 use yp_messages::YpStat;
 use yp_transfer::XfrFault;
 use yp_transfer::walk::{Walk, Walked};
+use yp_version::Order;
 
 const SOURCE: Peer = Peer {
     addr: [127, 0, 0, 1],
@@ -166,7 +167,7 @@ fn asks(walk: &Walk) -> End {
 }
 
 // A walk over `hosts.byname` of `lab`.
-fn hosts_walk<R: Abort>(rt: &R, alloc: Global, shown: Option<u32>, force: bool) -> Walk
+fn hosts_walk<R: Abort>(rt: &R, alloc: Global, shown: Option<Order>, force: bool) -> Walk
     ensures { IsAsking result.standing }
 {
     Walk::new(alloc, SOURCE, b"lab", b"hosts.byname", shown, force).expect(rt, "a walk")
@@ -533,7 +534,7 @@ static SHOWN: [Shown; 4] = [
 fn check_shown<R: RandomSource + Abort>(rt: &R, alloc: Global, row: &Shown) {
     let (name, shown, force, end) = *row;
     let wanted = end_of(rt, alloc, end);
-    let walk = hosts_walk(rt, alloc, Some(shown), force);
+    let walk = hosts_walk(rt, alloc, Some(Order(shown)), force);
     let (_, _, came) = come_of(rt, alloc, walk, &[REPLY_1]);
     assert_same(rt, &came, &wanted, name);
 }

@@ -10,6 +10,7 @@ ghost use Rattle.yp_version.specs.Table.{IsTable};
 
 use crate::head::head_of;
 use crate::limits::{BODY_MAX, KEY_MAX, ROWS_MAX, VALUE_MAX, row_len};
+use crate::order::Order;
 use crate::slab::Slab;
 use crate::table::Table;
 use crate::version::Version;
@@ -81,7 +82,7 @@ impl VersionBuilder {
     pub fn new(
         alloc: Global,
         rt: &impl RandomSource,
-        order: u32,
+        order: Order,
         master: &[u8],
     ) -> Result<VersionBuilder, NoMemory>
         requires { length master.now ≤ master_max }
@@ -90,6 +91,7 @@ impl VersionBuilder {
         let Ok(hasher) = RandomState::new(rt) else {
             return Err(NoMemory);
         };
+        let order = order.number();
         let head = head_of(alloc, order, master, 0)?;
         let master = Vec::from_slice(alloc, master).map_err(|_| NoMemory)?;
         let slab = Slab::new(alloc, head, 0)?;
@@ -233,10 +235,10 @@ impl VersionBuilder {
     }
 
     /// The order of the version.
-    pub fn order(&self) -> u32
+    pub fn order(&self) -> Order
         ensures { result ≡ self.now.order }
     {
-        self.order
+        Order(self.order)
     }
 
     /// The version: the rows in rising order of their keys, not secure. They are sorted

@@ -16,6 +16,7 @@ ghost use Rattle.yp_version.specs.inside.Next.{next_row, IsWithin};
 
 use crate::head::format_of;
 use crate::limits::{HEAD_LEN, padded};
+use crate::order::Order;
 use crate::slab::Slab;
 use crate::table::Table;
 use std::alloc::Global;
@@ -86,7 +87,7 @@ impl Version {
     pub fn of_body(
         alloc: Global,
         rt: &impl RandomSource,
-        order: u32,
+        order: Order,
         master: Vec<u8>,
         secure: bool,
         body: Vec<u8>,
@@ -105,7 +106,7 @@ impl Version {
         let head_len = HEAD_LEN + padded(master.len());
         let slab = Slab::of_parts(body, head_len, places);
         Ok(Version {
-            order,
+            order: order.number(),
             master,
             secure,
             slab,
@@ -136,11 +137,11 @@ impl Version {
     }
 
     /// The order: the moment of its making, in seconds, or one more than the order before.
-    pub fn order(&self) -> u32
+    pub fn order(&self) -> Order
         ensures order { result ≡ self.now.order }
         ensures version { IsVersion self.now }
     {
-        self.order
+        Order(self.order)
     }
 
     /// The name of its master, of at most 64 bytes.

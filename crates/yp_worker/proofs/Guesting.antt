@@ -6,10 +6,11 @@ use Rattle.yp_io.specs.declared.stream.Peer.{Peer}
 use Rattle.yp_io.specs.declared.ready.TrySource as try_source
 use Rattle.yp_io.specs.declared.ready.TrySink as try_sink
 use Rattle.yp_answer.specs.session.Hosts.{Conduct}
-use Rattle.yp_answer.specs.session.Cuts.{Deed, IsCut}
+use Rattle.yp_answer.specs.session.Cuts.{Deed}
 use Rattle.yp_answer.specs.inside.session.Cuts.{DoesDeeds, GoesOn, Talk, cut_of}
-use Rattle.yp_worker.specs.Working.{WorkerStep, Learned, Did, deeds_of, TakesSteps}
-use Rattle.yp_worker.specs.inside.Guests.{steps_then, GuestState, came_with, WorksOn}
+use Rattle.yp_worker.specs.Working.{WorkerStep, Learned, TookOver, Did, deeds_of, TakesSteps}
+use Rattle.yp_worker.specs.inside.GuestStates.{GuestState}
+use Rattle.yp_worker.specs.inside.Guests.{steps_then, came_with, WorksOn}
 
 -- ---- the deeds of a number
 
@@ -29,6 +30,7 @@ either_way false deed whole front behind h = h
 pub deeds_append : (number : ℕ) (steps more : List WorkerStep) → deeds_of number (steps ++ more) ≡ deeds_of number steps ++ deeds_of number more
 deeds_append number [] more = refl
 deeds_append number (Learned ∷ steps) more = deeds_append number steps more
+deeds_append number (TookOver one known ∷ steps) more = deeds_append number steps more
 deeds_append number (Did one peer deed ∷ steps) more =
     either_way (one == number) deed (deeds_of number (steps ++ more)) (deeds_of number steps) (deeds_of number more) (deeds_append number steps more)
 
@@ -44,7 +46,7 @@ deeds_none number other peer (deed ∷ deeds) apart =
     let rest = deeds_of other (map (Did number peer) deeds) in
     left_out (number == other) (deed ∷ rest) rest (ne_eqb number other apart) ∙ deeds_none number other peer deeds apart
 
-own_deeds : (steps : List WorkerStep) (number : ℕ) (peer : Peer) (deeds : List Deed) → deeds_of number (steps_then steps number peer deeds) ≡ deeds_of number steps ++ deeds
+pub own_deeds : (steps : List WorkerStep) (number : ℕ) (peer : Peer) (deeds : List Deed) → deeds_of number (steps_then steps number peer deeds) ≡ deeds_of number steps ++ deeds
 own_deeds steps number peer deeds =
     deeds_append number steps (map (Did number peer) deeds) ∙ ap (λ (l : List Deed). deeds_of number steps ++ l) (deeds_same number peer deeds)
 
@@ -72,26 +74,17 @@ module _ {H T : Type 0} (conduct : Conduct H) (counted : H → T) where
 
   -- ---- one guest goes on
 
-  pub works_on : {S K : Type 0} (source : try_source.Ghosts S) (sink : try_sink.Ghosts K) (guest : GuestState S K) (talk : Talk S K) (old new : H)
-      → GoesOn conduct guest.origin.peer old new (cut_of source sink guest.talk) (cut_of source sink talk)
+  pub works_on : {S K : Type 0} (source : try_source.Ghosts S) (sink : try_sink.Ghosts K) (carries : Bool) (guest : GuestState S K) (talk : Talk S K) (old new : H)
+      → GoesOn conduct guest.origin.peer carries old new (cut_of source sink guest.talk) (cut_of source sink talk)
       → WorksOn conduct counted source sink guest (record guest { talk = talk }) old new
-  works_on source sink guest talk old new goes = record {
+  works_on source sink carries guest talk old new goes = record {
     deeds = goes.deeds;
     origin = refl;
     number = refl;
-    own = λ past steps is. record {
+    own = λ past earlier is. record {
       expected = is.expected;
       fresh = is.fresh;
-      cut =
-          let P : List Deed → Type 0 = λ deeds. IsCut (came_with source sink guest) deeds (cut_of source sink talk) in
-          subst P (sym (own_deeds steps guest.number guest.origin.peer goes.deeds)) (goes.follows (came_with source sink guest) (deeds_of guest.number steps) is.cut);
-    };
-    others = λ past steps other apart is. record {
-      expected = is.expected;
-      fresh = is.fresh;
-      cut =
-          let P : List Deed → Type 0 = λ deeds. IsCut (came_with source sink other) deeds (cut_of source sink other.talk) in
-          subst P (sym (other_deeds steps guest.number other.number guest.origin.peer goes.deeds apart)) is.cut;
+      cut = goes.follows (came_with source sink guest) earlier is.cut;
     };
     taken = λ first steps taken. steps_done steps guest.number guest.origin.peer goes.deeds first old new taken goes.does;
     sees = goes.sees;

@@ -2,4 +2,6 @@ mod Growing
 mod Receiving
 mod Summing
 mod Guesting
+mod Listenings
 mod Attending
+mod Crossing

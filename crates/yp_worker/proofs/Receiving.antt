@@ -171,7 +171,7 @@ module _ (old now new : ListenTells) (connections : ℕ) (failed : Bool) (out en
     over = over;
   }
 
-  over_same : new.accepted ≡ now.accepted → new.most ≡ now.most → AcceptsNoMore failed now → AcceptsNoMore failed new
+  pub over_same : new.accepted ≡ now.accepted → new.most ≡ now.most → AcceptsNoMore failed now → AcceptsNoMore failed new
   over_same accepted most over = elim over [
     | inl was ↦ inl was
     | inr all ↦ inr (accepted ∙ all ∙ sym most)

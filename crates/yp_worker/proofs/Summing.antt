@@ -2,17 +2,17 @@
 use Rattle.std.proofs.Common.{◌≡◌, ℕ, ◌+◌, List, [], ◌∷◌, ◌++◌, length, map, Option, None, Some, refl, sym, ap, subst, ◌∙◌, append_assoc, arith}
 use Rattle.std.specs.Prelude.{IfSome}
 use Rattle.std.specs.List.{All}
-use Rattle.std.proofs.lemmas.List.{append-nil, length_push, map-append}
+use Rattle.std.proofs.lemmas.List.{append-nil, map-append}
 use Rattle.std.proofs.lemmas.List.Elements.{All-nil, All-push, All-weaker}
 use Rattle.std.proofs.lemmas.List.Sums.{fold-append}
-use Rattle.yp_io.specs.Counts.{capped, next_count}
+use Rattle.yp_io.specs.Counts.{capped}
 use Rattle.yp_io.specs.Dials.{Connected}
 use Rattle.yp_io.specs.Calls.{ListenerHistory, ClosedConnection, GainsCall, closed_then, taken_in}
 use Rattle.yp_board.specs.Logs.{Log}
 use Rattle.yp_board.specs.Views.{IsFront}
 use Rattle.yp_answer.specs.session.Hosts.{Conduct}
 use Rattle.yp_worker.specs.Working.{Working}
-use Rattle.yp_worker.specs.Receptions.{Terms, IsUnder, GainsWhereTold, ListenTells}
+use Rattle.yp_worker.specs.Receptions.{Terms, GainsWhereTold, ListenTells}
 use Rattle.yp_worker.specs.Summing.{Counting, ServedConnection, ends_of, calls_of, let_go_of, WorkerRun, IsWorkerRun, calls_over, TellsClosed, SumsUp}
 use Rattle.yp_worker.specs.inside.Summing.{worker_run_of, HasEnded}
 use Rattle.yp_worker.proofs.Growing.{front_then}
@@ -101,7 +101,9 @@ module _ {H T : Type 0} (conduct : Conduct H) (counting : Counting H T) (terms :
     under = work.under;
     from_none = work.from_none;
     takes = work.takes;
+    own = work.own;
     served = work.served;
+    handed_on = work.handed_on;
     apart = work.apart;
     owned = work.owned;
     front = front_then (conduct.seen worker_run.last.host).known reached log work.front grown;
@@ -138,7 +140,7 @@ module _ {H T : Type 0} (conduct : Conduct H) (counting : Counting H T) (terms :
       → SumsUp conduct counting terms old new (capped calls read) (counting.plus sum (counting.counted worker.host))
       after
   sums_ended old now new out calls sum before after connections read worker closed count let_go tells sums has taken returned gone covered kept =
-      let worker_run = worker_run_of has.first worker has.steps has.stays in record {
+      let worker_run = worker_run_of has.first worker has.steps has.stays has.left in record {
         worker_runs = sums.worker_runs ++ worker_run ∷ [];
         closed = subst (λ (lists : List (List ClosedConnection)). TellsClosed old.past new.past lists)
             (sym (map-append (λ (s : WorkerRun H). ends_of s.stays) sums.worker_runs (worker_run ∷ [])))
@@ -157,7 +159,9 @@ module _ {H T : Type 0} (conduct : Conduct H) (counting : Counting H T) (terms :
               under = has.under;
               from_none = has.from_none;
               takes = has.takes;
+              own = has.own;
               served = has.served;
+              handed_on = has.handed_on;
               apart = has.apart;
               owned = has.owned;
               front = covered;

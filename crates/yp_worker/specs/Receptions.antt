@@ -60,7 +60,7 @@ pub record ListenTells : Type 0 where
   pub let_go : ℕ
   pub faults : ℕ
 
-abbrev pub opening_by : {L X Y Z W : Type 0} → hall.Ghosts L X Y Z W → L → ListenTells
+abbrev pub opening_by : {L X Y Z W V : Type 0} → hall.Ghosts L X Y Z W V → L → ListenTells
 opening_by ghosts listener = record {
   past = ghosts.past listener;
   most = ghosts.most listener;

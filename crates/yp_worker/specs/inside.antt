@@ -1,4 +1,6 @@
+pub mod GuestStates
 pub mod Receptions
 pub mod Summing
 pub mod Laws
 pub mod Guests
+pub mod Listenings

@@ -19,7 +19,7 @@ use yp_io::Hall;
 /// each counted.
 pub fn run_beside<J, E, H, G, L, R: Threads + Wait + Sync>(
     rt: &R,
-    listening: &Mutex<Listening<J, E, H, L>>,
+    listening: &Mutex<Listening<J, E, H, L, G>>,
     first: (Worker<H, G>, Pass<J, E>),
     second: (Worker<H, G>, Pass<J, E>),
 ) -> ((Pass<J, E>, Tally), (Pass<J, E>, Tally))
@@ -28,12 +28,14 @@ where
     E: Ledger + Send + Sync,
     H: HandsOver + Send + Drop,
     H::Sum: Send,
+    H::Front: Send,
     G: Gate + Copy + Send + Drop,
     L: Hall + Send,
     L::In: Send,
     L::Out: Send,
     L::Closer: Send,
     L::Watch: Send,
+    L::Waker: Send,
     requires first { IsUnder (conduct_by H.Host) (terms_by J.Reception) first.0 }
     requires second { IsUnder (conduct_by H.Host) (terms_by J.Reception) second.0 }
     requires none { (H.counted first.0.host ≡ H.none) × (H.counted second.0.host ≡ H.none) }
@@ -58,7 +60,7 @@ where
 /// Runs a worker, and hands its pass back.
 fn ran<J: Reception, E: Ledger, H: HandsOver + Drop, G: Gate + Copy + Drop, L: Hall, R: Wait>(
     rt: &R,
-    listening: &Mutex<Listening<J, E, H, L>>,
+    listening: &Mutex<Listening<J, E, H, L, G>>,
     mut worker: Worker<H, G>,
     mut pass: Pass<J, E>,
 ) -> (Pass<J, E>, Tally)

@@ -1,6 +1,6 @@
 //! A host that can be told of what others showed, and one that hands over what it has counted.
 
-ghost use Rattle.std.specs.Prelude.{◌≡◌, OnErr};
+ghost use Rattle.std.specs.Prelude.{◌≡◌, IfOk, OnErr};
 ghost use Rattle.yp_board.specs.Logs.{Log};
 ghost use Rattle.yp_board.specs.Views.{IsFront};
 ghost use Rattle.yp_publisher.specs.sharing.Shares.{Learns};
@@ -45,6 +45,24 @@ pub trait HandsOver: CatchUp {
 
     /// It is told that the connection of this caller is closed for its time. That changes nothing of what it is seen as.
     fn late(&self, _peer: Peer) {}
+
+    /// What a host knew at a moment, for another host of the board: a front of the log.
+    type Front: Drop;
+
+    /// The log that it is.
+    ghost kept: { Self.Front → Log };
+
+    /// What it knows, for another host.
+    fn front(&self) -> Result<Self::Front, NoMemory>
+        ensures { IfOk result (λ front. kept front ≡ (Self.seen self.now).known) };
+
+    /// Lets it know what another host of the board knew at a moment. It waits for nobody, makes no read step, and
+    /// counts nothing.
+    fn reach(&mut self, front: Self::Front)
+        ensures reached { IsFront (kept front) (Self.seen self.new).known }
+        ensures learned { Learns (Self.seen self.old) (Self.seen self.new) }
+        ensures counts { Self.counts self.new ≡ Self.counts self.old }
+        ensures counted { Self.counted self.new ≡ Self.counted self.old };
 
     /// Adds what it has counted to a sum, and counts from nothing again. What it knows is a front of the sum's log
     /// then.

@@ -24,7 +24,7 @@ pub struct Guest<S, K, G> {
 }
 
 impl<S, K, G> Model for Guest<S, K, G> {
-    ghost use Rattle.yp_worker.specs.inside.Guests.{GuestState};
+    ghost use Rattle.yp_worker.specs.inside.GuestStates.{GuestState};
 
     ghost Value = { GuestState S K };
 
@@ -92,6 +92,20 @@ impl<S, K, G> Guest<S, K, G> {
         self.conversation.take_moved()
     }
 
+    /// What its records are read from.
+    pub fn source(&self) -> &S
+        ensures { result.now ≡ self.now.talk.source }
+    {
+        self.conversation.source()
+    }
+
+    /// Its number is this from now on.
+    pub fn renumber(&mut self, number: u64)
+        ensures { self.new ≡ record self.old { number = number } }
+    {
+        self.number = number;
+    }
+
     /// The connection. What is owed to it is dropped.
     pub fn into_call(self) -> Called<S, K>
     where
@@ -117,8 +131,8 @@ impl<S, K, G> Guest<S, K, G> {
 }
 
 impl<S: TrySource, K: TrySink, G: Gate> Guest<S, K, G> {
-    /// Goes on by at most so many steps. At most `most` of its records are answered, and transfers are carried out
-    /// where that is said.
+    /// Goes on by at most so many steps. At most `most` of its records are answered, and what takes long is done where
+    /// that is said.
     pub fn advance<H: CatchUp>(
         &mut self,
         host: &mut H,
@@ -130,7 +144,7 @@ impl<S: TrySource, K: TrySink, G: Gate> Guest<S, K, G> {
         requires due { IfSome self.old.talk.waiting (IsDue (length (H.seen host.old).catalogue.maps)) }
         ensures works { WorksOn (conduct_by H.Host) H.counted S.TrySource K.TrySink self.old self.new
             host.old host.new }
-        ensures comes_to { ComesTo most result (cut_of S.TrySource K.TrySink self.new.talk) }
+        ensures comes_to { ComesTo self.new.origin.peer most result (cut_of S.TrySource K.TrySink self.new.talk) }
         ensures due { IfSome self.new.talk.waiting (IsDue (length (H.seen host.new).catalogue.maps)) }
     {
         let terms = Terms {

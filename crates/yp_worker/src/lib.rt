@@ -21,6 +21,7 @@ pub mod laws;
 mod listening;
 mod run;
 mod tally;
+mod waiting;
 mod worker;
 
 pub use beside::run_beside;
@@ -30,4 +31,5 @@ pub use gated::Gated;
 pub use guest::Guest;
 pub use listening::{Admission, Listening, Pass, Reception};
 pub use tally::Tally;
+pub use waiting::Waiting;
 pub use worker::Worker;

@@ -1,20 +1,28 @@
 //! What lies under the lock of a listener.
 
-ghost use Rattle.std.specs.Prelude.{◌≡◌, ◌<◌, ◌≤◌, ◌+◌, [], length, false, true, ℕ, Some, IfSome, IfOk, OnOk, OnErr};
+ghost use Rattle.std.specs.Prelude.{◌≡◌, ◌<◌, ◌≤◌, ◌+◌, [], length, false, true, ℕ, Some};
+ghost use Rattle.std.specs.Prelude.{IfSome, IfNone, IfOk, OnOk, OnErr};
+ghost use Rattle.slab.specs.Slab.{get};
 ghost use Rattle.yp_io.specs.Counts.{capped};
 ghost use Rattle.yp_io.specs.Hall.{try_halves_of};
 ghost use Rattle.yp_answer.specs.inside.session.Hosts.{conduct_by};
 ghost use Rattle.yp_worker.specs.Receptions.{IsListenerState, opening_by};
-ghost use Rattle.yp_worker.specs.inside.Receptions.{Admits, IsExpectedCall, terms_by};
+ghost use Rattle.yp_worker.specs.inside.Receptions.{Admits, IsExpectedCall, IsNotLeft, terms_by};
 ghost use Rattle.yp_worker.specs.Summing.{SumsUp, counting_of};
 ghost use Rattle.yp_worker.specs.inside.Summing.{HasEnded};
+ghost use Rattle.yp_worker.specs.inside.Guests.{IsKept, IsWaiting};
 
 use crate::catch_up::HandsOver;
+use crate::guest::Guest;
 use crate::tally::Tally;
+use crate::waiting::Waiting;
 use crate::worker::Worker;
+use slab::Slab;
+use std::alloc::Global;
+use std::collections::VecDeque;
 use std::marker::{Brand, Model};
 use std::sync::ledger::{Book, Ledger, Share};
-use yp_io::{Called, Coming, Failed, Hall};
+use yp_io::{Called, Coming, Failed, Hall, Wake, Watch};
 use yp_publisher::sharing::Site;
 
 /// What every connection of a listener gets, and how the listener was before the first. Each call of a program that
@@ -46,9 +54,11 @@ impl Reception for Brand {
 
 /// What a worker gets of a listener.
 #[derive(Drop)]
-pub enum Admission<S, K> {
+pub enum Admission<S, K, G, F> {
     /// A connection, with its number, from 1.
     Came { call: Called<S, K>, connection: u64 },
+    /// A guest that another worker has left.
+    Left(Waiting<S, K, G, F>),
     /// None now.
     NotNow,
     /// None, since as many were accepted as are to be.
@@ -109,10 +119,10 @@ impl<J: Ledger, E: Ledger> Pass<J, E> {
     }
 }
 
-/// A listener, what workers that have ended did with its connections, and the sum of what was counted in them, with a
-/// log of which each was answered on a front.
+/// A listener, what workers that have ended did with its connections, the guests that they have left to the one that
+/// does what takes long, and the sum of what was counted in them, with a log of which each was answered on a front.
 #[derive(Drop)]
-pub struct Listening<J: Reception, E: Ledger, H: HandsOver, L: Hall> {
+pub struct Listening<J: Reception, E: Ledger, H: HandsOver, L: Hall, G> {
     listen: L,
     connections: u64,
     calls: u64,
@@ -120,13 +130,19 @@ pub struct Listening<J: Reception, E: Ledger, H: HandsOver, L: Hall> {
     out: Book<J>,
     ended: Book<E>,
     sum: H::Sum,
+    waiting: VecDeque<Waiting<L::In, L::Out, G, H::Front>>,
+    held: Share<J>,
+    workers: u32,
+    waker: Option<L::Waker>,
 }
 
-impl<J: Reception, E: Ledger, H: HandsOver, L: Hall> Model for Listening<J, E, H, L> {
+impl<J: Reception, E: Ledger, H: HandsOver, L: Hall, G> Model for Listening<J, E, H, L, G> {
+    ghost use Rattle.std.specs.VecDeque.{deque_len};
     ghost use Rattle.yp_answer.specs.session.Hosts.{conduct_of};
-    ghost use Rattle.yp_worker.specs.Receptions.{IsListenerState, opening_by, terms_of};
+    ghost use Rattle.yp_worker.specs.Receptions.{opening_by, terms_of};
+    ghost use Rattle.yp_worker.specs.Summing.{counting_of};
     ghost use Rattle.yp_worker.specs.inside.Receptions.{ListenerState};
-    ghost use Rattle.yp_worker.specs.Summing.{SumsUp, counting_of};
+    ghost use Rattle.yp_worker.specs.inside.Listenings.{IsListening};
 
     ghost Value = { ListenerState L };
 
@@ -137,19 +153,29 @@ impl<J: Reception, E: Ledger, H: HandsOver, L: Hall> Model for Listening<J, E, H
       failed = l.failed;
       out = l.out.total;
       ended = l.ended.total;
+      waiting = deque_len l.waiting;
     } };
 
-    ghost invariant = { λ l. IsListenerState J.opening (opening_by L.Hall l.listen)
-        l.connections l.failed l.out.total l.ended.total
-        × SumsUp (conduct_of H.seen H.told H.counts H.stepped H.made H.carried)
-        (counting_of H.counted H.none H.plus) (terms_of J.catalogue J.starts J.most) J.opening
-        (opening_by L.Hall l.listen)
-        l.calls (H.summed l.sum) (H.reached l.sum) };
+    ghost invariant = { λ l. IsListening L.In.TrySource L.Out.TrySink
+        (conduct_of H.seen H.told H.counts H.stepped H.made H.carried) (counting_of H.counted H.none H.plus)
+        (terms_of J.catalogue J.starts J.most) H.kept J.opening (opening_by L.Hall l.listen)
+        l.connections l.calls l.failed l.out.total l.ended.total (H.summed l.sum) (H.reached l.sum)
+        l.waiting.items (deque_len l.waiting) l.held.amount l.held.parts };
 }
 
-impl<J: Reception, E: Ledger, H: HandsOver, L: Hall> Listening<J, E, H, L> {
-    /// A listener before its first connection.
-    pub fn new(listen: L, out: Book<J>, ended: Book<E>, sum: H::Sum) -> Listening<J, E, H, L>
+impl<J: Reception, E: Ledger, H: HandsOver, L: Hall, G> Listening<J, E, H, L, G> {
+    /// A listener before its first connection. So many workers will leave to another what takes long. While one of them
+    /// hasn't ended, that other accepts nothing.
+    pub fn new(
+        alloc: Global,
+        listen: L,
+        out: Book<J>,
+        ended: Book<E>,
+        sum: H::Sum,
+        held: Share<J>,
+        workers: u32,
+    ) -> Listening<J, E, H, L, G>
+        requires held { (held.parts ≡ 1) × (held.amount ≡ 0) }
         requires opening { opening_by L.Hall listen ≡ J.opening }
         requires none_out { out.total ≡ 0 }
         requires none_ended { ended.total ≡ 0 }
@@ -161,6 +187,7 @@ impl<J: Reception, E: Ledger, H: HandsOver, L: Hall> Listening<J, E, H, L> {
           failed = false;
           out = 0;
           ended = 0;
+          waiting = 0;
         } }
     {
         Listening {
@@ -171,13 +198,84 @@ impl<J: Reception, E: Ledger, H: HandsOver, L: Hall> Listening<J, E, H, L> {
             out,
             ended,
             sum,
+            waiting: VecDeque::new(alloc),
+            held,
+            workers,
+            waker: None,
         }
     }
 
+    /// Takes the guest that has waited longest, where one waits. Where more do, whoever takes them is told again.
+    fn hand_on(&mut self, pass: &mut Pass<J, E>) -> Option<Waiting<L::In, L::Out, G, H::Front>>
+        ensures waits { IfSome result (IsWaiting L.In.TrySource L.Out.TrySink (conduct_by H.Host)
+            (counting_of H.counted H.none H.plus) (terms_by J.Reception) J.opening.past H.kept) }
+        ensures out { IfSome result (λ _. pass.new ≡ record pass.old { out = pass.old.out + 1 }) }
+        ensures none { IfNone result (pass.new ≡ pass.old) }
+    {
+        let waiting = self.waiting.pop_front()?;
+        self.held.transfer(&mut pass.out, 1);
+        wake_again(&self.waker, &self.waiting);
+        Some(waiting)
+    }
+
+    /// Takes the next guest of a worker that left it, for the one who does what takes long. While there are none and
+    /// workers haven't ended, it is told to come again. Then, and for other workers, it is the next connection, where
+    /// one is there and nothing has failed before.
+    pub(crate) fn admit(
+        &mut self,
+        pass: &mut Pass<J, E>,
+        carries: bool,
+    ) -> Admission<L::In, L::Out, G, H::Front>
+        ensures admits { Admits (IsExpectedCall (try_halves_of L.In.TrySource L.Out.TrySink) J.opening.past)
+            (IsWaiting L.In.TrySource L.Out.TrySink (conduct_by H.Host) (counting_of H.counted H.none H.plus)
+            (terms_by J.Reception) J.opening.past H.kept) result pass.old pass.new }
+        ensures idle { carries ≡ false → IsNotLeft result }
+    {
+        if !carries {
+            return self.accept(pass);
+        }
+        if let Some(waiting) = self.hand_on(pass) {
+            return Admission::Left(waiting);
+        }
+        if self.workers > 0 {
+            return Admission::NotNow;
+        }
+        self.accept(pass)
+    }
+
+    /// Keeps the guest at a key for the one who does what takes long, where that one can be woken and there is memory.
+    pub(crate) fn keep(
+        &mut self,
+        pass: &mut Pass<J, E>,
+        guests: &mut Slab<Guest<L::In, L::Out, G>>,
+        key: usize,
+        front: H::Front,
+    ) -> bool
+        requires out { IfSome (get guests.old key) (λ _. 0 < pass.old.out) }
+        requires waits { IfSome (get guests.old key) (λ guest. IsWaiting L.In.TrySource L.Out.TrySink
+            (conduct_by H.Host) (counting_of H.counted H.none H.plus) (terms_by J.Reception) J.opening.past H.kept
+            (record { guest = guest; front = front })) }
+        ensures kept { result ≡ true → IsKept key guests.old guests.new pass.old pass.new }
+        ensures same { result ≡ false → (guests.new ≡ guests.old) × (pass.new ≡ pass.old) }
+    {
+        if self.waker.is_none() || self.waiting.reserve(1).is_err() {
+            return false;
+        }
+        let Some(guest) = guests.try_remove(key) else {
+            return false;
+        };
+        pass.out.transfer(&mut self.held, 1);
+        self.waiting.push_back_reserved(Waiting::new(guest, front));
+        wake(&self.waker);
+        true
+    }
+
     /// Accepts the next connection where one is there, and nothing has failed before.
-    pub(crate) fn admit(&mut self, pass: &mut Pass<J, E>) -> Admission<L::In, L::Out>
-        ensures { Admits (IsExpectedCall (try_halves_of L.In.TrySource L.Out.TrySink) J.opening.past) result
-            pass.old pass.new }
+    fn accept(&mut self, pass: &mut Pass<J, E>) -> Admission<L::In, L::Out, G, H::Front>
+        ensures admits { Admits (IsExpectedCall (try_halves_of L.In.TrySource L.Out.TrySink) J.opening.past)
+            (IsWaiting L.In.TrySource L.Out.TrySink (conduct_by H.Host) (counting_of H.counted H.none H.plus)
+            (terms_by J.Reception) J.opening.past H.kept) result pass.old pass.new }
+        ensures idle { IsNotLeft result }
     {
         if self.failed {
             self.ended.add(&mut pass.ended, 1);
@@ -186,7 +284,6 @@ impl<J: Reception, E: Ledger, H: HandsOver, L: Hall> Listening<J, E, H, L> {
         match self.listen.try_accept() {
             Ok(Coming::Came(call)) => {
                 self.out.add(&mut pass.out, 1);
-                self.out.audit(&mut pass.out);
                 self.connections = self.connections.saturating_add(1);
                 let connection = self.connections;
                 Admission::Came { call, connection }
@@ -204,17 +301,26 @@ impl<J: Reception, E: Ledger, H: HandsOver, L: Hall> Listening<J, E, H, L> {
         }
     }
 
-    /// What a worker closes its connections by, and what watches them. Where it can't have that, the worker has ended.
-    pub(crate) fn begin(&mut self, pass: &mut Pass<J, E>) -> Result<(L::Closer, L::Watch), Failed>
+    /// What a worker closes its connections by, and what watches them, and the door but for the one who does what takes
+    /// long. Where it can't have that, the worker has ended.
+    pub(crate) fn begin(
+        &mut self,
+        pass: &mut Pass<J, E>,
+        carries: bool,
+    ) -> Result<(L::Closer, L::Watch), Failed>
         ensures closed { IfOk result (λ begun. IfSome J.opening.past (λ _. L.closed begun.0 ≡ Some [])) }
         ensures count { IfOk result (λ begun. L.closed_count begun.0 ≡ 0) }
         ensures let_go { IfOk result (λ begun. L.Watch.Watch.let_go begun.1 ≡ 0) }
         ensures same { OnOk result (pass.new ≡ pass.old) }
         ensures ended { OnErr result (pass.new ≡ record pass.old { ended = pass.old.ended + 1 }) }
     {
-        match self.listen.watch() {
-            Ok(watch) => Ok((self.listen.closer(), watch)),
+        match self.listen.watch(!carries) {
+            Ok(watch) => {
+                keep_waker(&mut self.waker, &watch, carries);
+                Ok((self.listen.closer(), watch))
+            }
             Err(Failed) => {
+                forget(&mut self.workers, &self.waker, carries);
                 self.ended.add(&mut pass.ended, 1);
                 self.failed = true;
                 Err(Failed)
@@ -224,7 +330,7 @@ impl<J: Reception, E: Ledger, H: HandsOver, L: Hall> Listening<J, E, H, L> {
 
     /// Takes in the closer and the watch of a worker that has ended, with what it counted: so many connections, and so
     /// many of their records.
-    pub(crate) fn retire<G>(
+    pub(crate) fn retire(
         &mut self,
         pass: &mut Pass<J, E>,
         closer: L::Closer,
@@ -243,6 +349,7 @@ impl<J: Reception, E: Ledger, H: HandsOver, L: Hall> Listening<J, E, H, L> {
         ensures worker { worker.new ≡ record worker.old { host = worker.new.host } }
         ensures none { H.counted worker.new.host ≡ H.none }
     {
+        forget(&mut self.workers, &self.waker, worker.carries);
         self.out.sub(&mut pass.out, tally.connections);
         self.calls = self.calls.saturating_add(tally.calls);
         worker.hand_over(&mut self.sum);
@@ -250,10 +357,21 @@ impl<J: Reception, E: Ledger, H: HandsOver, L: Hall> Listening<J, E, H, L> {
         self.listen.end(watch);
     }
 
-    /// The listener, once all its workers have ended and been joined, with how many connections came, how many of
-    /// their records were read, and whether an accept or a watch has failed, and the sum of what the workers counted.
+    /// Whether no guest waits for a worker.
+    pub fn is_drained(&self) -> bool
+        ensures { result ≡ true → self.now.waiting ≡ 0 }
+    {
+        self.waiting.is_empty()
+    }
+
+    /// The listener, once all its workers have ended and been joined and no guest waits for one, with how many
+    /// connections came, how many of their records were read, and whether an accept or a watch has failed, and the sum
+    /// of what the workers counted.
     pub fn close(self, pass: &mut Pass<J, E>) -> (L, Tally, H::Sum)
-        requires all { pass.old.parts ≡ J.parts }
+    where
+        G: Drop,
+        requires all { pass.old.parts + 1 ≡ J.parts }
+        requires drained { self.waiting ≡ 0 }
         requires none_out { pass.old.out ≡ 0 }
         requires ended { 0 < pass.old.ended }
         ensures kept { IsListenerState J.opening (opening_by L.Hall result.0) result.1.connections
@@ -261,7 +379,7 @@ impl<J: Reception, E: Ledger, H: HandsOver, L: Hall> Listening<J, E, H, L> {
         ensures summed { SumsUp (conduct_by H.Host) (counting_of H.counted H.none H.plus) (terms_by J.Reception)
             J.opening (opening_by L.Hall result.0)
             result.1.calls (H.summed result.2) (H.reached result.2) }
-        ensures same { pass.new ≡ pass.old }
+        ensures same { pass.new ≡ record pass.old { parts = J.parts } }
     {
         let Listening {
             listen,
@@ -271,7 +389,12 @@ impl<J: Reception, E: Ledger, H: HandsOver, L: Hall> Listening<J, E, H, L> {
             mut out,
             mut ended,
             sum,
+            waiting: _,
+            held,
+            workers: _,
+            waker: _,
         } = self;
+        pass.out.merge(held);
         out.audit(&mut pass.out);
         ended.audit(&mut pass.ended);
         let tally = Tally {
@@ -280,5 +403,35 @@ impl<J: Reception, E: Ledger, H: HandsOver, L: Hall> Listening<J, E, H, L> {
             listen_fault: failed,
         };
         (listen, tally, sum)
+    }
+}
+
+/// Wakes the one who does what takes long, where it can be woken.
+fn wake<W: Wake>(waker: &Option<W>) {
+    if let Some(waker) = waker {
+        waker.wake();
+    }
+}
+
+/// Wakes it again where some still wait, since it takes one at a time.
+fn wake_again<W: Wake, T>(waker: &Option<W>, waiting: &VecDeque<T>) {
+    if !waiting.is_empty() {
+        wake(waker);
+    }
+}
+
+/// Keeps what wakes a watch, where that is the one of who does what takes long.
+fn keep_waker<W: Watch>(waker: &mut Option<W::Waker>, watch: &W, carries: bool) {
+    if carries {
+        *waker = watch.waker();
+    }
+}
+
+/// A worker has ended. Where it was one that leaves guests, the one who does what takes long looks whether none does
+/// any more.
+fn forget<W: Wake>(workers: &mut u32, waker: &Option<W>, carries: bool) {
+    if !carries {
+        *workers = workers.saturating_sub(1);
+        wake(waker);
     }
 }

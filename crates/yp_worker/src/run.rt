@@ -10,15 +10,18 @@ ghost use Rattle.yp_answer.specs.inside.session.Hosts.{conduct_by};
 ghost use Rattle.yp_answer.specs.inside.session.Errands.{IsDue};
 ghost use Rattle.yp_answer.specs.inside.session.Cuts.{ComesTo, cut_of};
 ghost use Rattle.yp_worker.specs.Receptions.{IsUnder};
-ghost use Rattle.yp_worker.specs.inside.Receptions.{Admits, IsExpectedCall, terms_by};
+ghost use Rattle.yp_worker.specs.Working.{IsTold};
+ghost use Rattle.yp_worker.specs.inside.Receptions.{Admits, IsExpectedCall, IsNotLeft, terms_by};
 ghost use Rattle.yp_worker.specs.Summing.{IsOver, counting_of};
-ghost use Rattle.yp_worker.specs.inside.Guests.{Comes, GoesOnAt, HasServed, let_go_where, serving_of, came_to};
+ghost use Rattle.yp_worker.specs.inside.Guests.{Comes, GoesOnAt, HasServed, IsKept, IsToSeat, IsWaiting};
+ghost use Rattle.yp_worker.specs.inside.Guests.{let_go_where, serving_of, came_to};
 
 use crate::catch_up::HandsOver;
 use crate::gate::{Gate, Point};
 use crate::guest::Guest;
 use crate::listening::{Admission, Listening, Pass, Reception};
 use crate::tally::Tally;
+use crate::waiting::Waiting;
 use crate::worker::Worker;
 use slab::Slab;
 use std::sync::ledger::Ledger;
@@ -31,13 +34,14 @@ use yp_io::{Awaited, Called, Hall, Notice, TrySink, TrySource, Watch};
 const TURN_STEPS: u32 = 16;
 
 /// What a worker has at work: its guests, each under the key of its place, what closes and what watches them, what was
-/// counted, and whether more are to be accepted.
+/// counted, the number of the next conversation, and whether more are to come.
 #[derive(Drop)]
 struct Shift<L: Hall, G> {
     guests: Slab<Guest<L::In, L::Out, G>>,
     closer: L::Closer,
     watch: L::Watch,
     tally: Tally,
+    next: u64,
     is_open: bool,
 }
 
@@ -49,14 +53,17 @@ impl<L: Hall, G> Shift<L, G> {
         !self.is_open && self.guests.is_empty()
     }
 
-    /// Takes room for one guest more, and answers whether there is.
+    /// Takes room for one guest more, and answers whether there is, and a number.
     fn has_room(&mut self) -> bool
         ensures room { result ≡ true → HasRoomFor self.new.guests 1 × (self.new.guests.vacant_key ≤ 4294967295) }
+        ensures number { result ≡ true → self.old.next + 1 < 18446744073709551616 }
         ensures same { self.new ≡ record self.old {
           guests = record self.old.guests { capacity = self.new.guests.capacity };
         } }
     {
-        self.guests.reserve(1).is_ok() && self.guests.vacant_key() <= u32::MAX as usize
+        self.next < u64::MAX
+            && self.guests.reserve(1).is_ok()
+            && self.guests.vacant_key() <= u32::MAX as usize
     }
 }
 
@@ -76,10 +83,14 @@ impl<H: HandsOver, G: Gate + Copy + Drop> Worker<H, G> {
     /// It accepts one where its watch tells it so, and goes on with each that is ready for at most sixteen steps before
     /// it looks at the others. One that its watch tells late is closed as it stands. In quiet times its host is told
     /// what others showed. Where it can't have a watch it ends at once, and no more are accepted.
+    ///
+    /// One whose next deed takes long it leaves for good to the worker whose work that is, and where that can't be it
+    /// goes on with it itself. That one goes on with all that were left, and accepts nothing before all others have
+    /// ended.
     pub fn run<J: Reception, E: Ledger, L: Hall, R: Wait>(
         &mut self,
         rt: &R,
-        listening: &Mutex<Listening<J, E, H, L>>,
+        listening: &Mutex<Listening<J, E, H, L, G>>,
         pass: &mut Pass<J, E>,
     ) -> Tally
         requires under { IsUnder (conduct_by H.Host) (terms_by J.Reception) self.old }
@@ -109,6 +120,7 @@ impl<H: HandsOver, G: Gate + Copy + Drop> Worker<H, G> {
             closer,
             watch,
             tally,
+            next: _,
             is_open: _,
         } = shift;
         let mut kept = listening.lock(rt);
@@ -120,7 +132,7 @@ impl<H: HandsOver, G: Gate + Copy + Drop> Worker<H, G> {
     fn begin<J: Reception, E: Ledger, L: Hall, R: Wait>(
         &self,
         rt: &R,
-        listening: &Mutex<Listening<J, E, H, L>>,
+        listening: &Mutex<Listening<J, E, H, L, G>>,
         pass: &mut Pass<J, E>,
     ) -> Option<Shift<L, G>>
         requires under { IsUnder (conduct_by H.Host) (terms_by J.Reception) self.now }
@@ -128,16 +140,19 @@ impl<H: HandsOver, G: Gate + Copy + Drop> Worker<H, G> {
         ensures served { IfSome result (λ shift. HasServed L.In.TrySource L.Out.TrySink
             (conduct_by H.Host) (counting_of H.counted H.none H.plus) (terms_by J.Reception) J.opening.past
             (serving_of L.closed L.closed_count L.Watch.Watch.let_go
-            shift.guests shift.closer shift.watch shift.tally)
+            shift.guests shift.closer shift.watch shift.tally shift.next)
             self.now) }
         ensures nobody { IfSome result (λ shift. (came_to shift.tally shift.guests ≡ 0) × (shift.is_open ≡ true)) }
         ensures same { IfSome result (λ _. pass.new ≡ pass.old) }
         ensures ended { IfNone result (pass.new ≡ record pass.old { ended = pass.old.ended + 1 }) }
     {
-        let begun = listening.lock(rt).begin(pass);
+        let begun = listening.lock(rt).begin(pass, self.carries);
         let Ok((closer, watch)) = begun else {
             return None;
         };
+        if self.carries {
+            self.gate.at(Point::Begun);
+        }
         Some(Shift {
             guests: Slab::new(self.buffers.alloc()),
             closer,
@@ -147,6 +162,7 @@ impl<H: HandsOver, G: Gate + Copy + Drop> Worker<H, G> {
                 calls: 0,
                 listen_fault: false,
             },
+            next: 0,
             is_open: true,
         })
     }
@@ -155,7 +171,7 @@ impl<H: HandsOver, G: Gate + Copy + Drop> Worker<H, G> {
     fn turn<J: Reception, E: Ledger, L: Hall, R: Wait>(
         &mut self,
         rt: &R,
-        listening: &Mutex<Listening<J, E, H, L>>,
+        listening: &Mutex<Listening<J, E, H, L, G>>,
         pass: &mut Pass<J, E>,
         shift: &mut Shift<L, G>,
     )
@@ -164,21 +180,21 @@ impl<H: HandsOver, G: Gate + Copy + Drop> Worker<H, G> {
         requires served { HasServed L.In.TrySource L.Out.TrySink
             (conduct_by H.Host) (counting_of H.counted H.none H.plus) (terms_by J.Reception) J.opening.past
             (serving_of L.closed L.closed_count L.Watch.Watch.let_go
-            shift.old.guests shift.old.closer shift.old.watch shift.old.tally)
+            shift.old.guests shift.old.closer shift.old.watch shift.old.tally shift.old.next)
             self.old }
         ensures under { IsUnder (conduct_by H.Host) (terms_by J.Reception) self.new }
         ensures grown { IsFront (H.seen self.old.host).known (H.seen self.new.host).known }
         ensures served { HasServed L.In.TrySource L.Out.TrySink
             (conduct_by H.Host) (counting_of H.counted H.none H.plus) (terms_by J.Reception) J.opening.past
             (serving_of L.closed L.closed_count L.Watch.Watch.let_go
-            shift.new.guests shift.new.closer shift.new.watch shift.new.tally)
+            shift.new.guests shift.new.closer shift.new.watch shift.new.tally shift.new.next)
             self.new }
         ensures comes { Comes pass.old pass.new (came_to shift.old.tally shift.old.guests)
             (came_to shift.new.tally shift.new.guests) shift.old.is_open shift.new.is_open }
     {
         match shift.watch.next() {
             Notice::Door => self.admit(rt, listening, pass, shift),
-            Notice::Ready { place } => self.go_on::<J, L>(shift, place),
+            Notice::Ready { place } => self.go_on(rt, listening, pass, shift, place),
             Notice::Late { place } => self.let_go::<J, L>(shift, place),
             Notice::Quiet => {
                 // Where there is no memory for that, the host goes on with what it knew.
@@ -188,26 +204,27 @@ impl<H: HandsOver, G: Gate + Copy + Drop> Worker<H, G> {
         }
     }
 
-    /// Accepts a connection where one is there and there is room for it.
+    /// Takes the next connection or guest where one is there and there is room for it.
     fn admit<J: Reception, E: Ledger, L: Hall, R: Wait>(
-        &self,
+        &mut self,
         rt: &R,
-        listening: &Mutex<Listening<J, E, H, L>>,
+        listening: &Mutex<Listening<J, E, H, L, G>>,
         pass: &mut Pass<J, E>,
         shift: &mut Shift<L, G>,
     )
-        requires under { IsUnder (conduct_by H.Host) (terms_by J.Reception) self.now }
-        requires out { came_to shift.old.tally shift.old.guests ≤ pass.old.out }
+        requires under { IsUnder (conduct_by H.Host) (terms_by J.Reception) self.old }
         requires served { HasServed L.In.TrySource L.Out.TrySink
             (conduct_by H.Host) (counting_of H.counted H.none H.plus) (terms_by J.Reception) J.opening.past
             (serving_of L.closed L.closed_count L.Watch.Watch.let_go
-            shift.old.guests shift.old.closer shift.old.watch shift.old.tally)
-            self.now }
+            shift.old.guests shift.old.closer shift.old.watch shift.old.tally shift.old.next)
+            self.old }
+        ensures under { IsUnder (conduct_by H.Host) (terms_by J.Reception) self.new }
+        ensures grown { IsFront (H.seen self.old.host).known (H.seen self.new.host).known }
         ensures served { HasServed L.In.TrySource L.Out.TrySink
             (conduct_by H.Host) (counting_of H.counted H.none H.plus) (terms_by J.Reception) J.opening.past
             (serving_of L.closed L.closed_count L.Watch.Watch.let_go
-            shift.new.guests shift.new.closer shift.new.watch shift.new.tally)
-            self.now }
+            shift.new.guests shift.new.closer shift.new.watch shift.new.tally shift.new.next)
+            self.new }
         ensures comes { Comes pass.old pass.new (came_to shift.old.tally shift.old.guests)
             (came_to shift.new.tally shift.new.guests) shift.old.is_open shift.new.is_open }
     {
@@ -217,8 +234,9 @@ impl<H: HandsOver, G: Gate + Copy + Drop> Worker<H, G> {
         if !shift.has_room() {
             return;
         }
-        match admitted(rt, listening, pass) {
+        match admitted(rt, listening, pass, self.carries) {
             Admission::Came { call, connection } => self.enter::<J, L>(shift, call, connection),
+            Admission::Left(waiting) => self.take_over::<J, L>(shift, waiting),
             Admission::NotNow => {}
             Admission::Closed => shift.is_open = false,
             Admission::Failed => {
@@ -228,7 +246,7 @@ impl<H: HandsOver, G: Gate + Copy + Drop> Worker<H, G> {
         }
     }
 
-    /// Begins the conversation with a connection that was accepted. One that can't be watched is let go at once.
+    /// Begins the conversation with a connection that was accepted.
     fn enter<J: Reception, L: Hall>(
         &self,
         shift: &mut Shift<L, G>,
@@ -238,66 +256,223 @@ impl<H: HandsOver, G: Gate + Copy + Drop> Worker<H, G> {
         requires under { IsUnder (conduct_by H.Host) (terms_by J.Reception) self.now }
         requires room { HasRoomFor shift.old.guests 1 }
         requires place { shift.old.guests.vacant_key ≤ 4294967295 }
-        requires bound { came_to shift.old.tally shift.old.guests + 1 < 18446744073709551616 }
+        requires number { shift.old.next + 1 < 18446744073709551616 }
         requires call { IsExpectedCall (try_halves_of L.In.TrySource L.Out.TrySink) J.opening.past call }
         requires served { HasServed L.In.TrySource L.Out.TrySink
             (conduct_by H.Host) (counting_of H.counted H.none H.plus) (terms_by J.Reception) J.opening.past
             (serving_of L.closed L.closed_count L.Watch.Watch.let_go
-            shift.old.guests shift.old.closer shift.old.watch shift.old.tally)
+            shift.old.guests shift.old.closer shift.old.watch shift.old.tally shift.old.next)
             self.now }
         ensures served { HasServed L.In.TrySource L.Out.TrySink
             (conduct_by H.Host) (counting_of H.counted H.none H.plus) (terms_by J.Reception) J.opening.past
             (serving_of L.closed L.closed_count L.Watch.Watch.let_go
-            shift.new.guests shift.new.closer shift.new.watch shift.new.tally)
+            shift.new.guests shift.new.closer shift.new.watch shift.new.tally shift.new.next)
             self.now }
         ensures came { came_to shift.new.tally shift.new.guests ≡ came_to shift.old.tally shift.old.guests + 1 }
         ensures door { shift.new.is_open ≡ shift.old.is_open }
     {
         self.gate.at(Point::Accepted { connection });
-        let place = shift.guests.vacant_key() as u32;
-        let watched = shift.watch.enter(place, &call.wire);
-        let number = shift.tally.connections + shift.guests.len() as u64;
-        let guest = Guest::new(self.buffers.alloc(), number, call, self.gate, connection);
-        shift.guests.insert_reserved(guest);
-        if watched.is_err() {
-            self.close::<J, L>(shift, place, true);
-        }
+        let guest = Guest::new(
+            self.buffers.alloc(),
+            shift.next,
+            call,
+            self.gate,
+            connection,
+        );
+        self.seat::<J, L>(shift, guest);
     }
 
-    /// Goes on with the guest of a place, and closes its connection where it is over.
-    fn go_on<J: Reception, L: Hall>(&mut self, shift: &mut Shift<L, G>, place: u32)
+    /// Takes over a guest that another worker left, once its host knows what the host of that one knew.
+    fn take_over<J: Reception, L: Hall>(
+        &mut self,
+        shift: &mut Shift<L, G>,
+        waiting: Waiting<L::In, L::Out, G, H::Front>,
+    )
         requires under { IsUnder (conduct_by H.Host) (terms_by J.Reception) self.old }
+        requires carries { self.old.carries ≡ true }
+        requires room { HasRoomFor shift.old.guests 1 }
+        requires place { shift.old.guests.vacant_key ≤ 4294967295 }
+        requires number { shift.old.next + 1 < 18446744073709551616 }
+        requires waits { IsWaiting L.In.TrySource L.Out.TrySink (conduct_by H.Host)
+            (counting_of H.counted H.none H.plus) (terms_by J.Reception) J.opening.past H.kept waiting }
         requires served { HasServed L.In.TrySource L.Out.TrySink
             (conduct_by H.Host) (counting_of H.counted H.none H.plus) (terms_by J.Reception) J.opening.past
             (serving_of L.closed L.closed_count L.Watch.Watch.let_go
-            shift.old.guests shift.old.closer shift.old.watch shift.old.tally)
+            shift.old.guests shift.old.closer shift.old.watch shift.old.tally shift.old.next)
             self.old }
         ensures under { IsUnder (conduct_by H.Host) (terms_by J.Reception) self.new }
         ensures grown { IsFront (H.seen self.old.host).known (H.seen self.new.host).known }
         ensures served { HasServed L.In.TrySource L.Out.TrySink
             (conduct_by H.Host) (counting_of H.counted H.none H.plus) (terms_by J.Reception) J.opening.past
             (serving_of L.closed L.closed_count L.Watch.Watch.let_go
-            shift.new.guests shift.new.closer shift.new.watch shift.new.tally)
+            shift.new.guests shift.new.closer shift.new.watch shift.new.tally shift.new.next)
+            self.new }
+        ensures came { came_to shift.new.tally shift.new.guests ≡ came_to shift.old.tally shift.old.guests + 1 }
+        ensures door { shift.new.is_open ≡ shift.old.is_open }
+    {
+        let (mut guest, front) = waiting.into_parts();
+        self.reach(front);
+        guest.renumber(shift.next);
+        self.seat::<J, L>(shift, guest);
+    }
+
+    /// Lets its host know what the host of another worker knew.
+    fn reach(&mut self, front: H::Front)
+        ensures told { IsTold (conduct_by H.Host) H.counted self.old.host self.new.host }
+        ensures reached { IsFront (H.kept front) (H.seen self.new.host).known }
+        ensures same { self.new ≡ record self.old { host = self.new.host } }
+    {
+        self.host.reach(front);
+    }
+
+    /// Gives a guest a place, and has it watched there. One that can't be watched is let go at once.
+    fn seat<J: Reception, L: Hall>(&self, shift: &mut Shift<L, G>, guest: Guest<L::In, L::Out, G>)
+        requires under { IsUnder (conduct_by H.Host) (terms_by J.Reception) self.now }
+        requires room { HasRoomFor shift.old.guests 1 }
+        requires place { shift.old.guests.vacant_key ≤ 4294967295 }
+        requires number { shift.old.next + 1 < 18446744073709551616 }
+        requires comes { IsToSeat L.In.TrySource L.Out.TrySink
+            (conduct_by H.Host) (counting_of H.counted H.none H.plus) (terms_by J.Reception) J.opening.past
+            (serving_of L.closed L.closed_count L.Watch.Watch.let_go
+            shift.old.guests shift.old.closer shift.old.watch shift.old.tally shift.old.next)
+            self.now guest }
+        ensures served { HasServed L.In.TrySource L.Out.TrySink
+            (conduct_by H.Host) (counting_of H.counted H.none H.plus) (terms_by J.Reception) J.opening.past
+            (serving_of L.closed L.closed_count L.Watch.Watch.let_go
+            shift.new.guests shift.new.closer shift.new.watch shift.new.tally shift.new.next)
+            self.now }
+        ensures came { came_to shift.new.tally shift.new.guests ≡ came_to shift.old.tally shift.old.guests + 1 }
+        ensures door { shift.new.is_open ≡ shift.old.is_open }
+    {
+        let place = shift.guests.vacant_key() as u32;
+        let watched = shift.watch.enter(place, guest.source());
+        shift.next += 1;
+        shift.guests.insert_reserved(guest);
+        if watched.is_err() {
+            self.close::<J, L>(shift, place, true);
+        }
+    }
+
+    /// Goes on with the guest of a place, where there is one. Where its next deed takes long it leaves it to the worker
+    /// that does that, and where that can't be it goes on with it itself.
+    fn go_on<J: Reception, E: Ledger, L: Hall, R: Wait>(
+        &mut self,
+        rt: &R,
+        listening: &Mutex<Listening<J, E, H, L, G>>,
+        pass: &mut Pass<J, E>,
+        shift: &mut Shift<L, G>,
+        place: u32,
+    )
+        requires under { IsUnder (conduct_by H.Host) (terms_by J.Reception) self.old }
+        requires out { came_to shift.old.tally shift.old.guests ≤ pass.old.out }
+        requires served { HasServed L.In.TrySource L.Out.TrySink
+            (conduct_by H.Host) (counting_of H.counted H.none H.plus) (terms_by J.Reception) J.opening.past
+            (serving_of L.closed L.closed_count L.Watch.Watch.let_go
+            shift.old.guests shift.old.closer shift.old.watch shift.old.tally shift.old.next)
+            self.old }
+        ensures under { IsUnder (conduct_by H.Host) (terms_by J.Reception) self.new }
+        ensures grown { IsFront (H.seen self.old.host).known (H.seen self.new.host).known }
+        ensures served { HasServed L.In.TrySource L.Out.TrySink
+            (conduct_by H.Host) (counting_of H.counted H.none H.plus) (terms_by J.Reception) J.opening.past
+            (serving_of L.closed L.closed_count L.Watch.Watch.let_go
+            shift.new.guests shift.new.closer shift.new.watch shift.new.tally shift.new.next)
+            self.new }
+        ensures comes { Comes pass.old pass.new (came_to shift.old.tally shift.old.guests)
+            (came_to shift.new.tally shift.new.guests) shift.old.is_open shift.new.is_open }
+    {
+        let carries = self.carries;
+        if !self.step::<J, L>(shift, place, carries) {
+            return;
+        }
+        if self.leave(rt, listening, pass, shift, place) {
+            return;
+        }
+        self.step::<J, L>(shift, place, true);
+    }
+
+    /// Goes on with the guest of a place by a turn of steps, where there is one, and closes its connection where it is
+    /// over. It answers whether its next deed takes long, which it does where that is said.
+    fn step<J: Reception, L: Hall>(
+        &mut self,
+        shift: &mut Shift<L, G>,
+        place: u32,
+        carries: bool,
+    ) -> bool
+        requires under { IsUnder (conduct_by H.Host) (terms_by J.Reception) self.old }
+        requires served { HasServed L.In.TrySource L.Out.TrySink
+            (conduct_by H.Host) (counting_of H.counted H.none H.plus) (terms_by J.Reception) J.opening.past
+            (serving_of L.closed L.closed_count L.Watch.Watch.let_go
+            shift.old.guests shift.old.closer shift.old.watch shift.old.tally shift.old.next)
+            self.old }
+        ensures under { IsUnder (conduct_by H.Host) (terms_by J.Reception) self.new }
+        ensures grown { IsFront (H.seen self.old.host).known (H.seen self.new.host).known }
+        ensures served { HasServed L.In.TrySource L.Out.TrySink
+            (conduct_by H.Host) (counting_of H.counted H.none H.plus) (terms_by J.Reception) J.opening.past
+            (serving_of L.closed L.closed_count L.Watch.Watch.let_go
+            shift.new.guests shift.new.closer shift.new.watch shift.new.tally shift.new.next)
             self.new }
         ensures came { came_to shift.new.tally shift.new.guests ≡ came_to shift.old.tally shift.old.guests }
         ensures door { shift.new.is_open ≡ shift.old.is_open }
     {
-        let Some(went) = self.advanced::<L>(&mut shift.guests, place as usize) else {
-            return;
+        let Some(went) = self.advanced::<L>(&mut shift.guests, place as usize, carries) else {
+            return false;
         };
         match went.advance {
             Advance::Moved => {
                 shift.watch.awaits(place, went.awaited, went.has_moved);
                 shift.watch.again(place);
+                false
             }
-            Advance::Waits | Advance::TakesLong => {
+            Advance::Waits => {
                 shift.watch.awaits(place, went.awaited, went.has_moved);
+                false
+            }
+            Advance::TakesLong => {
+                shift.watch.awaits(place, went.awaited, went.has_moved);
+                true
             }
             Advance::Ended(_) | Advance::NoMemory => {
                 shift.watch.leave(place);
                 self.close::<J, L>(shift, place, false);
+                false
             }
         }
+    }
+
+    /// Leaves the guest of a place for good to the worker that does what takes long, and answers whether it could.
+    fn leave<J: Reception, E: Ledger, L: Hall, R: Wait>(
+        &self,
+        rt: &R,
+        listening: &Mutex<Listening<J, E, H, L, G>>,
+        pass: &mut Pass<J, E>,
+        shift: &mut Shift<L, G>,
+        place: u32,
+    ) -> bool
+        requires out { came_to shift.old.tally shift.old.guests ≤ pass.old.out }
+        requires served { HasServed L.In.TrySource L.Out.TrySink
+            (conduct_by H.Host) (counting_of H.counted H.none H.plus) (terms_by J.Reception) J.opening.past
+            (serving_of L.closed L.closed_count L.Watch.Watch.let_go
+            shift.old.guests shift.old.closer shift.old.watch shift.old.tally shift.old.next)
+            self.now }
+        ensures served { HasServed L.In.TrySource L.Out.TrySink
+            (conduct_by H.Host) (counting_of H.counted H.none H.plus) (terms_by J.Reception) J.opening.past
+            (serving_of L.closed L.closed_count L.Watch.Watch.let_go
+            shift.new.guests shift.new.closer shift.new.watch shift.new.tally shift.new.next)
+            self.now }
+        ensures comes { Comes pass.old pass.new (came_to shift.old.tally shift.old.guests)
+            (came_to shift.new.tally shift.new.guests) shift.old.is_open shift.new.is_open }
+    {
+        if self.carries {
+            return false;
+        }
+        let Ok(front) = self.host.front() else {
+            return false;
+        };
+        if !kept_waiting(rt, listening, pass, &mut shift.guests, place, front) {
+            return false;
+        }
+        shift.watch.leave(place);
+        true
     }
 
     /// Closes the connection of a place, which was told late.
@@ -306,12 +481,12 @@ impl<H: HandsOver, G: Gate + Copy + Drop> Worker<H, G> {
         requires served { (before : ℕ) × HasServed L.In.TrySource L.Out.TrySink
             (conduct_by H.Host) (counting_of H.counted H.none H.plus) (terms_by J.Reception) J.opening.past
             (record (serving_of L.closed L.closed_count L.Watch.Watch.let_go
-            shift.old.guests shift.old.closer shift.old.watch shift.old.tally) { let_go = before })
+            shift.old.guests shift.old.closer shift.old.watch shift.old.tally shift.old.next) { let_go = before })
             self.now × (next_count before ≤ L.Watch.Watch.let_go shift.old.watch) }
         ensures served { HasServed L.In.TrySource L.Out.TrySink
             (conduct_by H.Host) (counting_of H.counted H.none H.plus) (terms_by J.Reception) J.opening.past
             (serving_of L.closed L.closed_count L.Watch.Watch.let_go
-            shift.new.guests shift.new.closer shift.new.watch shift.new.tally)
+            shift.new.guests shift.new.closer shift.new.watch shift.new.tally shift.new.next)
             self.now }
         ensures came { came_to shift.new.tally shift.new.guests ≡ came_to shift.old.tally shift.old.guests }
         ensures door { shift.new.is_open ≡ shift.old.is_open }
@@ -323,26 +498,28 @@ impl<H: HandsOver, G: Gate + Copy + Drop> Worker<H, G> {
         self.close::<J, L>(shift, place, true);
     }
 
-    /// Has the guest at a key go on, where there is one.
+    /// Has the guest at a key go on, where there is one. What takes long is done where that is said.
     fn advanced<L: Hall>(
         &mut self,
         guests: &mut Slab<Guest<L::In, L::Out, G>>,
         key: usize,
+        carries: bool,
     ) -> Option<Went>
         requires due { IfSome (get guests.old key) (λ guest.
             IfSome guest.talk.waiting (IsDue (length (H.seen self.old.host).catalogue.maps))) }
         ensures none { IfNone result ((guests.new ≡ guests.old) × (self.new ≡ self.old)) }
         ensures went { IfSome result (λ went. GoesOnAt (conduct_by H.Host) H.counted L.In.TrySource L.Out.TrySink
             key guests.old guests.new self.old.host self.new.host
-            (λ guest. ComesTo self.old.most went.advance (cut_of L.In.TrySource L.Out.TrySink guest.talk))) }
-        ensures most { self.new.most ≡ self.old.most }
+            (λ guest. ComesTo guest.origin.peer self.old.most went.advance
+            (cut_of L.In.TrySource L.Out.TrySink guest.talk))) }
+        ensures same { self.new ≡ record self.old { host = self.new.host } }
     {
         let guest = guests.get_mut(key)?;
         let advance = guest.advance(
             &mut self.host,
             &mut self.buffers,
             self.most,
-            true,
+            carries,
             TURN_STEPS,
         );
         Some(Went {
@@ -360,12 +537,12 @@ impl<H: HandsOver, G: Gate + Copy + Drop> Worker<H, G> {
         requires served { (before : ℕ) × HasServed L.In.TrySource L.Out.TrySink
             (conduct_by H.Host) (counting_of H.counted H.none H.plus) (terms_by J.Reception) J.opening.past
             (record (serving_of L.closed L.closed_count L.Watch.Watch.let_go
-            shift.old.guests shift.old.closer shift.old.watch shift.old.tally) { let_go = before })
+            shift.old.guests shift.old.closer shift.old.watch shift.old.tally shift.old.next) { let_go = before })
             self.now × (let_go_where is_let_go before ≤ L.Watch.Watch.let_go shift.old.watch) }
         ensures served { HasServed L.In.TrySource L.Out.TrySink
             (conduct_by H.Host) (counting_of H.counted H.none H.plus) (terms_by J.Reception) J.opening.past
             (serving_of L.closed L.closed_count L.Watch.Watch.let_go
-            shift.new.guests shift.new.closer shift.new.watch shift.new.tally)
+            shift.new.guests shift.new.closer shift.new.watch shift.new.tally shift.new.next)
             self.now }
         ensures came { came_to shift.new.tally shift.new.guests ≡ came_to shift.old.tally shift.old.guests }
         ensures door { shift.new.is_open ≡ shift.old.is_open }
@@ -377,15 +554,38 @@ impl<H: HandsOver, G: Gate + Copy + Drop> Worker<H, G> {
     }
 }
 
-/// The next connection of a listener, if one is there.
-fn admitted<J: Reception, E: Ledger, H: HandsOver, L: Hall, R: Wait>(
+/// The next connection of a listener, if one is there, or a guest that was left.
+fn admitted<J: Reception, E: Ledger, H: HandsOver, L: Hall, G, R: Wait>(
     rt: &R,
-    listening: &Mutex<Listening<J, E, H, L>>,
+    listening: &Mutex<Listening<J, E, H, L, G>>,
     pass: &mut Pass<J, E>,
-) -> Admission<L::In, L::Out>
-    ensures { Admits (IsExpectedCall (try_halves_of L.In.TrySource L.Out.TrySink) J.opening.past) result
-        pass.old pass.new }
+    carries: bool,
+) -> Admission<L::In, L::Out, G, H::Front>
+    ensures admits { Admits (IsExpectedCall (try_halves_of L.In.TrySource L.Out.TrySink) J.opening.past)
+        (IsWaiting L.In.TrySource L.Out.TrySink (conduct_by H.Host) (counting_of H.counted H.none H.plus)
+        (terms_by J.Reception) J.opening.past H.kept) result pass.old pass.new }
+    ensures idle { carries ≡ false → IsNotLeft result }
 {
     let mut kept = listening.lock(rt);
-    kept.admit(pass)
+    kept.admit(pass, carries)
+}
+
+/// Whether the guest of a place was kept for the worker that does what takes long.
+fn kept_waiting<J: Reception, E: Ledger, H: HandsOver, L: Hall, G, R: Wait>(
+    rt: &R,
+    listening: &Mutex<Listening<J, E, H, L, G>>,
+    pass: &mut Pass<J, E>,
+    guests: &mut Slab<Guest<L::In, L::Out, G>>,
+    place: u32,
+    front: H::Front,
+) -> bool
+    requires out { IfSome (get guests.old place) (λ _. 0 < pass.old.out) }
+    requires waits { IfSome (get guests.old place) (λ guest. IsWaiting L.In.TrySource L.Out.TrySink
+        (conduct_by H.Host) (counting_of H.counted H.none H.plus) (terms_by J.Reception) J.opening.past H.kept
+        (record { guest = guest; front = front })) }
+    ensures kept { result ≡ true → IsKept place guests.old guests.new pass.old pass.new }
+    ensures same { result ≡ false → (guests.new ≡ guests.old) × (pass.new ≡ pass.old) }
+{
+    let mut kept = listening.lock(rt);
+    kept.keep(pass, guests, place as usize, front)
 }

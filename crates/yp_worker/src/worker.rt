@@ -7,13 +7,15 @@ use crate::catch_up::HandsOver;
 use std::marker::Model;
 use yp_answer::session::{Buffers, CALLS_MAX};
 
-/// A worker. It answers at most so many records of one connection.
+/// A worker. It answers at most so many records of one connection. What takes long, the making and the fetching of
+/// maps, it does only where that is its work.
 #[derive(Drop)]
 pub struct Worker<H, G> {
     pub(crate) host: H,
     pub(crate) buffers: Buffers,
     pub(crate) gate: G,
     pub(crate) most: u64,
+    pub(crate) carries: bool,
 }
 
 impl<H, G> Model for Worker<H, G> {
@@ -21,20 +23,21 @@ impl<H, G> Model for Worker<H, G> {
 
     ghost Value = { Working H };
 
-    ghost view = { λ w. record { host = w.host; most = w.most } };
+    ghost view = { λ w. record { host = w.host; most = w.most; carries = w.carries } };
 }
 
 impl<H, G> Worker<H, G> {
     /// A worker with this host, and this memory for records and replies.
-    pub fn new(host: H, buffers: Buffers, gate: G, most: u64) -> Worker<H, G>
+    pub fn new(host: H, buffers: Buffers, gate: G, most: u64, carries: bool) -> Worker<H, G>
         requires { most ≤ CALLS_MAX }
-        ensures { result ≡ record { host = host; most = most } }
+        ensures { result ≡ record { host = host; most = most; carries = carries } }
     {
         Worker {
             host,
             buffers,
             gate,
             most,
+            carries,
         }
     }
 
@@ -49,6 +52,7 @@ impl<H, G> Worker<H, G> {
             buffers: _,
             gate: _,
             most: _,
+            carries: _,
         } = self;
         host
     }

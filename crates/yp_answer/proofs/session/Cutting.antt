@@ -1,8 +1,10 @@
 -- What goes on between two cuts of a conversation.
-use Rattle.std.proofs.Common.{◌≡◌, ℕ, ◌+◌, ◌≤◌, true, false, IsTrue, List, [], ◌∷◌, ◌++◌, length, Option, None, Some, refl, sym, ap, subst, ◌∙◌, append_assoc, arith, inl, inr}
+use Rattle.std.proofs.Common.{◌≡◌, ℕ, ◌+◌, ◌≤◌, Bool, true, false, IsTrue, List, [], ◌∷◌, ◌++◌, length, Option, None, Some, refl, sym, ap, subst, ◌∙◌, append_assoc, arith, inl, inr}
 use Rattle.std.specs.Io.KnownBytes.{Appends, Consumes, Keeps, append_known}
 use Rattle.std.proofs.KnownBytes.{Appends-trans, Consumes-trans}
+use Rattle.std.specs.List.{All}
 use Rattle.std.proofs.lemmas.List.{append-nil, length-append, map-append}
+use Rattle.std.proofs.lemmas.List.Elements.{All-nil, All-cons, All-append}
 use Rattle.std.proofs.lemmas.Grind.{flat_map-append}
 use Rattle.yp_io.specs.Counts.{capped}
 use Rattle.yp_io.specs.declared.stream.Peer.{Peer}
@@ -16,7 +18,9 @@ use Rattle.yp_answer.specs.session.Wires.{SourceTells, Wire}
 use Rattle.yp_answer.specs.session.Hosts.{Conduct, Turn, Link, CarriesOut}
 use Rattle.yp_answer.specs.session.Runs.{sent_reply}
 use Rattle.yp_answer.specs.session.Cuts.{Deed, Answered, Carried, Read, turns_of, waiting_behind, sent_over, IsPaidUp, AreInOrder, Cut, AreFramed, messages_of, written, IsCut}
-use Rattle.yp_answer.specs.inside.session.Cuts.{DoesDeeds, SeesOn, Follows, FollowsRead, GoesOn}
+use Rattle.yp_answer.specs.inside.session.Makes.{may_make}
+use Rattle.yp_answer.proofs.session.Making.{unmade}
+use Rattle.yp_answer.specs.inside.session.Cuts.{DoesDeeds, SeesOn, IsBrief, Follows, FollowsRead, GoesOn}
 
 -- ---- lists of deeds
 
@@ -79,26 +83,29 @@ sees_then a b c first second = record {
   );
 }
 
-module _ {H : Type 0} (conduct : Conduct H) (peer : Peer) where
+module _ {H : Type 0} (conduct : Conduct H) (peer : Peer) (carries : Bool) where
   does_then : (first second : List Deed) (a b c : H) → DoesDeeds conduct peer first a b → DoesDeeds conduct peer second b c → DoesDeeds conduct peer (first ++ second) a c
   does_then [] second a b c same next = let P : H → Type 0 = λ h. DoesDeeds conduct peer second h c in subst P same next
   does_then (deed ∷ first) second a b c does next = (does.0, does.1, does_then first second does.0 b c does.2 next)
 
   -- a conversation goes on, and its host stays
-  pub goes_by : (deeds : List Deed) (host : H) (a b : Cut) → DoesDeeds conduct peer deeds host host → Follows deeds a b → GoesOn conduct peer host host a b
-  goes_by deeds host a b does follows = record { deeds = deeds; does = does; follows = follows; sees = sees_same (conduct.seen host) }
+  pub goes_by : (deeds : List Deed) (host : H) (a b : Cut) → DoesDeeds conduct peer deeds host host → All IsBrief deeds → Follows deeds a b
+      → GoesOn conduct peer carries host host a b
+  goes_by deeds host a b does brief follows =
+      record { deeds = deeds; does = does; brief = λ e. brief; follows = follows; sees = sees_same (conduct.seen host) }
 
-  pub goes_still : (host : H) (a b : Cut) → Follows [] a b → GoesOn conduct peer host host a b
-  goes_still host a b follows = goes_by [] host a b refl follows
+  pub goes_still : (host : H) (a b : Cut) → Follows [] a b → GoesOn conduct peer carries host host a b
+  goes_still host a b follows = goes_by [] host a b refl (All-nil IsBrief) follows
 
-  pub goes_read : (host : H) (a b : Cut) → FollowsRead a b → GoesOn conduct peer host host a b
+  pub goes_read : (host : H) (a b : Cut) → FollowsRead a b → GoesOn conduct peer carries host host a b
   goes_read host a b (inl follows) = goes_still host a b follows
-  goes_read host a b (inr follows) = goes_by (Read a.wire ∷ []) host a b (host, refl, refl) follows
+  goes_read host a b (inr follows) = goes_by (Read a.wire ∷ []) host a b (host, refl, refl) (All-cons IsBrief (Read a.wire) [] tt (All-nil IsBrief)) follows
 
-  pub goes_then : (old mid new : H) (a b c : Cut) → GoesOn conduct peer old mid a b → GoesOn conduct peer mid new b c → GoesOn conduct peer old new a c
+  pub goes_then : (old mid new : H) (a b c : Cut) → GoesOn conduct peer carries old mid a b → GoesOn conduct peer carries mid new b c → GoesOn conduct peer carries old new a c
   goes_then old mid new a b c first second = record {
     deeds = first.deeds ++ second.deeds;
     does = does_then first.deeds second.deeds old mid new first.does second.does;
+    brief = λ e. All-append IsBrief first.deeds second.deeds (first.brief e) (second.brief e);
     follows = follows_then first.deeds second.deeds a b c first.follows second.follows;
     sees = sees_then (conduct.seen old) (conduct.seen mid) (conduct.seen new) first.sees second.sees;
   }
@@ -228,11 +235,12 @@ carried_follow taken old settled waiting start before is =
       faults = is.faults;
     }
 
-pub goes_carried : {H : Type 0} (conduct : Conduct H) (peer : Peer) (taken : Taken) (old new : H) (cut : Cut) → cut.settled ≡ true → cut.waiting ≡ Some taken
-    → CarriesOut conduct taken peer old new → GoesOn conduct peer old new cut (record cut { waiting = None })
-goes_carried conduct peer taken old new cut settled waiting carried = record {
+pub goes_carried : {H : Type 0} (conduct : Conduct H) (peer : Peer) (carries : Bool) (taken : Taken) (old new : H) (cut : Cut) → carries ≡ true
+    → cut.settled ≡ true → cut.waiting ≡ Some taken → CarriesOut conduct taken peer old new → GoesOn conduct peer carries old new cut (record cut { waiting = None })
+goes_carried conduct peer carries taken old new cut does settled waiting carried = record {
   deeds = Carried taken cut.wire ∷ [];
   does = (new, carried, refl);
+  brief = λ none. absurd (let e : true ≡ false = sym does ∙ none in cc);
   follows = carried_follow taken cut settled waiting;
   sees = record { catalogue = carried.catalogue; grown = carried.grown };
 }
@@ -291,11 +299,13 @@ answers_follow turn old new sound free waiting answers start before is =
       faults = let P : SourceTells → Type 0 = λ source. start.source.faults ≤ source.faults in subst P (sym answers.source) is.faults;
     }
 
-pub goes_answered : {H : Type 0} (conduct : Conduct H) (peer : Peer) (turn : Turn) (old new : H) (a b : Cut) → a.broken ≡ false → a.rest ≡ [] → a.waiting ≡ None
-    → turn.flushed ≡ false → Link conduct Stream peer turn old new → SeesOn (conduct.seen old) (conduct.seen new) → Answers turn a b → GoesOn conduct peer old new a b
-goes_answered conduct peer turn old new a b sound free waiting unsent link sees answers = record {
+pub goes_answered : {H : Type 0} (conduct : Conduct H) (peer : Peer) (carries : Bool) (turn : Turn) (old new : H) (a b : Cut) → a.broken ≡ false → a.rest ≡ []
+    → a.waiting ≡ None → turn.flushed ≡ false → Link conduct Stream peer turn old new → (carries ≡ false → may_make peer turn.message ≡ false)
+    → SeesOn (conduct.seen old) (conduct.seen new) → Answers turn a b → GoesOn conduct peer carries old new a b
+goes_answered conduct peer carries turn old new a b sound free waiting unsent link short sees answers = record {
   deeds = Answered turn ∷ [];
   does = (new, (unsent, link), refl);
+  brief = λ none. All-cons IsBrief (Answered turn) [] (unmade conduct peer turn old new link (short none)) (All-nil IsBrief);
   follows = answers_follow turn a b sound free waiting answers;
   sees = sees;
 }

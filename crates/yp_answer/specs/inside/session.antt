@@ -3,3 +3,4 @@ pub mod Runs
 pub mod Errands
 pub mod Cuts
 pub mod Puts
+pub mod Makes

@@ -5,7 +5,8 @@
 //! transfer is carried out, before the replies to all of them are out. What happens between two moments stands on
 //! [`Conversation::advance`], and what all of that comes to on the cuts that it speaks of.
 
-ghost use Rattle.std.specs.Prelude.{◌≡◌, ◌≢◌, [], true, false, None, Some, ℕ, length, IfSome};
+ghost use Rattle.std.specs.Prelude.{◌≡◌, ◌≢◌, [], true, false, None, Some, ℕ, length, take, IfSome};
+ghost use Rattle.yp_io.specs.declared.stream.Peer.{Peer};
 ghost use Rattle.yp_rpc.specs.Records.{IsUnfinished};
 ghost use Rattle.yp_rpc.specs.inside.Incoming.{BeginsWith};
 ghost use Rattle.yp_rpc.specs.declared.record.incoming.First.TheVariants.{Whole};
@@ -13,13 +14,15 @@ ghost use Rattle.yp_answer.specs.Numbers.{record_max};
 ghost use Rattle.yp_answer.specs.session.Progress.{begun};
 ghost use Rattle.yp_answer.specs.inside.session.Hosts.{conduct_by};
 ghost use Rattle.yp_answer.specs.inside.session.Errands.{IsDue};
-ghost use Rattle.yp_answer.specs.session.Cuts.{EndsSo, IsAtRest};
+ghost use Rattle.yp_answer.specs.inside.session.Makes.{may_make};
+ghost use Rattle.yp_answer.specs.session.Cuts.{IsAtRest};
 ghost use Rattle.yp_answer.specs.inside.session.Cuts.{ComesTo, Follows, FollowsRead, GoesOn, awaited_in, cut_of};
 
 use crate::RECORD_MAX;
 use crate::session::buffers::Buffers;
 use crate::session::errand::Errand;
 use crate::session::host::Host;
+use crate::session::makes::may_make;
 use crate::session::open::{OpenReply, put_piece};
 use crate::session::put::put_reply;
 use crate::session::session::{CALLS_MAX, End};
@@ -39,7 +42,7 @@ pub enum Advance {
     Moved,
     /// It can't go on before its wire can.
     Waits,
-    /// It can't go on before a transfer is carried out, which whoever called it left to another.
+    /// It can't go on before a transfer is carried out or a map may be made, which whoever called it leaves to another.
     TakesLong,
     /// It is over.
     Ended(End),
@@ -54,7 +57,7 @@ pub struct Terms {
     pub peer: Peer,
     /// The most records that are answered.
     pub most: u64,
-    /// Whether transfers are carried out.
+    /// Whether transfers are carried out, and records taken that maps may be made for.
     pub carries: bool,
 }
 
@@ -132,6 +135,13 @@ impl<S, K> Conversation<S, K> {
         self.calls
     }
 
+    /// What its records are read from.
+    pub fn source(&self) -> &S
+        ensures { result.now ≡ self.now.source }
+    {
+        &self.source
+    }
+
     /// What it waits for, where its wire can't go on.
     pub fn awaited(&self) -> Awaited
         ensures { result ≡ awaited_in self.now.settled self.now.incoming }
@@ -187,9 +197,9 @@ impl<S: TrySource, K: TrySink> Conversation<S, K> {
         steps: u32,
     ) -> Advance
         requires due { IfSome self.old.waiting (IsDue (length (H.seen host.old).catalogue.maps)) }
-        ensures goes { GoesOn (conduct_by H.Host) terms.now.peer host.old host.new
+        ensures goes { GoesOn (conduct_by H.Host) terms.now.peer terms.now.carries host.old host.new
             (cut_of S.TrySource K.TrySink self.old) (cut_of S.TrySource K.TrySink self.new) }
-        ensures comes_to { ComesTo terms.now.most result (cut_of S.TrySource K.TrySink self.new) }
+        ensures comes_to { ComesTo terms.now.peer terms.now.most result (cut_of S.TrySource K.TrySink self.new) }
         ensures due { IfSome self.new.waiting (IsDue (length (H.seen host.new).catalogue.maps)) }
     {
         for _ in 0..steps {
@@ -207,9 +217,9 @@ impl<S: TrySource, K: TrySink> Conversation<S, K> {
     /// Goes on by one step.
     fn step<H: Host>(&mut self, host: &mut H, buffers: &mut Buffers, terms: &Terms) -> Advance
         requires due { IfSome self.old.waiting (IsDue (length (H.seen host.old).catalogue.maps)) }
-        ensures goes { GoesOn (conduct_by H.Host) terms.now.peer host.old host.new
+        ensures goes { GoesOn (conduct_by H.Host) terms.now.peer terms.now.carries host.old host.new
             (cut_of S.TrySource K.TrySink self.old) (cut_of S.TrySource K.TrySink self.new) }
-        ensures comes_to { ComesTo terms.now.most result (cut_of S.TrySource K.TrySink self.new) }
+        ensures comes_to { ComesTo terms.now.peer terms.now.most result (cut_of S.TrySource K.TrySink self.new) }
         ensures due { IfSome self.new.waiting (IsDue (length (H.seen host.new).catalogue.maps)) }
     {
         if self.is_broken {
@@ -225,7 +235,7 @@ impl<S: TrySource, K: TrySink> Conversation<S, K> {
             if !terms.carries {
                 return Advance::TakesLong;
             }
-            self.carry_out(host, terms.peer);
+            self.carry_out(host, terms);
             return Advance::Moved;
         }
         if self.outgoing.len() >= OWED_MAX {
@@ -239,7 +249,7 @@ impl<S: TrySource, K: TrySink> Conversation<S, K> {
         requires sound { self.old.broken ≡ false }
         requires unpaid { self.old.settled ≡ false }
         ensures follows { Follows [] (cut_of S.TrySource K.TrySink self.old) (cut_of S.TrySource K.TrySink self.new) }
-        ensures comes_to { (most : ℕ) → ComesTo most result (cut_of S.TrySource K.TrySink self.new) }
+        ensures comes_to { (peer : Peer) (most : ℕ) → ComesTo peer most result (cut_of S.TrySource K.TrySink self.new) }
         ensures waiting { self.new.waiting ≡ self.old.waiting }
     {
         if self.outgoing.len() > 0 {
@@ -256,7 +266,7 @@ impl<S: TrySource, K: TrySink> Conversation<S, K> {
         requires sound { self.old.broken ≡ false }
         requires unpaid { self.old.settled ≡ false }
         ensures follows { Follows [] (cut_of S.TrySource K.TrySink self.old) (cut_of S.TrySource K.TrySink self.new) }
-        ensures comes_to { (most : ℕ) → ComesTo most result (cut_of S.TrySource K.TrySink self.new) }
+        ensures comes_to { (peer : Peer) (most : ℕ) → ComesTo peer most result (cut_of S.TrySource K.TrySink self.new) }
         ensures waiting { self.new.waiting ≡ self.old.waiting }
     {
         match self.outgoing.pay() {
@@ -275,18 +285,19 @@ impl<S: TrySource, K: TrySink> Conversation<S, K> {
     }
 
     /// Carries out the transfer that waits.
-    fn carry_out<H: Host>(&mut self, host: &mut H, peer: Peer)
+    fn carry_out<H: Host>(&mut self, host: &mut H, terms: &Terms)
+        requires carries { terms.now.carries ≡ true }
         requires settled { self.old.settled ≡ true }
         requires waits { self.old.waiting ≢ None }
         requires due { IfSome self.old.waiting (IsDue (length (H.seen host.old).catalogue.maps)) }
-        ensures goes { GoesOn (conduct_by H.Host) peer host.old host.new
+        ensures goes { GoesOn (conduct_by H.Host) terms.now.peer terms.now.carries host.old host.new
             (cut_of S.TrySource K.TrySink self.old) (cut_of S.TrySource K.TrySink self.new) }
         ensures waiting { self.new.waiting ≡ None }
     {
         let Some(errand) = self.errand.take() else {
             unreachable!()
         };
-        host.transfer(&errand.job(), peer);
+        host.transfer(&errand.job(), terms.peer);
     }
 
     /// Answers the next record where all of it came, and else pays what is owed, or reads on.
@@ -294,23 +305,26 @@ impl<S: TrySource, K: TrySink> Conversation<S, K> {
         requires sound { self.old.broken ≡ false }
         requires whole { self.old.stream ≡ None }
         requires free { self.old.waiting ≡ None }
-        ensures goes { GoesOn (conduct_by H.Host) terms.now.peer host.old host.new
+        ensures goes { GoesOn (conduct_by H.Host) terms.now.peer terms.now.carries host.old host.new
             (cut_of S.TrySource K.TrySink self.old) (cut_of S.TrySource K.TrySink self.new) }
-        ensures comes_to { ComesTo terms.now.most result (cut_of S.TrySource K.TrySink self.new) }
+        ensures comes_to { ComesTo terms.now.peer terms.now.most result (cut_of S.TrySource K.TrySink self.new) }
         ensures due { IfSome self.new.waiting (IsDue (length (H.seen host.new).catalogue.maps)) }
     {
         if self.calls == terms.most {
-            return self.end(End::Enough);
+            return self.rest(Advance::Ended(End::Enough));
         }
         match self.incoming.first(&mut buffers.call) {
             First::Whole { len, spelled } => {
-                self.answer(host, buffers, terms.peer, len, spelled);
+                if !terms.carries && may_make(&buffers.call[..len], terms.peer) {
+                    return self.rest(Advance::TakesLong);
+                }
+                self.answer(host, buffers, terms, len, spelled);
                 Advance::Moved
             }
             First::Part => self.read(),
             First::TooLong => {
                 let at = self.place;
-                self.end(End::TooLong { at })
+                self.rest(Advance::Ended(End::TooLong { at }))
             }
         }
     }
@@ -320,7 +334,7 @@ impl<S: TrySource, K: TrySink> Conversation<S, K> {
         &mut self,
         host: &mut H,
         buffers: &mut Buffers,
-        peer: Peer,
+        terms: &Terms,
         len: usize,
         spelled: usize,
     )
@@ -328,7 +342,8 @@ impl<S: TrySource, K: TrySink> Conversation<S, K> {
         requires whole { self.old.stream ≡ None }
         requires free { self.old.waiting ≡ None }
         requires record { BeginsWith record_max (Whole len spelled) self.old.incoming buffers.old }
-        ensures goes { GoesOn (conduct_by H.Host) peer host.old host.new
+        requires brief { terms.now.carries ≡ false → may_make terms.now.peer (take len buffers.old) ≡ false }
+        ensures goes { GoesOn (conduct_by H.Host) terms.now.peer terms.now.carries host.old host.new
             (cut_of S.TrySource K.TrySink self.old) (cut_of S.TrySource K.TrySink self.new) }
         ensures due { IfSome self.new.waiting (IsDue (length (H.seen host.new).catalogue.maps)) }
     {
@@ -339,7 +354,7 @@ impl<S: TrySource, K: TrySink> Conversation<S, K> {
             &mut self.outgoing,
             host,
             &buffers.call[..len],
-            peer,
+            terms.peer,
             &mut buffers.reply,
         );
         self.incoming.pass(spelled);
@@ -359,7 +374,7 @@ impl<S: TrySource, K: TrySink> Conversation<S, K> {
         requires free { self.old.waiting ≡ None }
         requires unfinished { IsUnfinished record_max self.old.incoming }
         ensures follows { FollowsRead (cut_of S.TrySource K.TrySink self.old) (cut_of S.TrySource K.TrySink self.new) }
-        ensures comes_to { (most : ℕ) → ComesTo most result (cut_of S.TrySource K.TrySink self.new) }
+        ensures comes_to { (peer : Peer) (most : ℕ) → ComesTo peer most result (cut_of S.TrySource K.TrySink self.new) }
         ensures waiting { self.new.waiting ≡ None }
     {
         if !self.is_settled {
@@ -377,21 +392,21 @@ impl<S: TrySource, K: TrySink> Conversation<S, K> {
         }
     }
 
-    /// Pays what is owed, and ends where nothing is.
-    fn end(&mut self, end: End) -> Advance
+    /// Pays what is owed, and comes to that where nothing is.
+    fn rest(&mut self, advance: Advance) -> Advance
         requires sound { self.old.broken ≡ false }
         requires whole { self.old.stream ≡ None }
         requires free { self.old.waiting ≡ None }
         ensures follows { Follows [] (cut_of S.TrySource K.TrySink self.old) (cut_of S.TrySource K.TrySink self.new) }
-        ensures comes_to { (most : ℕ)
+        ensures comes_to { (peer : Peer) (most : ℕ)
             → (IsAtRest (cut_of S.TrySource K.TrySink self.old)
-            → EndsSo most end (cut_of S.TrySource K.TrySink self.old))
-            → ComesTo most result (cut_of S.TrySource K.TrySink self.new) }
+            → ComesTo peer most advance (cut_of S.TrySource K.TrySink self.old))
+            → ComesTo peer most result (cut_of S.TrySource K.TrySink self.new) }
         ensures waiting { self.new.waiting ≡ None }
     {
         if !self.is_settled {
             return self.pay();
         }
-        Advance::Ended(end)
+        advance
     }
 }

@@ -12,7 +12,8 @@ use crate::session::transfer::host;
 use std::alloc::Global;
 use std::process::Abort;
 use yp_answer::session::{Advance, Buffers, Conversation, End, Terms};
-use yp_io::{MemSink, MemSource, Pair, Scheduled};
+use yp_io::Pair;
+use yp_memory::{MemSink, MemSource, Scheduled};
 
 type MemConversation = Conversation<Scheduled<MemSource>, Scheduled<MemSink>>;
 
@@ -140,7 +141,7 @@ const TWO: Ending = Ending {
     ..CLEAN
 };
 
-static ENDINGS: [Ending; 10] = [
+static ENDINGS: [Ending; 9] = [
     CLEAN,
     Ending {
         name: "a torn head",
@@ -213,6 +214,9 @@ static ENDINGS: [Ending; 10] = [
         output: "",
         ..CLEAN
     },
+];
+
+static LEFT: [Ending; 3] = [
     Ending {
         name: "a transfer that is left to another",
         input: "FIRST_XFR DOMAIN",
@@ -223,6 +227,30 @@ static ENDINGS: [Ending; 10] = [
         over: Advance::TakesLong,
         calls: 1,
         output: "FIRST_XFR_REPLY",
+        ..CLEAN
+    },
+    Ending {
+        name: "a MAKE that is left to another",
+        input: "NULL DOMAIN MAKE 00000001 NULL",
+        course: Course {
+            carries: false,
+            ..STEADY
+        },
+        over: Advance::TakesLong,
+        calls: 2,
+        output: "NULL_REPLY DOMAIN_REPLY",
+        ..CLEAN
+    },
+    Ending {
+        name: "a MAKE by name that is left to another",
+        input: "NULL DOMAIN MAKE_M NULL",
+        course: Course {
+            carries: false,
+            ..STEADY
+        },
+        over: Advance::TakesLong,
+        calls: 2,
+        output: "NULL_REPLY DOMAIN_REPLY",
         ..CLEAN
     },
 ];
@@ -248,6 +276,16 @@ fn conversations_end(rt: HostRuntime) {
     let mut host = host(&rt, rt, alloc);
     let mut buffers = Buffers::new(alloc).expect(&rt, "buffers");
     for row in &ENDINGS {
+        try_ending(&rt, alloc, &mut host, &mut buffers, row);
+    }
+}
+
+#[test]
+fn conversations_are_left(rt: HostRuntime) {
+    let alloc = rt.alloc();
+    let mut host = host(&rt, rt, alloc);
+    let mut buffers = Buffers::new(alloc).expect(&rt, "buffers");
+    for row in &LEFT {
         try_ending(&rt, alloc, &mut host, &mut buffers, row);
     }
 }

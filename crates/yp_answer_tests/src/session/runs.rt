@@ -9,7 +9,7 @@ use std::alloc::Global;
 use std::process::Abort;
 use std::random::RandomSource;
 use yp_answer::session::*;
-use yp_io::MemWire;
+use yp_memory::MemWire;
 
 const CLEAN: Row = Row {
     name: "three records",

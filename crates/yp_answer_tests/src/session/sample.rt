@@ -7,7 +7,8 @@ use std::alloc::Global;
 use std::process::Abort;
 use std::sync::Arc;
 use yp_answer::session::*;
-use yp_io::{MemSink, MemSource, MemWire, Pair, Peer, Source, Trail};
+use yp_io::{Pair, Peer, Source, Trail};
+use yp_memory::{MemSink, MemSource, MemWire};
 use yp_version::Version;
 
 pub const PEER: Peer = Peer {

@@ -1,10 +1,9 @@
 //! A board for threads is opened.
 
-ghost use Rattle.std.specs.Prelude.{◌≡◌, ◌+◌, ◌≤◌, [], ◌∷◌, ◌++◌, All, map, length, option_map, IfOk, OnOk};
+ghost use Rattle.std.specs.Prelude.{◌≡◌, ◌≤◌, [], ◌∷◌, ◌++◌, All, map, length, option_map, IfOk, OnOk};
 ghost use Rattle.std.specs.Vec.{vec_len};
 ghost use Rattle.std.specs.Arc.{arc_value};
 ghost use Rattle.yp_board.specs.Logs.{starts};
-ghost use Rattle.yp_board.specs.readers.Boards.{workers_max};
 
 use crate::Catalog;
 use crate::readers::history::{History, Naming, Opened};
@@ -16,7 +15,8 @@ use std::sync::{Arc, Wait};
 use yp_io::NoMemory;
 use yp_version::Version;
 
-/// The most workers of a server. Each has a reader of its own, and so has the worker of datagrams.
+/// The most workers of a server that serve connections. Each has a reader of its own, and so have the one that does what
+/// takes long for them and each that serves datagrams.
 pub const WORKERS_MAX: u32 = 8;
 
 /// A board of this catalogue, on which these versions are shown, in the order of their maps: its writer, and its
@@ -32,7 +32,7 @@ pub fn board<J: Naming, R: Wait + Drop>(
 ) -> Result<(Writer<J, R>, Vec<Reader<J>>), NoMemory>
     requires named { opened ≡ J.book }
     requires starts { length start.items ≡ length catalog.maps }
-    requires readers { (1 ≤ readers) × (readers ≤ workers_max + 1) }
+    requires readers { 1 ≤ readers }
     ensures writer { IfOk result (λ board. board.0 ≡ record {
       maps = length catalog.maps;
       log = starts 0 (map (option_map arc_value) start.items);

@@ -1,6 +1,6 @@
 //! A reader of a board for threads.
 
-ghost use Rattle.std.specs.Prelude.{◌≡◌, ◌⊎◌, IfSome, OnOk, OnErr, MatchBool};
+ghost use Rattle.std.specs.Prelude.{◌≡◌, ◌⊎◌, IfOk, IfSome, OnOk, OnErr, MatchBool};
 ghost use Rattle.std.specs.Arc.{arc_value};
 ghost use Rattle.yp_board.specs.Views.{IsFront, Refreshes};
 
@@ -81,6 +81,27 @@ impl<J: Naming> Reader<J> {
                 Ok(())
             }
             None => Err(NoMemory),
+        }
+    }
+}
+
+impl<J: Naming> Reader<J> {
+    /// The table that it knows, with one more owner of its versions. It takes no memory, and is refused where these have
+    /// too many.
+    pub(crate) fn table(&self) -> Result<Table<J>, NoMemory>
+        ensures { IfOk result (λ table. table ≡ self.now.known) }
+    {
+        self.table.copy().map_err(|_| NoMemory)
+    }
+
+    /// Learns what another reader knew. Afterwards it knows the longer of two fronts, its own and that one's.
+    pub(crate) fn learn(&mut self, table: Table<J>)
+        ensures known { IsFront table self.new.known }
+        ensures grown { IsFront self.old.known self.new.known }
+        ensures same { self.new ≡ record self.old { known = self.new.known } }
+    {
+        if self.table.front().is_behind(table.front()) {
+            self.table = table;
         }
     }
 }

@@ -167,6 +167,18 @@ where
         if one.is_behind(&other) { other } else { one }
     }
 
+    type Knowledge = Table<J>;
+
+    ghost knows = { λ table. table };
+
+    fn knowledge(reader: &Reader<J>) -> Result<Table<J>, NoMemory> {
+        reader.table()
+    }
+
+    fn teach(reader: &mut Reader<J>, knowledge: Table<J>) {
+        reader.learn(knowledge);
+    }
+
     fn covers(&mut self, front: &Front<J>) {
         self.history.covers(front);
     }

@@ -4,7 +4,8 @@ use crate::given::{assert_same, listed};
 use crate::memory::hall::call;
 use std::alloc::Global;
 use std::process::Abort;
-use yp_io::{Coming, Failed, Hall, HallCall, HallCloser, MemHall};
+use yp_io::{Coming, Failed, Hall};
+use yp_memory::{HallCall, HallCloser, MemHall};
 
 // A hall to which the ports 1 and 2 call, and which is to accept so many connections. These calls of it fail.
 fn door(rt: &impl Abort, alloc: Global, most: u32, failing: &[u64]) -> MemHall {

@@ -1,12 +1,13 @@
 //! Dials in memory.
 
 ghost use Rattle.std.specs.Prelude.{All};
-ghost use Rattle.yp_io.specs.inside.MemDial.{WireIsNew};
+ghost use Rattle.yp_memory.specs.inside.MemDial.{WireIsNew};
 
 use crate::given::{assert_same, listed, owned, read_two, sent};
 use std::alloc::Global;
 use std::process::Abort;
 use yp_io::*;
+use yp_memory::*;
 
 const PEER: Peer = Peer {
     addr: [10, 0, 0, 1],

@@ -2,7 +2,8 @@
 
 use crate::given::{assert_same, bytes, listed, owned, sent};
 use std::process::Abort;
-use yp_io::{Disk, Failed, MemDisk};
+use yp_io::{Disk, Failed};
+use yp_memory::MemDisk;
 
 // A write within the disk's length, up to a small place.
 fn write(disk: &mut MemDisk, at: u64, piece: &[u8]) -> Result<(), Failed> {

@@ -1,14 +1,15 @@
 //! A hall in memory: connections that come, or don't now, wires that go on at some calls alone, and what a watch tells.
 
-ghost use Rattle.yp_io.specs.inside.MemHall.{EntryIsNew};
+ghost use Rattle.yp_memory.specs.inside.MemHall.{EntryIsNew};
 
 use crate::given::{assert_same, listed, owned};
 use std::alloc::Global;
 use std::process::Abort;
 use yp_io::{
-    Awaited, CallOrigin, Called, Coming, Failed, Hall, HallCall, HallCloser, MemHall, MemSink,
-    MemSource, MemWatch, Notice, Pair, Peer, Scheduled, TrySink, TrySource, Watch,
+    Awaited, CallOrigin, Called, Coming, Failed, Hall, Notice, Pair, Peer, TrySink, TrySource,
+    Watch,
 };
+use yp_memory::{HallCall, HallCloser, MemHall, MemSink, MemSource, MemWatch, Scheduled};
 
 // A connection of this port. The second call of each half of its wire says "not now".
 pub(crate) fn call(rt: &impl Abort, alloc: Global, port: u16) -> HallCall
@@ -152,7 +153,7 @@ fn wires_that_go_on_at_some_calls(rt: HostRuntime) {
 // What is told in turn, where two places are entered, and one leaves behind seven notices.
 fn notices(rt: &impl Abort, alloc: Global, watch: &mut MemWatch) -> ([Notice; 7], [Notice; 3]) {
     for place in [5, 7] {
-        let entered = watch.enter(place, &call(rt, alloc, 1).wire);
+        let entered = watch.enter(place, &call(rt, alloc, 1).wire.source);
         assert_same(rt, &entered, &Ok(()), "a place");
     }
     let mut first = [Notice::Quiet; 7];
@@ -168,13 +169,13 @@ fn notices(rt: &impl Abort, alloc: Global, watch: &mut MemWatch) -> ([Notice; 7]
 #[test]
 fn watch_goes_round(rt: HostRuntime) {
     let mut hall = hall(&rt, rt.alloc(), 2);
-    let mut watch = hall.watch().expect(&rt, "a watch");
+    let mut watch = hall.watch(true).expect(&rt, "a watch");
     let (five, seven) = (Notice::Ready { place: 5 }, Notice::Ready { place: 7 });
     let late = Notice::Late { place: 3 };
     let first = [Notice::Quiet, late, five, seven, Notice::Door, five, seven];
     let came = notices(&rt, rt.alloc(), &mut watch);
     let wanted = (first, [Notice::Door, seven, Notice::Door]);
     assert_same(&rt, &came, &wanted, "notices");
-    let fails = hall.watch().is_err();
+    let fails = hall.watch(true).is_err();
     assert_same(&rt, &fails, &true, "the second call");
 }

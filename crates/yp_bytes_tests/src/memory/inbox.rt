@@ -3,7 +3,8 @@
 use crate::given::{assert_same, listed, owned, sent};
 use std::alloc::Global;
 use std::process::Abort;
-use yp_io::{Failed, Inbox, Letter, Mail, MemInbox, Peer};
+use yp_io::{Failed, Inbox, Letter, Mail, Peer};
+use yp_memory::MemInbox;
 
 const PEER: Peer = Peer {
     addr: [10, 0, 0, 1],

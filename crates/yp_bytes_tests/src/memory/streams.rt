@@ -6,6 +6,7 @@ use crate::given::{Read, assert_same, listed, owned, read_two, sent};
 use std::alloc::Global;
 use std::process::Abort;
 use yp_io::*;
+use yp_memory::*;
 
 fn seven_reads(source: &mut MemSource) -> [Read; 7] {
     let mut reads = [(Ok(0), [0; 2]); 7];

@@ -4,6 +4,7 @@ use crate::given::{assert_same, listed, owned, sent};
 use std::alloc::Global;
 use std::process::Abort;
 use yp_io::*;
+use yp_memory::*;
 
 // The answer to a read of a text, and the bytes that came.
 type Text = (Result<(), TextFault>, Vec<u8>);

@@ -5,7 +5,8 @@ ghost use Rattle.std.specs.Prelude.{◌≡◌, ◌<◌, [], length};
 use crate::given::{assert_same, assert_shown, bytes, listed};
 use std::alloc::Global;
 use std::process::Abort;
-use yp_io::{Failed, MemSink, MemSource, Sink, Source};
+use yp_io::{Failed, Sink, Source};
+use yp_memory::{MemSink, MemSource};
 use yp_rpc::*;
 
 // The most bytes of a record.

@@ -4,7 +4,8 @@ use crate::given::{assert_same, letter, listed};
 use crate::rpc::asker::{Asker, NO_ANSWER};
 use std::alloc::Global;
 use std::process::Abort;
-use yp_io::{Failed, Letter, MemInbox, Peer};
+use yp_io::{Failed, Letter, Peer};
+use yp_memory::MemInbox;
 use yp_rpc::{Ended, Room, take_turns};
 
 const PEER: Peer = Peer {

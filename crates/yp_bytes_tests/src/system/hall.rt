@@ -50,7 +50,7 @@ impl<R: Net<Stream = TcpStream, Listener = TcpListener> + Clock + Copy + Drop + 
     fn new(rt: R, alloc: Global, most: u64, limits: Limits) -> Worker<R> {
         let (_, port) = listener(&rt);
         let mut hall = TcpHall::with_limits(alloc, rt, port, most, limits);
-        let watch = hall.watch().expect(&rt, "a watch");
+        let watch = hall.watch(true).expect(&rt, "a watch");
         let calls = Vec::new(alloc);
         Worker {
             rt,
@@ -75,7 +75,7 @@ impl<R: Net<Stream = TcpStream, Listener = TcpListener> + Clock + Copy + Drop + 
         match self.hall.try_accept() {
             Ok(Coming::Came(call)) => {
                 let place = u32::try_from(self.calls.len()).unwrap_or(u32::MAX);
-                let entered = self.watch.enter(place, &call.wire);
+                let entered = self.watch.enter(place, &call.wire.source);
                 let is_kept = self.calls.push(sent(call)).is_ok();
                 assert_same(&self.rt, &(entered, is_kept), &(Ok(()), true), "a place");
                 false
@@ -383,7 +383,7 @@ fn nobody_comes_any_more(rt: HostRuntime) {
 #[test]
 fn two_watches_of_one_door(rt: HostRuntime) {
     let mut worker = Worker::new(rt, rt.alloc(), 1, patient());
-    let mut other = sent(worker.hall.watch().expect(&rt, "a watch"));
+    let mut other = sent(worker.hall.watch(true).expect(&rt, "a watch"));
     let first = [worker.watch.next(), other.next()];
     let _caller = worker.caller();
     let then = [worker.watch.next(), other.next()];
@@ -416,6 +416,6 @@ fn port_that_another_listens_at(rt: HostRuntime) {
     let (_other, port) = listener(&rt);
     let mut hall = sent(TcpHall::new(rt.alloc(), rt, port, 1));
     hall.open();
-    let came = (hall.try_accept().is_err(), hall.watch().is_err());
+    let came = (hall.try_accept().is_err(), hall.watch(true).is_err());
     assert_same(&rt, &came, &(true, true), "no port");
 }

@@ -13,6 +13,7 @@ use crate::{Client, ClientFault};
 use std::alloc::Global;
 use yp_io::{Sink, Source};
 use yp_messages::Names;
+use yp_version::Order;
 
 /// A map, and the name of its master.
 #[derive(Drop)]
@@ -25,7 +26,7 @@ pub struct Mastered {
 #[derive(Drop)]
 pub struct Survey {
     pub maps: Vec<Mastered>,
-    pub orders: Vec<Option<u32>>,
+    pub orders: Vec<Option<Order>>,
 }
 
 /// The names of a domain's maps.
@@ -98,7 +99,7 @@ fn ask_order<S: Source, K: Sink>(
     client: &mut Client<S, K>,
     domain: &[u8],
     map: &Mastered,
-) -> Result<Option<u32>, QueryFault>
+) -> Result<Option<Order>, QueryFault>
     requires domain { length domain.now ≤ name_max }
     requires map { length map.now.name.items ≤ name_max }
     ensures { TellsOrder domain.now (mastered_view map.now) result
@@ -117,7 +118,7 @@ pub fn ask_orders<S: Source, K: Sink>(
     client: &mut Client<S, K>,
     domain: &[u8],
     maps: &[Mastered],
-) -> Result<Vec<Option<u32>>, QueryFault>
+) -> Result<Vec<Option<Order>>, QueryFault>
     requires domain { length domain.now ≤ name_max }
     requires maps { HasShortNames (map mastered_view maps.now) }
     ensures { TellsOrders domain.now (map mastered_view maps.now) (told (λ orders. orders.items) result)

@@ -23,12 +23,13 @@ use crate::{Unconnected, connect};
 use std::alloc::Global;
 use yp_io::{Dial, Peer, Sink};
 use yp_rpc::laws;
+use yp_version::Order;
 
 /// What all servers tell: the first its maps, their masters and its orders, and each other its orders of these maps.
 #[derive(Drop)]
 pub struct Comparison {
     pub survey: Survey,
-    pub others: Vec<Vec<Option<u32>>>,
+    pub others: Vec<Vec<Option<Order>>>,
 }
 
 impl From<Unconnected> for QueryFault {
@@ -71,7 +72,7 @@ fn dial_other<A: Dial>(
     to: Peer,
     domain: &[u8],
     maps: &[Mastered],
-) -> Result<Vec<Option<u32>>, QueryFault>
+) -> Result<Vec<Option<Order>>, QueryFault>
     requires domain { length domain.now ≤ name_max }
     requires maps { HasShortNames (map mastered_view maps.now) }
     ensures dials { Dials to (IsUnlessMemory (TellsOrders domain.now (map mastered_view maps.now)))
@@ -92,7 +93,7 @@ fn dial_others<A: Dial>(
     others: &[Peer],
     domain: &[u8],
     maps: &[Mastered],
-) -> Result<Vec<Vec<Option<u32>>>, QueryFault>
+) -> Result<Vec<Vec<Option<Order>>>, QueryFault>
     requires domain { length domain.now ≤ name_max }
     requires maps { HasShortNames (map mastered_view maps.now) }
     ensures asks { InTurn (AsksOther domain.now (map mastered_view maps.now)) others.now (told orders_view result)

@@ -17,9 +17,10 @@ use crate::query::fault::QueryFault;
 use crate::query::text::TextBuffer;
 use std::alloc::Global;
 use yp_io::{Failed, Sink};
+use yp_version::Order;
 
 /// The order of the map with this number, counted from 0, where a server has one.
-fn order_at(orders: &[Option<u32>], number: usize) -> Option<u32>
+fn order_at(orders: &[Option<Order>], number: usize) -> Option<Order>
     ensures { result ≡ slice_index_or orders.now number None }
 {
     match orders.get(number) {
@@ -32,7 +33,7 @@ fn order_at(orders: &[Option<u32>], number: usize) -> Option<u32>
 fn print_order<K: Sink>(
     text: &mut TextBuffer,
     sink: &mut K,
-    orders: &[Option<u32>],
+    orders: &[Option<Order>],
     number: usize,
 ) -> Result<(), Failed>
     ensures puts { Puts (order_column number orders.now) result text.old text.new
@@ -41,7 +42,7 @@ fn print_order<K: Sink>(
 {
     text.put(sink, b" ")?;
     match order_at(orders, number) {
-        Some(order) => text.put(sink, itoa::Buffer::new().format(order).as_bytes()),
+        Some(order) => text.put(sink, itoa::Buffer::new().format(order.number()).as_bytes()),
         None => text.put(sink, b"none"),
     }
 }
@@ -50,7 +51,7 @@ fn print_order<K: Sink>(
 fn print_others<K: Sink>(
     text: &mut TextBuffer,
     sink: &mut K,
-    others: &[Vec<Option<u32>>],
+    others: &[Vec<Option<Order>>],
     number: usize,
 ) -> Result<(), Failed>
     ensures puts { Puts (flat_map (order_column number) (orders_list others.now)) result text.old text.new
@@ -129,7 +130,7 @@ fn print_lines<K: Sink>(
 }
 
 /// Whether all of these are the same orders as the first.
-fn are_same(others: &[Vec<Option<u32>>], first: &[Option<u32>]) -> bool
+fn are_same(others: &[Vec<Option<Order>>], first: &[Option<Order>]) -> bool
     ensures { result ≡ list_all (λ orders. pointwise (option_eq nat_eq) orders.items first.now) others.now }
 {
     others.iter().all(|orders| orders.as_slice() == first)

@@ -27,7 +27,7 @@ use yp_io::{NoMemory, Sink, Source};
 use yp_messages::{Names, ReqXfr, XfrStat};
 use yp_netgroup::laws::membership_is_decided;
 use yp_netgroup::{Who, innetgr};
-use yp_version::{Version, VersionBuilder};
+use yp_version::{Order, Version, VersionBuilder};
 
 /// The whole answer to a question.
 #[derive(Drop)]
@@ -37,7 +37,7 @@ pub enum Answer {
     /// A value, a name, the status of a transfer, or that a map was made.
     Line(Vec<u8>),
     /// The order and the master of a map.
-    Standing { order: u32, master: Vec<u8> },
+    Standing { order: Order, master: Vec<u8> },
     /// The names of maps.
     Maps(Names),
     /// Whether somebody is a member of a group.
@@ -118,7 +118,7 @@ fn take_rows<S: Source, K: Sink>(
     ensures { (means : List Row → QueryOutcome) → IsUnlessMemory (TakesRows means domain.now map.now)
         (version_outcome means result) (state_of S.Source K.Sink client.old) (state_of S.Source K.Sink client.new) }
 {
-    let mut builder = match VersionBuilder::new(alloc, rt, 0, b"") {
+    let mut builder = match VersionBuilder::new(alloc, rt, Order(0), b"") {
         Ok(builder) => builder,
         Err(NoMemory) => return Err(QueryFault::NoMemory),
     };

@@ -17,7 +17,7 @@ use crate::query::text::TextBuffer;
 use std::alloc::Global;
 use yp_io::{Failed, NoMemory, Sink};
 use yp_messages::{Names, XfrStat};
-use yp_version::Version;
+use yp_version::{Order, Version};
 
 /// Prints an answer, and flushes.
 pub fn print<K: Sink>(alloc: Global, answer: &Answer, sink: &mut K) -> Result<(), QueryFault>
@@ -154,14 +154,18 @@ fn print_row<K: Sink>(
 fn print_standing<K: Sink>(
     text: &mut TextBuffer,
     sink: &mut K,
-    order: u32,
+    order: Order,
     master: &[u8],
 ) -> Result<(), Failed>
     ensures puts { Puts (standing_text order master.now) result text.old text.new
         (K.output sink.old) (K.output sink.new) }
     ensures cause { CountsFaults (K.faults sink.old) (K.faults sink.new) result }
 {
-    text.put_pair(sink, b"order", itoa::Buffer::new().format(order).as_bytes())?;
+    text.put_pair(
+        sink,
+        b"order",
+        itoa::Buffer::new().format(order.number()).as_bytes(),
+    )?;
     text.put_pair(sink, b"master", master)
 }
 

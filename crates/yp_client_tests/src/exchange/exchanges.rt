@@ -4,7 +4,7 @@
 use crate::asked::{FAIR, Fixed, ask};
 use crate::exchange::server::{Given, add_record, add_reply, board, show};
 use crate::exchange::told;
-use crate::given::{assert_same, bytes};
+use crate::given::{assert_same, bytes, number};
 use crate::lent::{MemClient, client_over};
 use std::alloc::Global;
 use std::process::Abort;
@@ -12,9 +12,10 @@ use std::random::RandomSource;
 use yp_board::PlainBoard;
 use yp_client::query::QueryFault;
 use yp_client::{ClientFault, Question, Row};
-use yp_io::{MemSink, MemSource, Pair};
+use yp_io::Pair;
+use yp_memory::{MemSink, MemSource};
 use yp_messages::{MapList, XfrStat, YpStat};
-use yp_version::VersionBuilder;
+use yp_version::{Order, VersionBuilder};
 
 const HOSTS: Given<'static> = Given {
     order: 100,
@@ -549,7 +550,7 @@ fn find(client: &mut MemClient) -> Found {
 }
 
 fn tell(client: &mut MemClient, into: &mut VersionBuilder) -> Told {
-    let order = told::order(client, b"lab", b"hosts.byname");
+    let order = number(told::order(client, b"lab", b"hosts.byname"));
     let master = len(told::master(client, b"lab", b"hosts.byname"));
     let names = count(told::maplist(client, b"lab"));
     let all = told::all(client, b"lab", b"hosts.byname", into);
@@ -563,7 +564,7 @@ fn call<R: RandomSource + Abort>(rt: &R, alloc: Global, input: Vec<u8>) -> (Foun
         sink: MemSink::new(alloc, 16, Vec::new(alloc)),
     };
     let mut client = client_over(rt, alloc, wire, 1);
-    let mut into = VersionBuilder::new(alloc, rt, 100, b"m1").expect(rt, "a builder");
+    let mut into = VersionBuilder::new(alloc, rt, Order(100), b"m1").expect(rt, "a builder");
     let found = find(&mut client);
     (found, tell(&mut client, &mut into))
 }

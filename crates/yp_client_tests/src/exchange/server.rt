@@ -12,7 +12,7 @@ use std::sync::Arc;
 use yp_answer::{Answered, RECORD_MAX, answer};
 use yp_board::{Catalog, MapName, PlainBoard, Show, View};
 use yp_io::Peer;
-use yp_version::{Version, VersionBuilder};
+use yp_version::{Order, Version, VersionBuilder};
 
 /// The client, as the server sees it.
 const CALLER: Peer = Peer {
@@ -44,7 +44,7 @@ fn assert_is_name<R: Abort>(rt: &R, name: &[u8])
 
 fn version<R: RandomSource + Abort>(rt: &R, alloc: Global, given: &Given<'_>) -> Arc<Version> {
     assert_is_name(rt, given.master);
-    let mut builder = VersionBuilder::new(alloc, rt, given.order, given.master).expect(
+    let mut builder = VersionBuilder::new(alloc, rt, Order(given.order), given.master).expect(
         rt,
         "a builder",
     );

@@ -41,7 +41,7 @@ use yp_client::{Client, ClientFault, Question, Row};
 use yp_end_to_end::exchange::laws;
 use yp_io::{Dial, Peer, Sink, Source};
 use yp_messages::MapList;
-use yp_version::VersionBuilder;
+use yp_version::{Order, VersionBuilder};
 
 /// DOMAIN: whether it is served.
 pub fn domain<S: Source, K: Sink>(
@@ -152,7 +152,7 @@ pub fn order<S: Source, K: Sink>(
     client: &mut Client<S, K>,
     domain: &[u8],
     map: &[u8],
-) -> Result<u32, ClientFault>
+) -> Result<Order, ClientFault>
     requires domain { length domain.now ≤ name_max }
     requires map { length map.now ≤ name_max }
     ensures { (maps : Maps) (peer : Caller) (rest : List ℕ) → AreServed maps → IsWord client.old.xid

@@ -19,7 +19,7 @@ use yp_io::{Failed, Inbox, NoMemory, Peer};
 use yp_rpc::{Handler, Room, Wish, take_turns};
 use yp_transfer::XfrFault;
 use yp_transfer::walk::{Walk, Walked};
-use yp_version::Version;
+use yp_version::{Order, Version};
 
 /// What came of the turns of a walk.
 #[derive(Drop)]
@@ -111,7 +111,7 @@ pub fn walk_inbox<R: RandomSource, I: Inbox>(
     alloc: Global,
     rt: &R,
     job: &WalkJob,
-    shown: Option<u32>,
+    shown: Option<Order>,
     room: &mut Room,
     inbox: &mut I,
 ) -> Result<Came, NoMemory>

@@ -22,6 +22,7 @@ use yp_command::office::{LINE_MAX, Line, add, add_map, add_number, add_peer};
 use yp_host::workers::{Event, Events, Journal, Totals};
 use yp_io::{Failed, Peer, Sink, write_all};
 use yp_messages::XfrStat;
+use yp_version::Order;
 
 /// The most events of one second that have a line of their own.
 const LINES_MAX: usize = 10;
@@ -81,7 +82,7 @@ fn add_told(line: &mut Line, stat: XfrStat, peer: Peer)
 }
 
 /// Adds a map, the order of its version, and for whom that was made or fetched.
-fn add_shown(line: &mut Line, names: &[MapName], number: u32, order: u32, peer: Peer)
+fn add_shown(line: &mut Line, names: &[MapName], number: u32, order: Order, peer: Peer)
     requires named { All IsNamed (map name_view names.now) }
     requires room { array_vec_len line.old + 265 ≤ LINE_MAX }
     ensures text { line.new.items ≡ line.old.items ++ shown_text (map name_view names.now) number order peer }
@@ -89,7 +90,7 @@ fn add_shown(line: &mut Line, names: &[MapName], number: u32, order: u32, peer: 
 {
     add_numbered(line, names, number);
     add(line, b" order ");
-    add_number(line, u64::from(order));
+    add_number(line, u64::from(order.number()));
     add(line, b" for ");
     add_peer(line, peer);
 }

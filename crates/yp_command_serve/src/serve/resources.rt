@@ -145,6 +145,7 @@ where
     L::Out: Send,
     L::Closer: Send,
     L::Watch: Send,
+    L::Waker: Send,
     A::In: Send,
     A::Out: Send,
     R: Threads + Wait + RandomSource + Sync,
@@ -214,6 +215,7 @@ where
     L::Out: Send,
     L::Closer: Send,
     L::Watch: Send,
+    L::Waker: Send,
     A::In: Send,
     A::Out: Send,
     R: Threads + Wait + RandomSource + Sync,
@@ -281,6 +283,7 @@ where
     L::Out: Send,
     L::Closer: Send,
     L::Watch: Send,
+    L::Waker: Send,
     A::In: Send,
     A::Out: Send,
     R: Threads + Wait + RandomSource + Sync,
@@ -309,7 +312,7 @@ where
     ensures moment { C.moment result.1.desk.clock ≡ C.moment desk.clock }
     ensures count { length result.1.disks.items ≡ length loaded }
 {
-    let Ok((writer, readers)) = board::<J, &R>(alloc, rt, opened, copy, start, spec.workers + 1)
+    let Ok((writer, readers)) = board::<J, &R>(alloc, rt, opened, copy, start, spec.workers + 2)
     else {
         let resources = ServerResources {
             disks: loaded.into_disks(),

@@ -85,6 +85,7 @@ where
     L::Out: Send,
     L::Closer: Send,
     L::Watch: Send,
+    L::Waker: Send,
     N: Sink + Send + Drop,
     R: Threads + Wait + RandomSource + time::Clock + Sync,
     requires named { All IsNamed catalog.maps }
@@ -182,6 +183,7 @@ where
     L::Out: Send,
     L::Closer: Send,
     L::Watch: Send,
+    L::Waker: Send,
     N: Sink + Send + Drop,
     R: Threads + Wait + RandomSource + time::Clock + Sync,
     requires catalogue { catalog_fault job.name.items (map name_view job.stores.items) ≡ None }

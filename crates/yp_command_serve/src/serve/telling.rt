@@ -55,6 +55,7 @@ where
     L::Out: Send,
     L::Closer: Send,
     L::Watch: Send,
+    L::Waker: Send,
     A::In: Send,
     A::Out: Send,
     N: Sink + Send + Drop,

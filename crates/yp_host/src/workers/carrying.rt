@@ -22,7 +22,7 @@ use yp_messages::XfrStat;
 use yp_publisher::Origin;
 use yp_publisher::sharing::{Accounts, Locked, Site, install_shared};
 use yp_transfer::{Asker, XfrFault};
-use yp_version::Version;
+use yp_version::{Order, Version};
 
 /// Fetches the map of a transfer job and installs it, and tells the caller at `peer` what came of it, where it wants to
 /// be told: what that came to, and its status. The desk's lock is held while it is fetched, and again while the caller
@@ -100,6 +100,7 @@ where
     let fetched = desk
         .lock(rt)
         .fetch(alloc, rt, job.source, name, shown, charges);
+    let shown = order_of(reader.held(job.map));
     match fetched {
         None => (Group::NoAddress, XfrStat::Maddr),
         Some(Err(fault)) => (failed_group(&fault, shown), fault.stat()),
@@ -110,14 +111,14 @@ where
 }
 
 /// The order of the version that is held.
-pub(crate) fn order_of(held: Option<&Version>) -> Option<u32>
+pub(crate) fn order_of(held: Option<&Version>) -> Option<Order>
     ensures { result ≡ option_map (λ version. version.order) (option_map (λ version. version.now) held.entry) }
 {
     Some(held?.order())
 }
 
 /// The group of a transfer that gave no version. An order that isn't over the one that is shown was told by the source.
-fn failed_group(fault: &XfrFault, shown: Option<u32>) -> Group
+fn failed_group(fault: &XfrFault, shown: Option<Order>) -> Group
     requires { IsAgedBy shown (Err fault.now) }
     ensures addressed { result ≢ Group.NoAddress }
     ensures shown { result ≡ Group.Reached → IsSome shown }

@@ -38,7 +38,7 @@ use yp_messages::XfrStat;
 use yp_publisher::sharing::{Accounts, FetchedVersions, Site};
 use yp_transfer::laws::fetched_is_one;
 use yp_transfer::{Asker, XfrFault, fetch_from, tell_back};
-use yp_version::Version;
+use yp_version::{Order, Version};
 
 /// What a desk of a site has, whoever uses it: it never changes; how often its texts and its dial had failed before it
 /// was shared, and which wires its dial had and what it had sent; and the ledgers of what is counted since then. Each
@@ -263,7 +263,7 @@ impl<S: Site + Accounts + Supplies, A: Dial, T: Texts, C: Clock> SharedDesk<S, A
         rt: &impl RandomSource,
         source: &[u8],
         name: &MapName,
-        shown: Option<u32>,
+        shown: Option<Order>,
         charges: &mut Charges<S>,
     ) -> Option<Result<Version, XfrFault>>
         requires named { 0 < length source.now }

@@ -359,4 +359,16 @@ impl<
         sum.take_in(self.totals, &mut self.charges, &self.reader);
         self.totals = Totals::none();
     }
+
+    type Front = B::Knowledge;
+
+    ghost kept = { B.knows };
+
+    fn front(&self) -> Result<B::Knowledge, NoMemory> {
+        B::knowledge(&self.reader)
+    }
+
+    fn reach(&mut self, front: B::Knowledge) {
+        B::teach(&mut self.reader, front);
+    }
 }

@@ -8,6 +8,7 @@ use std::marker::Model;
 use std::mem;
 use yp_io::Peer;
 use yp_messages::XfrStat;
+use yp_version::Order;
 
 /// The most events that are kept. More are counted alone.
 const EVENTS_MAX: usize = 64;
@@ -19,7 +20,7 @@ pub enum Event {
     /// A map was made anew for a caller, and its version with this order is shown.
     Made {
         map: u32,
-        order: u32,
+        order: Order,
         peer: Peer,
     },
     /// A map was to be made anew for a caller, and wasn't.
@@ -31,7 +32,7 @@ pub enum Event {
     /// A map was fetched for a caller, and its version with this order is shown.
     Fetched {
         map: u32,
-        order: u32,
+        order: Order,
         peer: Peer,
     },
     /// A map was to be fetched for a caller, and wasn't, or isn't shown.

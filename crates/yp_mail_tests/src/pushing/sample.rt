@@ -1,17 +1,19 @@
 //! Pushes in memory, to the slaves `s1`, `s2` and `s3`.
 
 ghost use Rattle.std.specs.Prelude.{◌≡◌, ◌<◌, [], All, length};
-ghost use Rattle.yp_io.specs.inside.MemDial.{WireIsNew};
+ghost use Rattle.yp_memory.specs.inside.MemDial.{WireIsNew};
 ghost use Rattle.yp_push.specs.inside.turns.Kept.{request_view, IsWithin};
 
 use crate::given::{NEVER, SELF, assert_same, failing, named};
 use std::alloc::Global;
 use std::process::Abort;
 use yp_board::MapName;
-use yp_io::{Failed, Letter, MemDial, MemInbox, MemSink, MemSource, MemWire, Pair, Peer};
+use yp_io::{Failed, Letter, Pair, Peer};
+use yp_memory::{MemDial, MemInbox, MemSink, MemSource, MemWire};
 use yp_push::Push;
 use yp_push::turns::{PushRequest, Pusher, Slave, all_have_map, text_of};
 use yp_rpc::{Ended, Room, take_turns};
+use yp_version::Order;
 
 /// Names of what comes and goes: replies to XFR with SUCC and each transaction, with REFUSED, and one that is cut;
 /// calls of XFRRESP of a transaction with its status; and the first call of XFR, with the transaction 500, program
@@ -135,7 +137,7 @@ fn order_of<R: Abort>(rt: &R, alloc: Global) -> PushRequest
                 .to_vec(alloc)
                 .expect(rt, "memory for a name"),
         },
-        order: 100,
+        order: Order(100),
         name: b"m1".to_vec(alloc).expect(rt, "memory for a name"),
         port: 7_001,
     }

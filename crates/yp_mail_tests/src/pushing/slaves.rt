@@ -7,7 +7,7 @@ use std::random::RandomSource;
 use yp_io::Peer;
 use yp_push::turns::{Slave, slaves_of};
 use yp_transfer::Hosts;
-use yp_version::{Version, VersionBuilder};
+use yp_version::{Order, Version, VersionBuilder};
 
 /// The keys of a map of servers, in the order in which they were pushed.
 static SERVERS: [&[u8]; 4] = [b"s2", b"m1", b"s10", b"s1"];
@@ -18,7 +18,7 @@ const KNOWN: Peer = Peer {
 };
 
 fn version<R: RandomSource + Abort>(rt: &R, alloc: Global) -> Version {
-    let mut builder = VersionBuilder::new(alloc, rt, 1, b"m1").expect(rt, "a builder");
+    let mut builder = VersionBuilder::new(alloc, rt, Order(1), b"m1").expect(rt, "a builder");
     for name in &SERVERS {
         assert_same(rt, &builder.push(name, b""), &Ok(true), "a new row");
     }

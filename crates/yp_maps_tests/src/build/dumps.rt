@@ -5,7 +5,7 @@ use std::alloc::Global;
 use std::process::Abort;
 use std::random::RandomSource;
 use yp_texts::{DumpFault, Reading, build, dump};
-use yp_version::{Version, VersionBuilder};
+use yp_version::{Order, Version, VersionBuilder};
 
 /// A name, rows, and the text that is told of them.
 type Dumped = (
@@ -54,7 +54,7 @@ static DUMPED: [Dumped; 8] = [
 ];
 
 fn version_of<R: RandomSource + Abort>(rt: &R, alloc: Global, rows: &[(&[u8], &[u8])]) -> Version {
-    let mut builder = VersionBuilder::new(alloc, rt, 7, b"m1").expect(rt, "a builder");
+    let mut builder = VersionBuilder::new(alloc, rt, Order(7), b"m1").expect(rt, "a builder");
     for (key, value) in rows {
         builder.push(key, value).expect(rt, "room for a row");
     }

@@ -6,7 +6,7 @@ use std::process::Abort;
 use std::random::RandomSource;
 use yp_texts::Reading::{Rows, Text};
 use yp_texts::*;
-use yp_version::{Version, VersionBuilder};
+use yp_version::{Order, Version, VersionBuilder};
 
 /// A name, how a text is read, the text, and the rows that it makes, by rising keys.
 type Made = (
@@ -331,7 +331,7 @@ fn rows_told<R: RandomSource + Abort>(
     text: &[u8],
 ) -> (Result<(), BuildFault>, usize) {
     assert_fits(rt, text);
-    let mut builder = VersionBuilder::new(alloc, rt, 1, b"m1").expect(rt, "a builder");
+    let mut builder = VersionBuilder::new(alloc, rt, Order(1), b"m1").expect(rt, "a builder");
     let answer = rows_of(alloc, reading, text, &mut builder);
     (answer, builder.len())
 }

@@ -5,7 +5,7 @@ use std::alloc::Global;
 use std::process::Abort;
 use std::random::RandomSource;
 use yp_texts::*;
-use yp_version::Version;
+use yp_version::{Order, Version};
 
 /// The order before, the moment, and the order that follows.
 static ORDERS: [(Option<u32>, u32, Result<u32, OrderSpent>); 7] = [
@@ -20,7 +20,7 @@ static ORDERS: [(Option<u32>, u32, Result<u32, OrderSpent>); 7] = [
 
 /// The order of a version, its master, and whether it is secure.
 fn head(version: &Version) -> (u32, &[u8], bool) {
-    (version.order(), version.master(), version.secure())
+    (version.order().number(), version.master(), version.secure())
 }
 
 /// Why no version of the hosts that serve is built of a text.
@@ -28,7 +28,7 @@ fn fault_of<R: RandomSource + Abort>(
     rt: &R,
     alloc: Global,
     text: &[u8],
-    previous: Option<u32>,
+    previous: Option<Order>,
 ) -> Option<BuildFault> {
     build(
         alloc,
@@ -42,11 +42,19 @@ fn fault_of<R: RandomSource + Abort>(
     .err()
 }
 
+/// The number of the order that follows.
+fn following(previous: Option<u32>, now: u32) -> Result<u32, OrderSpent> {
+    match next_order(previous.map(|number| Order(number)), now) {
+        Ok(order) => Ok(order.number()),
+        Err(fault) => Err(fault),
+    }
+}
+
 #[test]
 fn orders(rt: HostRuntime) {
     let alloc = rt.alloc();
     for (previous, now, order) in &ORDERS {
-        let came = (*previous, *now, next_order(*previous, *now));
+        let came = (*previous, *now, following(*previous, *now));
         assert_same(&rt, &came, &(*previous, *now, *order), "an order");
     }
     let text = text_of(&rt, alloc, b"m1");
@@ -55,7 +63,7 @@ fn orders(rt: HostRuntime) {
         &rt,
         Reading::Text(Kind::Ypservers),
         text,
-        Some(100),
+        Some(Order(100)),
         50,
         b"m1",
     )
@@ -65,8 +73,8 @@ fn orders(rt: HostRuntime) {
     // A spent order goes before a row that is refused.
     let text = long_text(&rt, alloc, &[(b"a", 65537)]);
     let came = (
-        fault_of(&rt, alloc, &text, Some(u32::MAX)),
-        fault_of(&rt, alloc, &text, Some(7)),
+        fault_of(&rt, alloc, &text, Some(Order(u32::MAX))),
+        fault_of(&rt, alloc, &text, Some(Order(7))),
     );
     let (spent, long) = (BuildFault::OrderSpent, BuildFault::KeyLong { line: 1 });
     assert_same(&rt, &came, &(Some(spent), Some(long)), "a spent order");
@@ -161,7 +169,7 @@ fn outcome_of<R: RandomSource + Abort>(
         b"m1",
     ) {
         Ok(version) => After::Built {
-            order: version.order(),
+            order: version.order().number(),
             secure: version.secure(),
         },
         Err(AfterFault::Foreign { master }) => After::Foreign {

@@ -7,7 +7,7 @@ use std::alloc::{AllocError, Global};
 use std::process::Abort;
 use std::random::RandomSource;
 use yp_netgroup::{Who, innetgr, spread};
-use yp_version::{Version, VersionBuilder};
+use yp_version::{Order, Version, VersionBuilder};
 
 // A letter for four bits of a number.
 fn letter(number: u32, from: u32) -> u8
@@ -33,7 +33,7 @@ fn short_name(number: u32) -> [u8; 3] {
 }
 
 fn builder<R: RandomSource + Abort>(rt: &R, alloc: Global) -> VersionBuilder {
-    VersionBuilder::new(alloc, rt, 0, b"").expect(rt, "a builder")
+    VersionBuilder::new(alloc, rt, Order(0), b"").expect(rt, "a builder")
 }
 
 // Each group names the next, and the last one lists joe.

@@ -6,11 +6,11 @@ use std::alloc::Global;
 use std::process::Abort;
 use std::random::RandomSource;
 use yp_netgroup::reverse::{Field, RevFault, reverse};
-use yp_version::Version;
+use yp_version::{Order, Version};
 
 // The first refusal of a reverse by users.
 fn refusal<R: RandomSource>(rt: &R, alloc: Global, netgroup: &Version) -> Option<RevFault> {
-    match reverse(alloc, rt, netgroup, Field::User, 7, b"m1") {
+    match reverse(alloc, rt, netgroup, Field::User, Order(7), b"m1") {
         Ok(_) => None,
         Err(fault) => Some(fault),
     }

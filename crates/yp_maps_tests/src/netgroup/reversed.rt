@@ -6,7 +6,7 @@ use std::alloc::Global;
 use std::random::RandomSource;
 use yp_netgroup::reverse::{Field, listed_in, reverse, split};
 use yp_netgroup::{Who, innetgr};
-use yp_version::Version;
+use yp_version::{Order, Version};
 
 /// A map, the rows of its two reverses, and whether each of them is split.
 #[derive(Clone, Copy)]
@@ -98,10 +98,10 @@ fn has_reverse<R: RandomSource>(
     field: Field,
     rows: &[Row],
 ) -> bool {
-    match reverse(alloc, rt, netgroup, field, 7, b"m1") {
+    match reverse(alloc, rt, netgroup, field, Order(7), b"m1") {
         Ok(version) => {
             has_rows(&version, rows)
-                && version.order() == 7
+                && version.order() == Order(7)
                 && version.master() == b"m1".as_slice()
                 && !version.secure()
         }
@@ -214,7 +214,7 @@ fn looked_up<R: RandomSource>(
         domain: Some(domain),
     };
     let member = innetgr(alloc, rt, netgroup, group, &who).ok();
-    match reverse(alloc, rt, netgroup, asked.field, 7, b"m1") {
+    match reverse(alloc, rt, netgroup, asked.field, Order(7), b"m1") {
         Ok(reverse) => {
             let listed = listed_in(alloc, &reverse, asked.field, group, name, domain);
             (listed.ok(), member)

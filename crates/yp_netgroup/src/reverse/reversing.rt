@@ -21,7 +21,7 @@ use crate::reverse::rows::put_rows;
 use std::alloc::Global;
 use std::random::RandomSource;
 use yp_version::laws::rising_stays;
-use yp_version::{Version, VersionBuilder};
+use yp_version::{Order, Version, VersionBuilder};
 
 /// The reverse of a netgroup map: for each user, or host, and domain of a triple the groups that reach it.
 ///
@@ -34,7 +34,7 @@ pub fn reverse(
     rt: &impl RandomSource,
     netgroup: &Version,
     field: Field,
-    order: u32,
+    order: Order,
     master: &[u8],
 ) -> Result<Version, RevFault>
     requires { length master.now ≤ master_max }

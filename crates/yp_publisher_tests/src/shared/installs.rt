@@ -1,7 +1,7 @@
 //! Installs and tellings under one lock, in one thread.
 
 ghost use Rattle.std.specs.Prelude.{◌≡◌, ℕ, ◌+◌, ◌<◌, ◌≤◌, length, Option};
-ghost use Rattle.yp_io.specs.inside.MemDisk.{Platter};
+ghost use Rattle.yp_memory.specs.inside.MemDisk.{Platter};
 ghost use Rattle.yp_version.specs.Versions.{MapVersion};
 ghost use Rattle.yp_board.specs.Logs.{Log};
 ghost use Rattle.yp_publisher.specs.Rising.{publisher_state};
@@ -19,7 +19,7 @@ use std::sync::ledger::{Blank, Book};
 use std::sync::{Mutex, Wait};
 use yp_board::Tell;
 use yp_board::readers::{Naming, Opened, Reader, Writer};
-use yp_io::MemDisk;
+use yp_memory::MemDisk;
 use yp_publisher::sharing::{
     Accounts, BuiltVersions, Debits, FailedFiles, FetchedVersions, Locked, ShareFault, Site,
     install_shared, tell_shared,

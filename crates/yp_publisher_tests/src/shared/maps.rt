@@ -11,7 +11,7 @@ use std::random::RandomSource;
 use std::sync::{Arc, Wait};
 use yp_board::Catalog;
 use yp_board::readers::{Naming, Opened, Reader, Writer, board};
-use yp_io::MemDisk;
+use yp_memory::MemDisk;
 use yp_publisher::laws::starts_are_shown;
 use yp_publisher::{Loaded, Publisher, load_all};
 use yp_version::Version;

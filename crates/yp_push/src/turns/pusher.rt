@@ -16,6 +16,7 @@ use yp_board::MapName;
 use yp_io::{Dial, Peer};
 use yp_messages::ReqXfr;
 use yp_rpc::{Handler, Wish};
+use yp_version::Order;
 
 /// A slave.
 #[derive(Debug, Drop)]
@@ -31,7 +32,7 @@ pub struct PushRequest {
     /// The map that they are to fetch.
     pub store: MapName,
     /// The order of its version.
-    pub order: u32,
+    pub order: Order,
     /// The host that has it.
     pub name: Vec<u8>,
     /// The port at which they tell how it went.
@@ -149,7 +150,7 @@ impl<A: Dial> Pusher<A> {
         let request = ReqXfr {
             domain: &self.request.store.domain,
             map: &self.request.store.map,
-            ordernum: self.request.order,
+            ordernum: self.request.order.number(),
             peer: &self.request.name,
             transid: sending.transid,
             prog: PROGRAM,

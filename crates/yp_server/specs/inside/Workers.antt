@@ -37,30 +37,27 @@ pub record AnswersDatagrams {I H T : Type 0} (conduct : Conduct H) (counted : H 
   pub cause : new.fault ≡ true → HasRisen (faults old.inbox) (faults new.inbox)
 
 -- what work leaves of a worker: a worker of connections has ended, and a worker of datagrams has made this of them
-abbrev pub Works : {J E H G I M N : Type 0} → (DatagramWorker I H N → DatagramWorker I H N → Type 0)
-    → ServerWorker J E H G I M N
-    → ServerWorker J E H G I M N → Type 0
+abbrev pub Works : {J E H G I M F N : Type 0} → (DatagramWorker I H N → DatagramWorker I H N → Type 0)
+    → ServerWorker J E H G I M F N
+    → ServerWorker J E H G I M F N → Type 0
 Works mails (Connections old) (Connections new) = new ≡ record old { ended = old.ended + 1 }
 Works mails (Datagrams old) (Datagrams new) = mails old new
 Works mails old new = ⊥
 
 -- Work was done at each place of this list.
-abbrev pub AllWork : {J E H G I M N : Type 0} → (DatagramWorker I H N → DatagramWorker I H N → Type 0)
-    → List (ServerWorker J E H G I M N)
-    → List (ServerWorker J E H G I M N) → Type 0
-AllWork {J} {E} {H} {G} {I} {M} {N} mails old new = (i : ℕ) (d : ServerWorker J E H G I M N) → i < length old
-    → Works mails (slice_index_or old i d) (slice_index_or new i d)
+abbrev pub AllWork : {P : Type 0} → (P → P → Type 0) → List P → List P → Type 0
+AllWork {P} works old new = (i : ℕ) (d : P) → i < length old → works (slice_index_or old i d) (slice_index_or new i d)
 
 -- The first worker is that of this worker of datagrams, and at all others workers of connections hold this.
-pub record AreWorkers {J E H G I M N : Type 0} (datagram_worker : DatagramWorker I H N) (held : Passed)
-    (all_workers : List (ServerWorker J E H G I M N)) : Type 0 where
-  pub others : List (ServerWorker J E H G I M N)
+pub record AreWorkers {J E H G I M F N : Type 0} (datagram_worker : DatagramWorker I H N) (held : Passed)
+    (all_workers : List (ServerWorker J E H G I M F N)) : Type 0 where
+  pub others : List (ServerWorker J E H G I M F N)
   pub posts_are : all_workers ≡ Datagrams datagram_worker ∷ others
   pub all : All (λ server_worker. server_worker ≡ Connections held) others
 
 -- Behind what was there came workers of workers of connections, who hold this.
-pub record AddsWorkers {J E H G I M N : Type 0} (held : Passed)
-    (old new : List (ServerWorker J E H G I M N)) : Type 0 where
-  pub more : List (ServerWorker J E H G I M N)
+pub record AddsWorkers {J E H G I M F N : Type 0} (held : Passed)
+    (old new : List (ServerWorker J E H G I M F N)) : Type 0 where
+  pub more : List (ServerWorker J E H G I M F N)
   pub posts_are : new ≡ old ++ more
   pub all : All (λ server_worker. server_worker ≡ Connections held) more

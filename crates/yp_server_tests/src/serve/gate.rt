@@ -12,10 +12,12 @@ pub type Mark = (Kind, u64, u64);
 /// A kind of point.
 #[derive(Clone, Copy, PartialEq, Eq)]
 pub enum Kind {
+    /// It is of no connection, and has the number 0, as has `Asked`.
+    Begun,
     Accepted,
     Piece,
     Replied,
-    /// The inbox was asked to send a datagram. It is of no connection, and has the number 0.
+    /// The inbox was asked to send a datagram.
     Asked,
 }
 
@@ -72,6 +74,7 @@ impl<'h> Holding<'h> {
             Kind::Piece => connection * 3 + 1,
             Kind::Replied => connection * 3 + 2,
             Kind::Asked => 0,
+            Kind::Begun => 1,
         };
         self.counts.get(place as usize)
     }
@@ -98,6 +101,7 @@ impl<'h> Holding<'h> {
 
 fn kind_of(point: Point) -> (Kind, u64) {
     match point {
+        Point::Begun => (Kind::Begun, 0),
         Point::Accepted { connection } => (Kind::Accepted, connection),
         Point::Piece { connection } => (Kind::Piece, connection),
         Point::Replied { connection } => (Kind::Replied, connection),

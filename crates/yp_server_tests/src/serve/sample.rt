@@ -4,7 +4,8 @@
 use crate::given::named;
 use std::alloc::Global;
 use std::process::Abort;
-use yp_io::{Letter, MemInbox, Peer};
+use yp_io::{Letter, Peer};
+use yp_memory::MemInbox;
 
 // Names of words.
 //

@@ -17,7 +17,7 @@ use std::sync::Wait;
 use std::thread::Threads;
 use yp_board::readers::{Naming, Opened};
 use yp_host::workers::{Outcomes, Totals};
-use yp_io::{MemHall, MemInbox};
+use yp_memory::{MemHall, MemInbox};
 use yp_server::{ServeSpec, Served, serve};
 use yp_worker::Tally;
 
@@ -103,7 +103,7 @@ fn served<J: Naming + Send + Sync, R: Threads + Wait + RandomSource + Abort + Sy
     let inbox = inbox(rt, alloc, case.mail, case.unmailed);
     let inbox = Behind::new(inbox, gate, case.until);
     let desk = desk_of(rt, alloc, TEXT, 200, case.unread);
-    let (maps, readers) = publisher::<J, R>(rt, alloc, opened, b"m1", file, spec.workers + 1);
+    let (maps, readers) = publisher::<J, R>(rt, alloc, opened, b"m1", file, spec.workers + 2);
     let served = serve(
         alloc, rt, maps, readers, desk, listen, inbox, &spec, None, gate,
     );
@@ -195,8 +195,8 @@ fn two_workers(rt: HostRuntime) {
     try_case(&rt, rt.alloc(), &SERVED);
 }
 
-// The first worker is held until the other one has made the map. That is held in its turn until the first worker has
-// served the third connection.
+// The first worker is held until the map is made, which the second connection asks for. Who has made it is held in its
+// turn until the third connection was served, which comes once the map is made.
 static LATER: Case = Case {
     name: "a later connection",
     file: "",
@@ -204,6 +204,7 @@ static LATER: Case = Case {
     most: 3,
     holds: &[
         ((Kind::Accepted, 1, 1), (Kind::Replied, 2, 1)),
+        ((Kind::Accepted, 3, 1), (Kind::Replied, 2, 1)),
         ((Kind::Replied, 2, 1), (Kind::Replied, 3, 1)),
     ],
     tally: Tally {
@@ -354,6 +355,54 @@ static SEVEN_HELD: Case = Case {
 #[test]
 fn held_streams_of_seven(rt: HostRuntime) {
     try_case(&rt, rt.alloc(), &SEVEN_HELD);
+}
+
+// Both connections come to the one worker. The first is left to the one who makes, which is held behind its reply until
+// the second, which comes once the map is made, was served.
+static MADE_MEANWHILE: Case = Case {
+    name: "a call while a map is made",
+    callers: &[("MAKE MATCH", 0, 0), ("MATCH", 0, 0)],
+    workers: 1,
+    holds: &[
+        ((Kind::Accepted, 1, 1), (Kind::Begun, 0, 1)),
+        ((Kind::Accepted, 2, 1), (Kind::Replied, 1, 1)),
+        ((Kind::Replied, 1, 1), (Kind::Replied, 2, 1)),
+    ],
+    totals: ONE_MADE,
+    output: "MADE NEW NEW",
+    ..TWO_WORKERS
+};
+
+#[test]
+fn served_while_a_map_is_made(rt: HostRuntime) {
+    try_case(&rt, rt.alloc(), &MADE_MEANWHILE);
+}
+
+// The same of a transfer, behind which the one who carries it out answers the next call of its connection.
+static CARRIED_MEANWHILE: Case = Case {
+    name: "a call while a transfer is carried out",
+    file: "",
+    callers: &[("XFR MATCH", 0, 0), ("MATCH", 0, 0)],
+    workers: 1,
+    holds: &[
+        ((Kind::Accepted, 1, 1), (Kind::Begun, 0, 1)),
+        ((Kind::Replied, 1, 2), (Kind::Replied, 2, 1)),
+    ],
+    totals: Totals {
+        transfers: 1,
+        outcomes: Outcomes {
+            no_address: 1,
+            ..NO_OUTCOMES
+        },
+        ..NONE
+    },
+    output: "TAKEN NO_MAP NO_MAP",
+    ..TWO_WORKERS
+};
+
+#[test]
+fn served_while_a_transfer_is_carried_out(rt: HostRuntime) {
+    try_case(&rt, rt.alloc(), &CARRIED_MEANWHILE);
 }
 
 // The connection is held before its first write until the inbox was asked to send a reply, and the datagram comes once

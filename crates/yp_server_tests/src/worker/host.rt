@@ -15,7 +15,7 @@ use yp_answer::{MakeJob, TransferJob};
 use yp_board::{Catalog, PlainBoard, Show, View};
 use yp_io::{NoMemory, Peer};
 use yp_messages::XfrStat;
-use yp_version::{Version, VersionBuilder};
+use yp_version::{Order, Version, VersionBuilder};
 use yp_worker::CatchUp;
 
 /// It makes no map: memory runs out. A transfer is counted.
@@ -99,7 +99,7 @@ pub fn version_of<R: RandomSource + Abort>(
     order: u32,
     rows: &[(&[u8], &[u8])],
 ) -> Arc<Version> {
-    let mut builder = VersionBuilder::new(alloc, rt, order, b"m1").expect(rt, "a builder");
+    let mut builder = VersionBuilder::new(alloc, rt, Order(order), b"m1").expect(rt, "a builder");
     for (key, value) in rows {
         let is_pushed = matches!(builder.push(key, value), Ok(true));
         assert!(rt; is_pushed);

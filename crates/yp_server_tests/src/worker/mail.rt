@@ -7,7 +7,8 @@ use crate::worker::host::{TestHost, host_of};
 use std::alloc::Global;
 use std::process::Abort;
 use std::random::RandomSource;
-use yp_io::{Failed, Letter, MemInbox, Peer};
+use yp_io::{Failed, Letter, Peer};
+use yp_memory::MemInbox;
 use yp_rpc::{DATAGRAM_MAX, Ended, Handler, Room};
 use yp_worker::datagrams::{MailServer, serve_mail};
 

@@ -73,6 +73,7 @@ fn points<R: Wait + RandomSource + Abort>(rt: &R, alloc: Global) -> Vec<Point> {
 fn points_of_a_gate(rt: HostRuntime) {
     // A reply of 44 bytes is two writes and a flush.
     let wanted = [
+        Point::Begun,
         Point::Accepted { connection: 1 },
         Point::Piece { connection: 1 },
         Point::Piece { connection: 1 },

@@ -14,7 +14,7 @@ use std::random::RandomSource;
 use std::sync::{Arc, Wait};
 use yp_answer::session::Host;
 use yp_answer::{MakeJob, TransferJob};
-use yp_board::readers::{Front, Naming, Opened, Reader, Writer, board};
+use yp_board::readers::{Front, Naming, Opened, Reader, Table, Writer, board};
 use yp_board::{Catalog, Show, Tell, View};
 use yp_io::{NoMemory, Peer};
 use yp_messages::XfrStat;
@@ -116,6 +116,18 @@ impl<'r, N: Naming, R: Wait> HandsOver for ReaderHost<'r, N, R> {
         self.transfers = 0;
         let before = mem::replace(&mut sum.front, known::<N, R>(&self.reader));
         sum.front = <Writer<N, &'r R> as Tell>::longer(before, known::<N, R>(&self.reader));
+    }
+
+    type Front = Table<N>;
+
+    ghost kept = { λ table. table };
+
+    fn front(&self) -> Result<Table<N>, NoMemory> {
+        <Writer<N, &'r R> as Tell>::knowledge(&self.reader)
+    }
+
+    fn reach(&mut self, front: Table<N>) {
+        <Writer<N, &'r R> as Tell>::teach(&mut self.reader, front);
     }
 }
 

@@ -1,6 +1,6 @@
 //! A worker that serves the connections of a hall in memory.
 
-ghost use Rattle.std.specs.Prelude.{◌≡◌, ◌<◌, []};
+ghost use Rattle.std.specs.Prelude.{◌≡◌, ◌<◌, [], ◌+◌};
 ghost use Rattle.yp_board.specs.Views.{IsFront};
 ghost use Rattle.yp_answer.specs.inside.session.Hosts.{conduct_by};
 ghost use Rattle.yp_worker.specs.Receptions.{opening_by};
@@ -21,7 +21,8 @@ use std::thread::Threads;
 use yp_answer::session::Buffers;
 use yp_board::Tell;
 use yp_board::readers::{Naming, Opened, Reader, Writer};
-use yp_io::{Hall, MemHall};
+use yp_io::Hall;
+use yp_memory::MemHall;
 use yp_version::Version;
 use yp_worker::{
     Gate, HandsOver, Listening, OpenGate, Pass, Reception, Tally, Worker, laws, run_beside,
@@ -57,7 +58,7 @@ pub fn words(rt: &impl Abort, alloc: Global, text: &str) -> Vec<u8> {
 // What came of the connections of a hall: what the lock kept, how many transfers hosts carried out, and the hall.
 type Ran = (Tally, u64, MemHall);
 
-// Runs a worker that reads a board over a hall to the end.
+// Runs a worker that reads a board, and does all itself, over a hall to the end.
 fn served<'r, J: Reception, E: Ledger, N: Naming, G, R: Wait + RandomSource + Abort>(
     rt: &R,
     alloc: Global,
@@ -69,7 +70,7 @@ fn served<'r, J: Reception, E: Ledger, N: Naming, G, R: Wait + RandomSource + Ab
 ) -> (Tally, Ran)
 where
     G: Gate + Copy + Drop,
-    requires out { (out.name ≡ J.name) × (out.parts ≡ J.parts) × (0 < out.parts) }
+    requires out { (out.name ≡ J.name) × (out.parts ≡ J.parts) × (out.parts ≡ 2) }
     requires ended { (ended.name ≡ E.name) × (ended.parts ≡ E.parts) × (0 < ended.parts) }
     requires opening { opening_by ⟦<MemHall as Hall>⟧ listen ≡ J.opening }
     requires catalogue { host.reader.catalogue ≡ J.catalogue }
@@ -77,21 +78,22 @@ where
     requires none { host.transfers ≡ 0 }
     requires most { 9 ≡ J.most }
 {
-    let (book, share) = out.open::<J>();
+    let (book, mut share) = out.open::<J>();
     let (ends, mine) = ended.open::<E>();
+    let held = share.split_off(1, 0);
     let mut pass = Pass::new(share, mine);
     let none = none_of::<N, R>(&host.reader);
-    let mut worker = worker(rt, alloc, host, gate);
-    let listening = Mutex::new(Listening::<J, E, ReaderHost<'r, N, R>, MemHall>::new(
-        listen, book, ends, none,
+    let mut worker = worker(rt, alloc, host, gate, true);
+    let listening = Mutex::new(Listening::<J, E, ReaderHost<'r, N, R>, MemHall, G>::new(
+        alloc, listen, book, ends, none, held, 0,
     ));
     let own = worker.run(rt, &listening, &mut pass);
     let mut writer = worker.into_host().writer.expect(rt, "a writer");
-    let ran = ended_with::<J, E, N, R>(listening.into_inner(), &mut pass, &mut writer);
+    let ran = ended_with::<J, E, N, G, R>(rt, listening.into_inner(), &mut pass, &mut writer);
     (own, ran)
 }
 
-// Runs two workers that read a board, each in a thread, over a hall to the end.
+// Runs two workers that read a board, each in a thread, over a hall to the end. The second does what takes long.
 fn shared<'r, J, E, N, R: Threads + Wait + Sync + RandomSource + Abort>(
     rt: &R,
     alloc: Global,
@@ -105,7 +107,7 @@ where
     J: Reception + Send + Sync,
     E: Ledger + Send + Sync,
     N: Naming + Send + Sync,
-    requires out { (out.name ≡ J.name) × (out.parts ≡ J.parts) × (out.parts ≡ 2) }
+    requires out { (out.name ≡ J.name) × (out.parts ≡ J.parts) × (out.parts ≡ 3) }
     requires ended { (ended.name ≡ E.name) × (ended.parts ≡ E.parts) × (ended.parts ≡ 2) }
     requires opening { opening_by ⟦<MemHall as Hall>⟧ listen ≡ J.opening }
     requires first { hosts.0.reader.catalogue ≡ J.catalogue }
@@ -117,38 +119,51 @@ where
     let (book, mut mine) = out.open::<J>();
     let (ends, mut my_ends) = ended.open::<E>();
     let (theirs, their_ends) = (mine.split_off(1, 0), my_ends.split_off(1, 0));
+    let held = mine.split_off(1, 0);
     let none = none_of::<N, R>(&hosts.0.reader);
-    let listening = Mutex::new(Listening::<J, E, ReaderHost<'r, N, R>, MemHall>::new(
-        listen, book, ends, none,
+    let listening = Mutex::new(Listening::<J, E, ReaderHost<'r, N, R>, MemHall, OpenGate>::new(
+        alloc, listen, book, ends, none, held, 1,
     ));
     let first = (
-        worker(rt, alloc, hosts.0, OpenGate),
+        worker(rt, alloc, hosts.0, OpenGate, false),
         Pass::new(mine, my_ends),
     );
     let second = (
-        worker(rt, alloc, hosts.1, OpenGate),
+        worker(rt, alloc, hosts.1, OpenGate, true),
         Pass::new(theirs, their_ends),
     );
     let ((mut pass, _), (other, _)) = run_beside(rt, &listening, first, second);
     pass.merge(other);
-    ended_with::<J, E, N, R>(listening.into_inner(), &mut pass, writer)
+    ended_with::<J, E, N, OpenGate, R>(rt, listening.into_inner(), &mut pass, writer)
 }
 
-// Closes what workers listened on, once all of them have ended.
-fn ended_with<'r, J: Reception, E: Ledger, N: Naming, R: Wait>(
-    listening: Listening<J, E, ReaderHost<'r, N, R>, MemHall>,
+// Closes what workers listened on, once all of them have ended, and nobody waits between two of them.
+fn ended_with<'r, J: Reception, E: Ledger, N: Naming, G: Drop, R: Wait + Abort>(
+    rt: &R,
+    listening: Listening<J, E, ReaderHost<'r, N, R>, MemHall, G>,
     pass: &mut Pass<J, E>,
     writer: &mut Writer<N, &'r R>,
 ) -> Ran
-    requires all { pass.old.parts ≡ J.parts }
+    requires all { pass.old.parts + 1 ≡ J.parts }
     requires none_out { pass.old.out ≡ 0 }
     requires ended { 0 < pass.old.ended }
 {
+    assert_drained(rt, &listening);
     let (listen, tally, sum) = listening.close(pass);
     cover::<J, ReaderHost<'r, N, R>, MemHall, Writer<N, &'r R>>(
         writer, &listen, &tally, &sum, &sum.front,
     );
     (tally, sum.transfers, listen)
+}
+
+// Nobody waits between two workers.
+fn assert_drained<J: Reception, E: Ledger, H: HandsOver, L: Hall, G>(
+    rt: &impl Abort,
+    listening: &Listening<J, E, H, L, G>,
+)
+    ensures { listening.now.waiting ≡ 0 }
+{
+    assert!(rt; listening.is_drained());
 }
 
 // What nobody has counted, with what this reader knows.
@@ -162,11 +177,11 @@ fn none_of<N: Naming, R: Wait>(reader: &Reader<N>) -> Handed<N>
 }
 
 // A worker with this host, which answers at most 9 records of a connection.
-fn worker<H, G>(rt: &impl Abort, alloc: Global, host: H, gate: G) -> Worker<H, G>
-    ensures { result ≡ record { host = host; most = 9 } }
+fn worker<H, G>(rt: &impl Abort, alloc: Global, host: H, gate: G, carries: bool) -> Worker<H, G>
+    ensures { result ≡ record { host = host; most = 9; carries = carries } }
 {
     let buffers = Buffers::new(alloc).expect(rt, "buffers");
-    Worker::new(host, buffers, gate, 9)
+    Worker::new(host, buffers, gate, 9, carries)
 }
 
 // Covers what each connection was answered on: it is a front of what is shown.
@@ -201,7 +216,7 @@ fn one<N: Naming, G: Gate + Copy + Drop, R: Wait + RandomSource + Abort>(
     requires board { opened ≡ N.book }
 {
     let (writer, reader, _) = two_readers::<N, R>(rt, alloc, opened, first);
-    let (out, ended) = (Blank::new(1), Blank::new(1));
+    let (out, ended) = (Blank::new(2), Blank::new(1));
     let host = ReaderHost {
         reader,
         writer: Some(writer),
@@ -372,7 +387,7 @@ fn two<N: Naming + Send + Sync, R: Threads + Wait + Sync + RandomSource + Abort>
 {
     let first = version(rt, alloc, 7, b"alpha:1");
     let (mut writer, one, other) = two_readers::<N, R>(rt, alloc, opened, first);
-    let (out, ended) = (Blank::new(2), Blank::new(2));
+    let (out, ended) = (Blank::new(3), Blank::new(2));
     let hosts = (host(alloc, one), host(alloc, other));
     shared::<Brand, Brand, N, R>(rt, alloc, out, ended, listen, &mut writer, hosts)
 }

@@ -1,8 +1,8 @@
 //! Two workers over one map.
 
 ghost use Rattle.std.specs.Prelude.{◌≡◌, All, Some};
-ghost use Rattle.yp_io.specs.inside.MemDisk.{Platter};
-ghost use Rattle.yp_io.specs.inside.MemDial.{wires_of};
+ghost use Rattle.yp_memory.specs.inside.MemDisk.{Platter};
+ghost use Rattle.yp_memory.specs.inside.MemDial.{wires_of};
 ghost use Rattle.yp_publisher.specs.Rising.{publisher_state};
 ghost use Rattle.yp_board.specs.inside.readers.Boards.{Written};
 ghost use Rattle.yp_publisher.specs.sharing.Failures.{disks_of, faults_over};
@@ -26,7 +26,8 @@ use yp_host::workers::{
     Account, Charges, FailedSources, ReachedOrders, SharedDesk, Supplies, Totals, UnreadTexts,
     WorkerHost,
 };
-use yp_io::{MemDial, MemDisk, Peer, SetClock, Texts};
+use yp_io::{Peer, Texts};
+use yp_memory::{MemDial, MemDisk, SetClock};
 use yp_messages::XfrStat;
 use yp_publisher::sharing::{
     Accounts, BuiltVersions, Debits, FailedFiles, FetchedVersions, Locked, Site,
@@ -106,7 +107,7 @@ fn done_by<
             None
         }
     };
-    (stat, host.held(0).map(|version| version.order()))
+    (stat, host.held(0).map(|version| version.order().number()))
 }
 
 /// Who asks for a transfer.

@@ -7,7 +7,7 @@ ghost use Rattle.yp_transfer.specs.walk.Schedules.{told};
 use crate::XfrFault;
 use crate::walk::walked::Walked;
 use std::alloc::Global;
-use yp_version::VersionBuilder;
+use yp_version::{Order, VersionBuilder};
 
 /// What is wanted of the source.
 #[derive(Drop)]
@@ -16,7 +16,7 @@ pub(crate) struct WalkRequest {
     pub(crate) domain: Vec<u8>,
     pub(crate) map: Vec<u8>,
     /// The order of the version that is shown, if one is.
-    pub(crate) shown: Option<u32>,
+    pub(crate) shown: Option<Order>,
     pub(crate) force: bool,
 }
 
@@ -26,7 +26,7 @@ pub(crate) enum WalkStage {
     /// The order.
     Order,
     /// The master of the version with this order.
-    Master(u32),
+    Master(Order),
     /// The first row.
     First(VersionBuilder),
     /// The row behind this key. Its buffer is the one of all keys.

@@ -15,7 +15,7 @@ use std::random::RandomSource;
 use yp_client::{ClientFault, Row, read_found, read_master, read_order};
 use yp_messages::{Message, ReqKey, YpStat};
 use yp_rpc::DATAGRAM_MAX;
-use yp_version::{VersionBuilder, VersionFault};
+use yp_version::{Order, VersionBuilder, VersionFault};
 
 /// The bytes of the head of a call.
 const HEAD_LEN: usize = 40;
@@ -72,7 +72,7 @@ fn after_order(asked: &WalkRequest, mail: &[u8], xid: u32) -> WalkStage
 fn after_master(
     rt: &impl RandomSource,
     asked: &WalkRequest,
-    order: u32,
+    order: Order,
     mail: &[u8],
     xid: u32,
 ) -> WalkStage
@@ -171,7 +171,10 @@ fn after_again(builder: VersionBuilder, why: Option<XfrFault>, mail: &[u8], xid:
     let first = builder.order();
     match read_order(mail, xid) {
         Err(fault) => WalkStage::Ended(Err(fault.into())),
-        Ok(second) if first != second => WalkStage::Ended(Err(XfrFault::Skew { first, second })),
+        Ok(second) if first != second => WalkStage::Ended(Err(XfrFault::Skew {
+            first: first.number(),
+            second: second.number(),
+        })),
         Ok(_) => match why {
             None => WalkStage::Ended(Ok(builder)),
             Some(fault) => WalkStage::Ended(Err(fault)),

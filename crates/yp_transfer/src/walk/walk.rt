@@ -21,7 +21,7 @@ use yp_io::{NoMemory, Peer};
 use yp_messages::protocol::{FIRST, MASTER, NEXT, ORDER, YPPROG, YPVERS};
 use yp_messages::{ReqKey, ReqNokey};
 use yp_rpc::protocol::REPLY;
-use yp_version::Version;
+use yp_version::{Order, Version};
 use yp_xdr::Cursor;
 
 /// A map of a domain that is fetched row by row from a source that serves datagrams. It has one builder and one
@@ -79,7 +79,7 @@ impl Walk {
         source: Peer,
         domain: &[u8],
         map: &[u8],
-        shown: Option<u32>,
+        shown: Option<Order>,
         force: bool,
     ) -> Result<Walk, XfrFault>
         requires domain { length domain.now ≤ name_max }

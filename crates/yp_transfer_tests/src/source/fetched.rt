@@ -8,7 +8,8 @@ use std::alloc::Global;
 use std::process::Abort;
 use std::random::RandomSource;
 use yp_client::Client;
-use yp_io::{MemSink, MemSource, Pair};
+use yp_io::Pair;
+use yp_memory::{MemSink, MemSource};
 use yp_transfer::XfrFault;
 
 // What a server replies to ORDER, MASTER, ALL and ORDER, where it shows order 100 of the master `m1` and the row
@@ -34,7 +35,7 @@ fn fetch_over<R: RandomSource + Abort>(
     let mut client = Client::new(alloc, wire, 1).ok().expect(rt, "a client");
     let fetched = fetch_from_server(alloc, rt, &mut client, b"lab", b"hosts.byname", None, false);
     match fetched {
-        Ok(version) => Ok((version.order(), version.len())),
+        Ok(version) => Ok((version.order().number(), version.len())),
         Err(fault) => Err(fault),
     }
 }

@@ -21,7 +21,7 @@ use yp_client::Client;
 use yp_end_to_end::transfer::laws;
 use yp_io::{Sink, Source};
 use yp_transfer::{XfrFault, fetch};
-use yp_version::Version;
+use yp_version::{Order, Version};
 
 /// Fetches a map over a wire that gives the replies of a server.
 pub fn fetch_from_server<S: Source, K: Sink>(
@@ -30,7 +30,7 @@ pub fn fetch_from_server<S: Source, K: Sink>(
     client: &mut Client<S, K>,
     domain: &[u8],
     map: &[u8],
-    shown: Option<u32>,
+    shown: Option<Order>,
     force: bool,
 ) -> Result<Version, XfrFault>
     requires domain { length domain.now ≤ name_max }

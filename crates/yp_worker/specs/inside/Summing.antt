@@ -1,21 +1,22 @@
 -- How a worker has ended.
-use Rattle.std.specs.Prelude.{◌≡◌, ◌≤◌, ℕ, List, length, Option, Some, IfSome}
+use Rattle.std.specs.Prelude.{◌≡◌, ◌≤◌, ℕ, false, List, length, Option, Some, IfSome}
 use Rattle.yp_io.specs.Counts.{capped}
 use Rattle.yp_answer.specs.session.Hosts.{Conduct}
 use Rattle.yp_io.specs.Calls.{ListenerHistory, ClosedConnection}
 use Rattle.std.specs.List.{All}
-use Rattle.yp_worker.specs.Working.{Working, WorkerStep, TakesSteps}
+use Rattle.yp_worker.specs.Working.{Working, WorkerStep, IsOwnStep, TakesSteps}
 use Rattle.yp_worker.specs.Receptions.{Terms, IsUnder}
-use Rattle.yp_worker.specs.Summing.{Counting, ServedConnection, ends_of, calls_of, let_go_of, WasServed, AreApart}
-use Rattle.yp_worker.specs.Summing.{IsStepOf, WorkerRun}
+use Rattle.yp_worker.specs.Summing.{Counting, ServedConnection, LeftConnection, ends_of, calls_of, let_go_of}
+use Rattle.yp_worker.specs.Summing.{WasServed, WasHandedOn, numbers_of, AreApart, IsStepOf, WorkerRun}
 
 abbrev pub worker_run_of : {H : Type 0} → Working H → Working H → List WorkerStep → List ServedConnection
-    → WorkerRun H
-worker_run_of first last steps stays = record { first = first; last = last; steps = steps; stays = stays }
+    → List LeftConnection → WorkerRun H
+worker_run_of first last steps stays left =
+    record { first = first; last = last; steps = steps; stays = stays; left = left }
 
 -- A worker took steps, from one that was such a worker, and served so many connections in them, of which so many
--- records were read. Its closer tells them where the listener tells its connections, and has closed as many; and no
--- more of them were let go than its watch says.
+-- records were read, and left others. Its closer tells those that it closed where the listener tells its connections,
+-- and has closed as many; and no more of them were let go than its watch says.
 pub record HasEnded {H T : Type 0} (conduct : Conduct H) (counting : Counting H T) (terms : Terms)
     (past : Option ListenerHistory) (connections calls : ℕ) (worker : Working H)
     (closed : Option (List ClosedConnection)) (count let_go : ℕ)
@@ -23,12 +24,15 @@ pub record HasEnded {H T : Type 0} (conduct : Conduct H) (counting : Counting H 
   pub first : Working H
   pub steps : List WorkerStep
   pub stays : List ServedConnection
+  pub left : List LeftConnection
   pub under : IsUnder conduct terms first
   pub from_none : counting.counted first.host ≡ counting.none
   pub takes : TakesSteps conduct counting.counted steps first.host worker.host
-  pub served : All (WasServed past terms.most steps) stays
-  pub apart : AreApart stays
-  pub owned : All (IsStepOf stays) steps
+  pub own : first.carries ≡ false → All IsOwnStep steps
+  pub served : All (WasServed conduct counting terms past steps) stays
+  pub handed_on : All (WasHandedOn past steps) left
+  pub apart : AreApart (numbers_of stays left)
+  pub owned : All (IsStepOf stays left) steps
   pub connections_are : connections ≡ length stays
   pub calls_are : calls ≡ calls_of stays
   pub told : IfSome past (λ _. closed ≡ Some (ends_of stays))

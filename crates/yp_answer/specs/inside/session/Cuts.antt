@@ -1,5 +1,6 @@
 -- A conversation in memory, and how it goes on.
 use Rattle.std.specs.Prelude.{◌≡◌, ◌≢◌, ◌⊎◌, ℕ, Bool, true, false, List, [], ◌∷◌, ◌++◌, Option, None, Some, ⊤}
+use Rattle.std.specs.List.{All}
 use Rattle.yp_io.specs.declared.stream.Peer.{Peer}
 use Rattle.yp_io.specs.declared.hall.Awaited.{Awaited}
 use Rattle.yp_io.specs.declared.hall.Awaited.TheVariants as awaited
@@ -13,7 +14,8 @@ use Rattle.yp_answer.specs.declared.session.conversation.Advance.TheVariants.{Ta
 use Rattle.yp_answer.specs.session.Progress.{Progress}
 use Rattle.yp_answer.specs.session.Wires.{Wire}
 use Rattle.yp_answer.specs.session.Hosts.{Conduct}
-use Rattle.yp_answer.specs.session.Cuts.{Deed, Read, DoesDeed, Cut, IsCut, EndsSo}
+use Rattle.yp_answer.specs.session.Cuts.{Deed, Answered, Carried, Read, DoesDeed, Cut, IsCut, EndsSo}
+use Rattle.yp_answer.specs.inside.session.Makes.{BeginsWithMake}
 use Rattle.yp_answer.specs.inside.Streams.{Held, held_parts}
 
 module _ {H : Type 0} (conduct : Conduct H) (peer : Peer) where
@@ -94,16 +96,27 @@ Follows deeds old new = (start : Wire) (before : List Deed) → IsCut start befo
 abbrev pub FollowsRead : Cut → Cut → Type 0
 FollowsRead old new = Follows [] old new ⊎ Follows (Read old.wire ∷ []) old new
 
--- A conversation went on, and its host with it: what that knew before is a front of what it knows.
-pub record GoesOn {H : Type 0} (conduct : Conduct H) (peer : Peer) (old new : H) (before after : Cut) : Type 0 where
+-- It didn't take long: no map was made for a record, and no transfer was carried out.
+abbrev pub IsBrief : Deed → Type 0
+IsBrief (Answered turn) = turn.made ≡ None
+IsBrief (Carried taken wire) = ⊥
+IsBrief (Read wire) = ⊤
+
+-- A conversation went on, and its host with it: what that knew before is a front of what it knows. Where it carries
+-- nothing out it did nothing that takes long.
+pub record GoesOn {H : Type 0} (conduct : Conduct H) (peer : Peer) (carries : Bool) (old new : H) (before after : Cut)
+    : Type 0 where
   pub deeds : List Deed
   pub does : DoesDeeds conduct peer deeds old new
+  pub brief : carries ≡ false → All IsBrief deeds
   pub follows : Follows deeds before after
   pub sees : SeesOn (conduct.seen old) (conduct.seen new)
 
--- what came of going on
-abbrev pub ComesTo : ℕ → Advance → Cut → Type 0
-ComesTo most (Ended end) now = EndsSo most end now
-ComesTo most NoMemory now = now.broken ≡ true
-ComesTo most TakesLong now = (now.settled ≡ true) × (now.waiting ≢ None)
-ComesTo most _ now = ⊤
+-- what came of going on with a peer: What takes long is a transfer that waits, or a MAKE that came and isn't taken yet;
+-- all is paid before that.
+abbrev pub ComesTo : Peer → ℕ → Advance → Cut → Type 0
+ComesTo peer most (Ended end) now = EndsSo most end now
+ComesTo peer most NoMemory now = now.broken ≡ true
+ComesTo peer most TakesLong now =
+    (now.settled ≡ true) × ((now.waiting ≢ None) ⊎ BeginsWithMake peer now.incoming)
+ComesTo peer most _ now = ⊤

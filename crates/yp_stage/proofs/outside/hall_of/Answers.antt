@@ -2,7 +2,7 @@ use Rattle.std.proofs.Common.{Bool, true, false, List, [], ◌∷◌, ◌++◌, 
 use Rattle.std.specs.Prelude.{if◌then◌else◌, is_ok}
 use Rattle.std.specs.List.{All}
 use Rattle.std.proofs.lemmas.List.Elements.{All-push}
-use Rattle.yp_io.specs.inside.MemHall.{HallConnection, EntryIsNew}
+use Rattle.yp_memory.specs.inside.MemHall.{HallConnection, EntryIsNew}
 use Rattle.yp_stage.proofs.outside.hall_of.Goals as goal
 
 -- one more connection that has met no fault and taken nothing, where there is memory for it

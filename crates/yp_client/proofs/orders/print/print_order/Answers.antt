@@ -13,7 +13,7 @@ returns-in_err-put-clause-puts g c =
 
 pub returns-in-Some-clause-puts : goal.returns-in-Some-clause-puts
 returns-in-Some-clause-puts g c =
-    let put = rw (c.as_bytes.ensures.value, c.format.ensures.text) at c.put-in-Some.ensures.puts in
+    let put = rw (c.as_bytes.ensures.value, c.format.ensures.text, c.number.ensures.number) at c.put-in-Some.ensures.puts in
     rw (← c.in-Some.ensures)
     (puts_more (32 ∷ []) (decimal c.in-Some.order) c.put-in-Some.result _ _ _ _ _ _ c.in_ok-put.ensures.puts put)
 

@@ -1,5 +1,4 @@
 use Rattle.std.proofs.Common.{◌≤◌, arith, ◌∙◌}
-use Rattle.yp_board.specs.Logs.{shown}
 use Rattle.yp_texts.specs.Builds.{order_max}
 use Rattle.yp_host.specs.workers.Desks.{texts_alone}
 use Rattle.yp_host.specs.inside.Locals.{telling_by}

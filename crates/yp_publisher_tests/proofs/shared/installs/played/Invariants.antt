@@ -1,4 +1,4 @@
-use Rattle.yp_io.specs.inside.MemDisk.{Platter}
+use Rattle.yp_memory.specs.inside.MemDisk.{Platter}
 use Rattle.yp_publisher.specs.Rising.{publisher_state}
 use Rattle.yp_board.specs.inside.readers.Boards.{Written}
 use Rattle.yp_publisher.specs.sharing.Failures.{disks_of, faults_over}

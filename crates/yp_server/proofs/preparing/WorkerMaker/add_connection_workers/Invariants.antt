@@ -12,7 +12,7 @@ invariant-loop-buffers g l = record {
   room : length l.all_workers.items + length l.all_buffers.items ≤ vec_capacity l.all_workers;
   readers : length l.readers.items ≡ length l.all_buffers.items;
   knows : All (λ reader. IsAtStart g.J.Site.catalogue g.J.Reception.starts (g.B.Reader.View.seen reader)) l.readers.items;
-  out : (l.out.parts ≡ length l.all_buffers.items + 1) × (l.out.amount ≡ 0);
+  out : (l.out.parts ≡ length l.all_buffers.items + 2) × (l.out.amount ≡ 0);
   ended : (l.ended.parts ≡ length l.all_buffers.items + 1) × (l.ended.amount ≡ 0);
   charges : l.charges.parts ≡ length l.all_buffers.items + 2;
 }

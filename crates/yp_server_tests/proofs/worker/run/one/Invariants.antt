@@ -1,4 +1,4 @@
-use Rattle.yp_io.specs.inside.MemHall.{entries_of}
+use Rattle.yp_memory.specs.inside.MemHall.{entries_of}
 use Rattle.yp_server_tests.proofs.worker.run.one.Given as goal
 
 -- what this hall is before its first connection, and what the reader knows then

@@ -1,5 +1,5 @@
 use Rattle.std.specs.Prelude.{[]}
-use Rattle.yp_io.specs.inside.MemHall.{entries_of}
+use Rattle.yp_memory.specs.inside.MemHall.{entries_of}
 use Rattle.yp_server_tests.proofs.worker.run.two.Given as goal
 
 -- this hall before its first connection

@@ -1,7 +1,7 @@
 -- The catalogue, and what the publisher and the desk have before they are shared.
 use Rattle.std.specs.Prelude.{Some}
-use Rattle.yp_io.specs.inside.MemDial.{wires_of}
-use Rattle.yp_io.specs.inside.MemDisk.{Platter}
+use Rattle.yp_memory.specs.inside.MemDial.{wires_of}
+use Rattle.yp_memory.specs.inside.MemDisk.{Platter}
 use Rattle.yp_publisher.specs.Rising.{publisher_state}
 use Rattle.yp_board.specs.inside.readers.Boards.{Written}
 use Rattle.yp_publisher.specs.sharing.Failures.{disks_of, faults_over}

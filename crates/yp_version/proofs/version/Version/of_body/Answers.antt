@@ -19,7 +19,7 @@ invariant_of-result g c =
     ap (λ n. 16 + n) (c.padded-head_len.ensures.value ∙ ap padded (c.len.ensures ∙ c.args.master.ok.0)) in
     let slab = slab_is c.args.body.items c.args.places.items (16 + c.padded-head_len.result) c.of_parts-slab.result version c.of_parts-slab.ensures len c.requires.1 in
     let inside : Inside = record { order = c.args.order; master = c.args.master; secure = c.args.secure; slab = c.of_parts-slab.result; table = c.without_buckets.result } in
-    stored_kept inside version c.requires.1.body.within (stored_view inside version refl slab) slab (c.without_buckets.ensures c.of_parts-slab.result.rows)
+    rw c.number.ensures.number (stored_kept inside version c.requires.1.body.within (stored_view inside version refl slab) slab (c.without_buckets.ensures c.of_parts-slab.result.rows))
 
 pub returns : goal.returns
 returns g c = λ rows stored.
@@ -27,5 +27,5 @@ returns g c = λ rows stored.
     let len : 16 + c.padded-head_len.result ≡ 16 + padded (length version.master) =
     ap (λ n. 16 + n) (c.padded-head_len.ensures.value ∙ ap padded (c.len.ensures ∙ c.args.master.ok.0)) in
     let slab = slab_is c.args.body.items c.args.places.items (16 + c.padded-head_len.result) c.of_parts-slab.result version c.of_parts-slab.ensures len stored in
-    stored_view (record { order = c.args.order; master = c.args.master; secure = c.args.secure; slab = c.of_parts-slab.result; table = c.without_buckets.result })
-    version refl slab
+    rw c.number.ensures.number (stored_view (record { order = c.args.order; master = c.args.master; secure = c.args.secure; slab = c.of_parts-slab.result; table = c.without_buckets.result })
+    version refl slab)

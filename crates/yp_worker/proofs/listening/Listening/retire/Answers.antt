@@ -21,15 +21,18 @@ invariant_of-self g c =
     let returned = c.end.ensures.returned ∙ c.take_in.ensures.returned in
     let faults = c.end.ensures.faults ∙ c.take_in.ensures.faults in
     let let_go = c.end.ensures.let_go ∙ ap (λ (n : ℕ). capped n (g.L.Watch.Watch.let_go c.args.watch)) c.take_in.ensures.let_go in
-    let longer = length-map has.stays (λ (s : ServedConnection). s.ended) in (
-      kept_closed g.J.Reception.opening (seen c.self.inside.listen) (seen c.end.new.self) _ _ _ _ c.self.invariant.0
+    let longer = length-map has.stays (λ (s : ServedConnection). s.ended) in record {
+      state = kept_closed g.J.Reception.opening (seen c.self.inside.listen) (seen c.end.new.self) _ _ _ _ c.self.invariant.state
           (ends_of has.stays) (g.L.Hall.closed c.args.closer) (g.L.Hall.closed_count c.args.closer) _
           (omega (arith, c.sub.ensures.total, has.connections_are, longer)) has.told (omega (arith, has.closed_are, longer)) past most
-          accepted returned faults,
-      rw (c.hand_over.ensures.added, c.saturating_add-self-inside.ensures) (sums_ended conduct counting terms
+          accepted returned faults;
+      sums = rw (c.hand_over.ensures.added, c.saturating_add-self-inside.ensures) (sums_ended conduct counting terms
           g.J.Reception.opening (seen c.self.inside.listen) (seen c.end.new.self) _ _
           (g.H.HandsOver.summed c.self.inside.sum) (g.H.HandsOver.reached c.self.inside.sum) _ _ _ c.args.worker.now
           (g.L.Hall.closed c.args.closer) (g.L.Hall.closed_count c.args.closer) (g.L.Watch.Watch.let_go c.args.watch)
-          c.self.invariant.0.tells c.self.invariant.1 has past returned let_go c.hand_over.ensures.covered
-          c.hand_over.ensures.kept),
-    )
+          c.self.invariant.state.tells c.self.invariant.sums has past returned let_go c.hand_over.ensures.covered
+          c.hand_over.ensures.kept);
+      waits = c.self.invariant.waits;
+      held = c.self.invariant.held;
+      one_part = c.self.invariant.one_part;
+    }

@@ -11,4 +11,4 @@ returns-clause-served g c =
     let counting = counting_of g.H.CatchUp.counted g.H.HandsOver.none g.H.HandsOver.plus in
     let terms = terms_of g.J.Site.catalogue g.J.Reception.starts g.J.Reception.most in
     nobody g.L.In.TrySource g.L.Out.TrySink conduct counting terms g.J.Reception.opening.past _ c.args.self.now c.requires.under
-    c.requires.none (none_in c.new.result c.new.ensures.empty) refl refl c.in-Ok.ensures.closed c.in-Ok.ensures.count
+    c.requires.none (none_in c.new.result c.new.ensures.empty) refl refl refl c.in-Ok.ensures.closed c.in-Ok.ensures.count

@@ -1,12 +1,10 @@
-use Rattle.std.proofs.Common.{◌≡◌, ◌∙◌, ℕ, List, Option, IfSome, sym, ap, subst, arith}
-use Rattle.slab.specs.Slab.{Slab, get}
+use Rattle.std.proofs.Common.{◌∙◌, ℕ, refl, sym, ap, subst}
 use Rattle.yp_io.specs.Counts.{capped}
 use Rattle.yp_answer.specs.session.Hosts.{conduct_of}
 use Rattle.yp_answer.specs.inside.session.Cuts.{cut_of}
 use Rattle.yp_worker.specs.declared.tally.Tally.{Tally}
 use Rattle.yp_worker.specs.Receptions.{terms_of}
 use Rattle.yp_worker.specs.Summing.{IsOver, counting_of}
-use Rattle.yp_worker.specs.inside.Guests.{GuestState, Serving}
 use Rattle.yp_worker.proofs.Attending.{if_found, leaves, may_let_go}
 use Rattle.yp_worker.proofs.worker.Worker.close.Goals as goal
 
@@ -22,6 +20,7 @@ returns-in-Some-clause-served g c =
     c.args.is_let_go c.requires.served.1 found c.in-Some.ensures.updates c.in-Some.ensures.len
     (ap (λ (t : Tally). t.connections) c.count.ensures)
     (ap (λ (t : Tally). t.calls) c.count.ensures ∙ ap (λ (n : ℕ). capped c.args.shift.now.tally.calls n) c.calls.ensures)
+    refl
     (rw (c.into_call.ensures.origin, c.into_call.ensures.source, c.into_call.ensures.sink) at c.close.ensures.closed)
     c.close.ensures.count c.requires.served.2
     (λ no. subst (λ (m : ℕ). IsOver m cut) c.requires.under.most

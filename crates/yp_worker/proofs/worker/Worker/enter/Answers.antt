@@ -1,37 +1,13 @@
-use Rattle.std.proofs.Common.{◌≡◌, refl, ap, arith}
-use Rattle.yp_answer.specs.inside.session.Cuts.{Talk}
 use Rattle.yp_answer.specs.session.Hosts.{conduct_of}
 use Rattle.yp_worker.specs.Receptions.{terms_of}
 use Rattle.yp_worker.specs.Summing.{counting_of}
-use Rattle.yp_worker.proofs.Attending.{comes, counts_failure, counts_none, new_guest}
+use Rattle.yp_worker.proofs.Attending.{accepted}
 use Rattle.yp_worker.proofs.worker.Worker.enter.Goals as goal
 
-pub close-requires-clause-served : goal.close-requires-clause-served
-close-requires-clause-served g c =
+pub seat-requires-clause-comes : goal.seat-requires-clause-comes
+seat-requires-clause-comes g c =
     let conduct = conduct_of g.H.View.seen g.H.Host.told g.H.Host.counts g.H.View.stepped g.H.Host.made g.H.Host.carried in
     let counting = counting_of g.H.CatchUp.counted g.H.HandsOver.none g.H.HandsOver.plus in
     let terms = terms_of g.J.Site.catalogue g.J.Reception.starts g.J.Reception.most in
-    let inserted = c.insert_reserved.ensures in (
-      g.L.Watch.Watch.let_go c.args.shift.now.watch,
-      comes g.L.In.TrySource g.L.Out.TrySink conduct counting terms g.J.Reception.opening.past _ _ c.args.self.now c.insert_reserved.result
-          c.new-guest.result c.requires.served refl inserted.was_vacant inserted.updates inserted.len c.requires.bound
-          (omega (arith, c.new-guest.ensures.number, c.len.ensures))
-          (new_guest g.L.In.TrySource g.L.Out.TrySink g.J.Reception.opening.past c.args.call c.new-guest.result c.requires.call
-          c.new-guest.ensures.origin c.new-guest.ensures.talk)
-          (ap (λ (talk : Talk g.row.L-In.Denot g.row.L-Out.Denot). talk.waiting) c.new-guest.ensures.talk),
-      counts_failure _ _ c.enter-watched.result c.if-is_err.ensures.value c.enter-watched.ensures.let_go,
-    )
-
-pub returns-else-is_err-clause-served : goal.returns-else-is_err-clause-served
-returns-else-is_err-clause-served g c =
-    let conduct = conduct_of g.H.View.seen g.H.Host.told g.H.Host.counts g.H.View.stepped g.H.Host.made g.H.Host.carried in
-    let counting = counting_of g.H.CatchUp.counted g.H.HandsOver.none g.H.HandsOver.plus in
-    let terms = terms_of g.J.Site.catalogue g.J.Reception.starts g.J.Reception.most in
-    let inserted = c.insert_reserved.ensures in
-    rw (counts_none _ _ c.enter-watched.result c.if-is_err.ensures.value c.enter-watched.ensures.let_go)
-    (comes g.L.In.TrySource g.L.Out.TrySink conduct counting terms g.J.Reception.opening.past _ _ c.args.self.now c.insert_reserved.result
-    c.new-guest.result c.requires.served refl inserted.was_vacant inserted.updates inserted.len c.requires.bound
-    (omega (arith, c.new-guest.ensures.number, c.len.ensures))
-    (new_guest g.L.In.TrySource g.L.Out.TrySink g.J.Reception.opening.past c.args.call c.new-guest.result c.requires.call
-    c.new-guest.ensures.origin c.new-guest.ensures.talk)
-    (ap (λ (talk : Talk g.row.L-In.Denot g.row.L-Out.Denot). talk.waiting) c.new-guest.ensures.talk))
+    accepted g.L.In.TrySource g.L.Out.TrySink conduct counting terms g.J.Reception.opening.past _ c.args.self.now c.args.call c.new-guest.result
+    c.requires.served c.requires.call c.new-guest.ensures.origin c.new-guest.ensures.talk c.new-guest.ensures.number

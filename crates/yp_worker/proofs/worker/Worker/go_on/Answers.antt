@@ -1,91 +1,26 @@
-use Rattle.std.proofs.Common.{◌∙◌, ℕ, Option, refl, sym, subst, IfSome, arith}
-use Rattle.yp_answer.specs.session.Hosts.{conduct_of}
-use Rattle.yp_worker.specs.Receptions.{terms_of}
-use Rattle.yp_worker.specs.Summing.{counting_of}
-use Rattle.yp_answer.specs.inside.session.Cuts.{cut_of}
-use Rattle.yp_worker.specs.Summing.{IsOver}
-use Rattle.yp_worker.proofs.Attending.{due_at, goes, is_over, still_under}
+use Rattle.std.proofs.Common.{arith}
+use Rattle.yp_worker.proofs.Attending.{comes_same, comes_then}
+use Rattle.yp_worker.proofs.Growing.{front_then}
 use Rattle.yp_worker.proofs.worker.Worker.go_on.Goals as goal
 
-pub advanced-requires : goal.advanced-requires
-advanced-requires g c =
-    let conduct = conduct_of g.H.View.seen g.H.Host.told g.H.Host.counts g.H.View.stepped g.H.Host.made g.H.Host.carried in
-    let counting = counting_of g.H.CatchUp.counted g.H.HandsOver.none g.H.HandsOver.plus in
-    let terms = terms_of g.J.Site.catalogue g.J.Reception.starts g.J.Reception.most in
-    record { due = due_at g.L.In.TrySource g.L.Out.TrySink conduct counting terms g.J.Reception.opening.past _ c.args.self.now c.args.place _ c.requires.under.catalogue c.requires.served }
+pub returns-then-not-step-clause-comes : goal.returns-then-not-step-clause-comes
+returns-then-not-step-clause-comes g c =
+    comes_same _ _ _ _ _ c.step.ensures.came c.step.ensures.door
 
-pub returns-in_default-clause-served : goal.returns-in_default-clause-served
-returns-in_default-clause-served g c = rw (c.in_default.ensures.none.0, c.in_default.ensures.none.1) c.requires.served
+pub leave-requires-clause-out : goal.leave-requires-clause-out
+leave-requires-clause-out g c =
+    omega (arith, c.step.ensures.came, c.requires.out)
 
-pub close-requires-clause-under : goal.close-requires-clause-under
-close-requires-clause-under g c =
-    let conduct = conduct_of g.H.View.seen g.H.Host.told g.H.Host.counts g.H.View.stepped g.H.Host.made g.H.Host.carried in
-    let counting = counting_of g.H.CatchUp.counted g.H.HandsOver.none g.H.HandsOver.plus in
-    let terms = terms_of g.J.Site.catalogue g.J.Reception.starts g.J.Reception.most in
-    still_under conduct terms c.args.self.now c.advanced.new.self c.requires.under c.in-Some.ensures.went.works.sees c.in-Some.ensures.most
+pub returns-then-leave-clause-comes : goal.returns-then-leave-clause-comes
+returns-then-leave-clause-comes g c =
+    comes_then _ _ _ _ _ _ _ _ _ (comes_same _ _ _ _ _ c.step.ensures.came c.step.ensures.door) c.leave.ensures.comes
 
-pub close-requires-clause-over : goal.close-requires-clause-over
-close-requires-clause-over g c = λ no.
-    let went = c.in-Some.ensures.went in
-    subst (λ o. IfSome o (λ guest. IsOver c.advanced.new.self.most (cut_of g.L.In.TrySource g.L.Out.TrySink guest.talk))) (sym went.updates.changed)
-    (subst (λ m. IsOver m (cut_of g.L.In.TrySource g.L.Out.TrySink went.now.talk)) (sym c.in-Some.ensures.most) (is_over _ _ _ c.in-Ended.is went.comes_to))
+pub returns-clause-grown : goal.returns-clause-grown
+returns-clause-grown g c =
+    front_then _ _ _ c.step.ensures.grown c.step-2.ensures.grown
 
-pub close-requires-clause-served : goal.close-requires-clause-served
-close-requires-clause-served g c =
-    let conduct = conduct_of g.H.View.seen g.H.Host.told g.H.Host.counts g.H.View.stepped g.H.Host.made g.H.Host.carried in
-    let counting = counting_of g.H.CatchUp.counted g.H.HandsOver.none g.H.HandsOver.plus in
-    let terms = terms_of g.J.Site.catalogue g.J.Reception.starts g.J.Reception.most in
-    let went = c.in-Some.ensures.went in (
-      g.L.Watch.Watch.let_go c.args.shift.now.watch,
-      goes g.L.In.TrySource g.L.Out.TrySink conduct counting terms g.J.Reception.opening.past _ _ c.args.self.now c.advanced.new.self c.args.place _ c.requires.served refl went
-          (went.works.sees.catalogue ∙ c.requires.under.catalogue),
-      omega (arith, c.leave.ensures.let_go),
-    )
-
-pub returns-in-Moved-clause-under : goal.returns-in-Moved-clause-under
-returns-in-Moved-clause-under g c =
-    let conduct = conduct_of g.H.View.seen g.H.Host.told g.H.Host.counts g.H.View.stepped g.H.Host.made g.H.Host.carried in
-    let counting = counting_of g.H.CatchUp.counted g.H.HandsOver.none g.H.HandsOver.plus in
-    let terms = terms_of g.J.Site.catalogue g.J.Reception.starts g.J.Reception.most in
-    still_under conduct terms c.args.self.now c.advanced.new.self c.requires.under c.in-Some.ensures.went.works.sees c.in-Some.ensures.most
-
-pub returns-in-Moved-clause-grown : goal.returns-in-Moved-clause-grown
-returns-in-Moved-clause-grown g c = c.in-Some.ensures.went.works.sees.grown
-
-pub returns-in-Waits-clause-under : goal.returns-in-Waits-clause-under
-returns-in-Waits-clause-under g c =
-    let conduct = conduct_of g.H.View.seen g.H.Host.told g.H.Host.counts g.H.View.stepped g.H.Host.made g.H.Host.carried in
-    let counting = counting_of g.H.CatchUp.counted g.H.HandsOver.none g.H.HandsOver.plus in
-    let terms = terms_of g.J.Site.catalogue g.J.Reception.starts g.J.Reception.most in
-    still_under conduct terms c.args.self.now c.advanced.new.self c.requires.under c.in-Some.ensures.went.works.sees c.in-Some.ensures.most
-
-pub returns-in-Waits-clause-grown : goal.returns-in-Waits-clause-grown
-returns-in-Waits-clause-grown g c = c.in-Some.ensures.went.works.sees.grown
-
-pub returns-in-Ended-clause-under : goal.returns-in-Ended-clause-under
-returns-in-Ended-clause-under g c =
-    let conduct = conduct_of g.H.View.seen g.H.Host.told g.H.Host.counts g.H.View.stepped g.H.Host.made g.H.Host.carried in
-    let counting = counting_of g.H.CatchUp.counted g.H.HandsOver.none g.H.HandsOver.plus in
-    let terms = terms_of g.J.Site.catalogue g.J.Reception.starts g.J.Reception.most in
-    still_under conduct terms c.args.self.now c.advanced.new.self c.requires.under c.in-Some.ensures.went.works.sees c.in-Some.ensures.most
-
-pub returns-in-Ended-clause-grown : goal.returns-in-Ended-clause-grown
-returns-in-Ended-clause-grown g c = c.in-Some.ensures.went.works.sees.grown
-
-pub returns-in-Moved-clause-served : goal.returns-in-Moved-clause-served
-returns-in-Moved-clause-served g c =
-    let conduct = conduct_of g.H.View.seen g.H.Host.told g.H.Host.counts g.H.View.stepped g.H.Host.made g.H.Host.carried in
-    let counting = counting_of g.H.CatchUp.counted g.H.HandsOver.none g.H.HandsOver.plus in
-    let terms = terms_of g.J.Site.catalogue g.J.Reception.starts g.J.Reception.most in
-    let went = c.in-Some.ensures.went in
-    rw (c.again.ensures.let_go, c.awaits.ensures.let_go) (goes g.L.In.TrySource g.L.Out.TrySink conduct counting terms g.J.Reception.opening.past _ _ c.args.self.now c.advanced.new.self
-    c.args.place _ c.requires.served refl went (went.works.sees.catalogue ∙ c.requires.under.catalogue))
-
-pub returns-in-Waits-clause-served : goal.returns-in-Waits-clause-served
-returns-in-Waits-clause-served g c =
-    let conduct = conduct_of g.H.View.seen g.H.Host.told g.H.Host.counts g.H.View.stepped g.H.Host.made g.H.Host.carried in
-    let counting = counting_of g.H.CatchUp.counted g.H.HandsOver.none g.H.HandsOver.plus in
-    let terms = terms_of g.J.Site.catalogue g.J.Reception.starts g.J.Reception.most in
-    let went = c.in-Some.ensures.went in
-    rw c.awaits-in-Waits.ensures.let_go (goes g.L.In.TrySource g.L.Out.TrySink conduct counting terms g.J.Reception.opening.past _ _ c.args.self.now c.advanced.new.self
-    c.args.place _ c.requires.served refl went (went.works.sees.catalogue ∙ c.requires.under.catalogue))
+pub returns-clause-comes : goal.returns-clause-comes
+returns-clause-comes g c =
+    comes_then _ _ _ _ _ _ _ _ _
+    (comes_then _ _ _ _ _ _ _ _ _ (comes_same _ _ _ _ _ c.step.ensures.came c.step.ensures.door) c.leave.ensures.comes)
+    (comes_same _ _ _ _ _ c.step-2.ensures.came c.step-2.ensures.door)

@@ -17,7 +17,7 @@ invariant-loop g l =
       under : IsUnder conduct terms l.self;
       grown : IsFront (g.H.View.seen l.initial.self.host).known (g.H.View.seen l.self.host).known;
       served : HasServed g.L.In.TrySource g.L.Out.TrySink conduct counting terms g.J.Reception.opening.past
-          (serving_of g.L.Hall.closed g.L.Hall.closed_count g.L.Watch.Watch.let_go l.shift.guests l.shift.closer l.shift.watch l.shift.tally)
+          (serving_of g.L.Hall.closed g.L.Hall.closed_count g.L.Watch.Watch.let_go l.shift.guests l.shift.closer l.shift.watch l.shift.tally l.shift.next)
           l.self;
       comes : Comes l.initial.pass l.pass 0 (came_to l.shift.tally l.shift.guests) true l.shift.is_open;
     }

@@ -1,4 +1,4 @@
-use Rattle.std.proofs.Common.{◌∙◌, refl, ap, arith}
+use Rattle.std.proofs.Common.{refl, arith}
 use Rattle.yp_answer.specs.session.Hosts.{conduct_of}
 use Rattle.yp_worker.specs.Receptions.{terms_of}
 use Rattle.yp_worker.specs.Summing.{counting_of}
@@ -21,7 +21,7 @@ admit-requires-in-Quiet-clause-under g c =
     let conduct = conduct_of g.H.View.seen g.H.Host.told g.H.Host.counts g.H.View.stepped g.H.Host.made g.H.Host.carried in
     let counting = counting_of g.H.CatchUp.counted g.H.HandsOver.none g.H.HandsOver.plus in
     let terms = terms_of g.J.Site.catalogue g.J.Reception.starts g.J.Reception.most in
-    told_under conduct g.H.CatchUp.counted terms (record { host = c.self.inside.host; most = c.self.inside.most }) _
+    told_under conduct g.H.CatchUp.counted terms (record { host = c.self.inside.host; most = c.self.inside.most; carries = c.self.inside.carries }) _
     (rw (← c.self.view_is) at c.requires.under) (record { learned = c.catch_up.ensures.learned; counts = c.catch_up.ensures.counts; kept = c.catch_up.ensures.counted }) refl
 
 pub admit-requires-in-Quiet-clause-served : goal.admit-requires-in-Quiet-clause-served
@@ -29,28 +29,14 @@ admit-requires-in-Quiet-clause-served g c =
     let conduct = conduct_of g.H.View.seen g.H.Host.told g.H.Host.counts g.H.View.stepped g.H.Host.made g.H.Host.carried in
     let counting = counting_of g.H.CatchUp.counted g.H.HandsOver.none g.H.HandsOver.plus in
     let terms = terms_of g.J.Site.catalogue g.J.Reception.starts g.J.Reception.most in
-    rw c.in-Quiet.ensures.let_go (learns g.L.In.TrySource g.L.Out.TrySink conduct counting terms g.J.Reception.opening.past _ (record { host = c.self.inside.host; most = c.self.inside.most }) _
-    (record { learned = c.catch_up.ensures.learned; counts = c.catch_up.ensures.counts; kept = c.catch_up.ensures.counted }) (rw (← c.self.view_is) at c.requires.served))
-
-pub returns-in-Door-clause-grown : goal.returns-in-Door-clause-grown
-returns-in-Door-clause-grown g c = front_same _
+    rw c.in-Quiet.ensures.let_go (learns g.L.In.TrySource g.L.Out.TrySink conduct counting terms g.J.Reception.opening.past _ (record { host = c.self.inside.host; most = c.self.inside.most; carries = c.self.inside.carries }) _
+    (record { learned = c.catch_up.ensures.learned; counts = c.catch_up.ensures.counts; kept = c.catch_up.ensures.counted }) refl (rw (← c.self.view_is) at c.requires.served))
 
 pub returns-in-Late-clause-grown : goal.returns-in-Late-clause-grown
 returns-in-Late-clause-grown g c = front_same _
 
-pub returns-in-Ready-clause-comes : goal.returns-in-Ready-clause-comes
-returns-in-Ready-clause-comes g c = comes_same _ _ _ _ _ c.go_on.ensures.came c.go_on.ensures.door
-
 pub returns-in-Late-clause-comes : goal.returns-in-Late-clause-comes
 returns-in-Late-clause-comes g c = comes_same _ _ _ _ _ c.let_go.ensures.came c.let_go.ensures.door
 
-pub returns-in-Quiet-clause-under : goal.returns-in-Quiet-clause-under
-returns-in-Quiet-clause-under g c =
-    let conduct = conduct_of g.H.View.seen g.H.Host.told g.H.Host.counts g.H.View.stepped g.H.Host.made g.H.Host.carried in
-    let counting = counting_of g.H.CatchUp.counted g.H.HandsOver.none g.H.HandsOver.plus in
-    let terms = terms_of g.J.Site.catalogue g.J.Reception.starts g.J.Reception.most in
-    told_under conduct g.H.CatchUp.counted terms (record { host = c.self.inside.host; most = c.self.inside.most }) _
-    (rw (← c.self.view_is) at c.requires.under) (record { learned = c.catch_up.ensures.learned; counts = c.catch_up.ensures.counts; kept = c.catch_up.ensures.counted }) refl
-
 pub returns-in-Quiet-clause-grown : goal.returns-in-Quiet-clause-grown
-returns-in-Quiet-clause-grown g c = rw (← c.self.view_is) c.catch_up.ensures.learned.grown
+returns-in-Quiet-clause-grown g c = front_then _ _ _ (rw (← c.self.view_is) c.catch_up.ensures.learned.grown) c.admit-in-Quiet.ensures.grown

@@ -13,5 +13,5 @@ pub record Advanced (Goes Due : Type 0) : Type 0 where
 abbrev pub invariant-loop : goal.invariant-loop
 invariant-loop g l =
     let conduct = conduct_of g.H.View.seen g.H.Host.told g.H.Host.counts g.H.View.stepped g.H.Host.made g.H.Host.carried in
-    Advanced (GoesOn conduct l.terms.peer l.initial.host l.host (cut_of g.S.TrySource g.K.TrySink l.initial.self) (cut_of g.S.TrySource g.K.TrySink l.self))
+    Advanced (GoesOn conduct l.terms.peer l.terms.carries l.initial.host l.host (cut_of g.S.TrySource g.K.TrySink l.initial.self) (cut_of g.S.TrySource g.K.TrySink l.self))
     (IfSome l.self.waiting (IsDue (length (g.H.View.seen l.host).catalogue.maps)))

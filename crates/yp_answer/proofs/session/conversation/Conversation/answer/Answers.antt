@@ -15,7 +15,7 @@ returns-clause-goes g c =
     let is = rw (← c.self.view_is) at c.requires.record in
     let puts = rw c.hold.ensures at put.5 in
     let message : put.0.message ≡ take c.args.len c.args.buffers.now = put.1 ∙ ap (take c.args.len) (c.deref.ensures.value ∙ c.buffers.view_is) in
-    rw (← c.self.view_is) (goes_answered conduct c.args.peer put.0 c.args.host.now c.put_reply-put.new.host _ _ sound (ap rest_of whole) free put.2 put.4
+    rw (← c.self.view_is) (goes_answered conduct c.args.terms.now.peer c.args.terms.now.carries put.0 c.args.host.now c.put_reply-put.new.host _ _ sound (ap rest_of whole) free put.2 put.4 (λ none. rw message (c.requires.brief none))
     c.put_reply-put.ensures.sees (answers_of g.S.TrySource g.K.TrySink _ put.0 c.args.len c.args.spelled c.args.buffers.now c.put_reply-put.new.sink.sink
     c.saturating_add-self-inside.result c.saturating_add-self-inside-2.result c.pass.new.self c.put_reply-put.new.sink.owed c.put_reply-put.result.stream
     c.put_reply-put.result.errand c.put_reply-put.result.is_broken is message c.pass.ensures c.saturating_add-self-inside.ensures

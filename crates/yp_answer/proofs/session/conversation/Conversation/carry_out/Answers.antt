@@ -8,4 +8,4 @@ returns-clause-goes g c =
     let conduct = conduct_of g.H.View.seen g.H.Host.told g.H.Host.counts g.H.View.stepped g.H.Host.made g.H.Host.carried in
     let is : c.self.inside.errand ≡ Some c.in-Some.errand = sym c.take.ensures.value ∙ c.in-Some.is in
     let settled = rw (← c.self.view_is) at c.requires.settled in
-    rw (← c.self.view_is, c.take.ensures.after) (goes_carried conduct c.args.peer c.in-Some.errand _ _ _ settled is (rw c.job.ensures at c.transfer.ensures))
+    rw (← c.self.view_is, c.take.ensures.after) (goes_carried conduct c.args.terms.now.peer c.args.terms.now.carries c.in-Some.errand _ _ _ c.requires.carries settled is (rw c.job.ensures at c.transfer.ensures))

@@ -5,9 +5,9 @@ use Rattle.yp_answer.proofs.session.conversation.Conversation.step.Goals as goal
 pub returns-then-self-clause-goes : goal.returns-then-self-clause-goes
 returns-then-self-clause-goes g c =
     let conduct = conduct_of g.H.View.seen g.H.Host.told g.H.Host.counts g.H.View.stepped g.H.Host.made g.H.Host.carried in
-    goes_still conduct c.args.terms.now.peer c.args.host.now _ _ (follows_none _)
+    goes_still conduct c.args.terms.now.peer c.args.terms.now.carries c.args.host.now _ _ (follows_none _)
 
 pub returns-then-not-terms-clause-goes : goal.returns-then-not-terms-clause-goes
 returns-then-not-terms-clause-goes g c =
     let conduct = conduct_of g.H.View.seen g.H.Host.told g.H.Host.counts g.H.View.stepped g.H.Host.made g.H.Host.carried in
-    goes_still conduct c.args.terms.now.peer c.args.host.now _ _ (follows_none _)
+    goes_still conduct c.args.terms.now.peer c.args.terms.now.carries c.args.host.now _ _ (follows_none _)

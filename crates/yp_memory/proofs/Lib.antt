@@ -1,0 +1,4 @@
+mod Crashes
+mod DiskCalls
+mod Pieces
+mod Waiting

@@ -1,0 +1,95 @@
+-- Guests and listeners may cross threads.
+use denote.RattleType.{RattleType}
+use denote.Ref.{NamedLft}
+use denote.Param.Send.{IsSend, IsSync, sendable}
+use Rattle.std.proofs.Crossing.{crosses}
+use Rattle.std.proofs.sync.ledger.Share.TheSendSync.{the_send as share_send}
+use Rattle.std.proofs.sync.ledger.Book.TheSendSync.{the_send as book_send}
+use Rattle.std.specs.declared.sync.ledger.Ledger as ledger
+use Rattle.yp_io.specs.declared.hall.Hall as hall
+use Rattle.yp_io.specs.declared.hall.Watch as watch
+use Rattle.yp_io.specs.declared.ready.TrySource as try_source
+use Rattle.yp_io.specs.declared.ready.TrySink as try_sink
+use Rattle.yp_board.specs.declared.view.View as view
+use Rattle.yp_publisher.specs.declared.sharing.locked.Site as site
+use Rattle.yp_answer.specs.declared.session.host.Host as host
+use Rattle.yp_answer.specs.contracts.session.conversation.Conversation as Conversation
+use Rattle.yp_worker.specs.declared.catch_up.CatchUp as catch_up
+use Rattle.yp_worker.specs.declared.catch_up.HandsOver as hands_over
+use Rattle.yp_worker.specs.declared.listening.Reception as reception
+use Rattle.yp_worker.specs.contracts.gated.Gated as Gated
+use Rattle.yp_worker.specs.contracts.guest.Guest as Guest
+use Rattle.yp_worker.specs.contracts.waiting.Waiting as Waiting
+use Rattle.yp_worker.specs.contracts.listening.Listening as Listening
+use Rattle.yp_worker.specs.contracts.listening.Pass as Pass
+use Rattle.yp_worker.specs.contracts.worker.Worker as Worker
+use Rattle.yp_server.specs.contracts.datagrams.DatagramWorker as DatagramWorker
+use Rattle.yp_server.specs.contracts.workers.ConnectionWorker as ConnectionWorker
+use Rattle.yp_server.specs.contracts.workers.ServerWorker as ServerWorker
+use Rattle.yp_server.specs.contracts.workers.Lent as Lent
+
+module _ (S K G F : RattleType) (s : IsSend S) (k : IsSend K) (gate : IsSend G) (front : IsSend F) where
+  gated_send : IsSend (Gated.the_row K G)
+  gated_send = search (sendable, crosses) depth 60 fits 50000
+
+  conversation_send : IsSend (Conversation.the_row S (Gated.the_row K G))
+  conversation_send = search (sendable, crosses, gated_send) depth 60 fits 50000
+
+  guest_send : IsSend (Guest.the_row S K G)
+  guest_send = search (sendable, crosses, conversation_send) depth 60 fits 50000
+
+  pub waiting_send : IsSend (Waiting.the_row S K G F)
+  waiting_send = search (sendable, crosses, guest_send) depth 60 fits 50000
+
+pub listening_send : (I E H L G Sum Front Count In Out Closer Waker Watch : RattleType) (receptions : reception.Ghosts I.Denot)
+    (sites : site.Ghosts I.Denot) (out : ledger.Ghosts I.Denot) (ended : ledger.Ghosts E.Denot)
+    (sums : hands_over.Ghosts H.Denot Sum.Denot Front.Denot Count.Denot) (learners : catch_up.Ghosts H.Denot Count.Denot)
+    (hosts : host.Ghosts H.Denot) (views : view.Ghosts H.Denot)
+    (halls : hall.Ghosts L.Denot In.Denot Out.Denot Closer.Denot Waker.Denot Watch.Denot) (source : try_source.Ghosts In.Denot)
+    (sink : try_sink.Ghosts Out.Denot) (watches : watch.Ghosts Watch.Denot In.Denot Waker.Denot) → IsSend I → IsSend E → IsSend L
+    → IsSend G → IsSend Sum → IsSend Front → IsSend In → IsSend Out → IsSend Waker
+    → IsSend (Listening.the_row I E H L G Sum Front Count In Out Closer Waker Watch receptions sites out ended sums learners hosts
+    views halls source sink watches)
+listening_send I E H L G Sum Front Count In Out Closer Waker Watch receptions sites out ended sums learners hosts views halls source sink watches j e l gate sum
+    front in' out' waker =
+    search (sendable, crosses, waiting_send, share_send, book_send) depth 60 fits 50000
+
+pub pass_send : (I E : RattleType) (out : ledger.Ghosts I.Denot) (ended : ledger.Ghosts E.Denot) → IsSend (Pass.the_row I E out ended)
+pass_send I E out ended = search (sendable, crosses, share_send) depth 60 fits 50000
+
+pub worker_send : (H G : RattleType) → IsSend H → IsSend G → IsSend (Worker.the_row H G)
+worker_send H G host gate = search (sendable, crosses) depth 60 fits 50000
+
+pub datagram_worker_send : (I H Count : RattleType) (learners : catch_up.Ghosts H.Denot Count.Denot) (hosts : host.Ghosts H.Denot)
+    (views : view.Ghosts H.Denot) → IsSend I → IsSend H → IsSend (DatagramWorker.the_row I H Count learners hosts views)
+datagram_worker_send I H Count learners hosts views inbox host = search (sendable, crosses) depth 60 fits 50000
+
+pub connection_worker_send : (I E H G Sum Front Count : RattleType) (receptions : reception.Ghosts I.Denot)
+    (sites : site.Ghosts I.Denot) (out : ledger.Ghosts I.Denot) (ended : ledger.Ghosts E.Denot)
+    (sums : hands_over.Ghosts H.Denot Sum.Denot Front.Denot Count.Denot) (learners : catch_up.Ghosts H.Denot Count.Denot)
+    (hosts : host.Ghosts H.Denot) (views : view.Ghosts H.Denot) → IsSend H → IsSend G
+    → IsSend (ConnectionWorker.the_row I E H G Sum Front Count receptions sites out ended sums learners hosts views)
+connection_worker_send I E H G Sum Front Count receptions sites out ended sums learners hosts views h gate =
+    search (sendable, crosses, pass_send, worker_send) depth 60 fits 50000
+
+pub server_worker_send : (I E H G B Sum Front Count : RattleType) (receptions : reception.Ghosts I.Denot)
+    (sites : site.Ghosts I.Denot) (out : ledger.Ghosts I.Denot) (ended : ledger.Ghosts E.Denot)
+    (sums : hands_over.Ghosts H.Denot Sum.Denot Front.Denot Count.Denot) (learners : catch_up.Ghosts H.Denot Count.Denot)
+    (hosts : host.Ghosts H.Denot) (views : view.Ghosts H.Denot) → IsSend H → IsSend G → IsSend B
+    → IsSend (ServerWorker.the_row I E H G B Sum Front Count receptions sites out ended sums learners hosts views)
+server_worker_send I E H G B Sum Front Count receptions sites out ended sums learners hosts views h gate inbox =
+    search (sendable, crosses, connection_worker_send, datagram_worker_send) depth 60 fits 50000
+
+pub lent_sync : (a : NamedLft) (I E H G L R Sum Front Count In Out Closer Waker Watch : RattleType)
+    (receptions : reception.Ghosts I.Denot)
+    (sites : site.Ghosts I.Denot) (out : ledger.Ghosts I.Denot) (ended : ledger.Ghosts E.Denot)
+    (sums : hands_over.Ghosts H.Denot Sum.Denot Front.Denot Count.Denot) (learners : catch_up.Ghosts H.Denot Count.Denot)
+    (hosts : host.Ghosts H.Denot) (views : view.Ghosts H.Denot)
+    (halls : hall.Ghosts L.Denot In.Denot Out.Denot Closer.Denot Waker.Denot Watch.Denot) (source : try_source.Ghosts In.Denot)
+    (sink : try_sink.Ghosts Out.Denot) (watches : watch.Ghosts Watch.Denot In.Denot Waker.Denot) → IsSend I → IsSend E → IsSend L
+    → IsSend G → IsSend Sum → IsSend Front → IsSend In → IsSend Out → IsSend Waker → IsSync R
+    → IsSync (Lent.the_row a I E H G L R Sum Front Count In Out Closer Waker Watch receptions sites out ended sums learners hosts
+    views halls source sink watches)
+lent_sync a I E H G L R Sum Front Count In Out Closer Waker Watch receptions sites out ended sums learners hosts views halls source sink watches j e l gate sum
+    front in' out' waker rt =
+    search (sendable, crosses, listening_send) depth 60 fits 50000
