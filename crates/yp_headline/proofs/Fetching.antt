@@ -20,8 +20,9 @@ use Rattle.yp_answer.specs.Reply.{Response, Bytes, Takes, reply, xfr_reply}
 use Rattle.yp_headline.specs.inside.Tried.{somebody, version_with, match_call, match_reply, one_map, first_log, order_reply, master_reply, all_reply, fetched_bytes, xfr_call, fetched_log, its_transfer, transfer_world}
 use Rattle.yp_headline.specs.Fetching.{Says, SaysRows, Gives}
 use Rattle.yp_headline.specs.Serving.{IsReply}
-use Rattle.yp_headline.specs.Headline.{Replies}
-use Rattle.yp_headline.proofs.Runs.{front_self}
+use Rattle.yp_headline.specs.Publishing.{IsFetched}
+use Rattle.yp_headline.specs.Headline.{Replies, Transfers}
+use Rattle.yp_headline.proofs.Runs.{front_self, none_among}
 use Rattle.yp_headline.proofs.Listing.{one_listed}
 use Rattle.yp_headline.proofs.Matched.{match_record}
 
@@ -176,24 +177,61 @@ two_rise : (b : Bool) → IsStrictlyIncreasing (map (λ (entry : ℕ × MapVersi
 two_rise true = two
 two_rise false = λ k within. absurd (omega (arith, within))
 
-pub session_transfer : Replies transfer_world first_log fetched_log
-session_transfer = record {
+fetched : IsFetched transfer_world (version_with 9 119)
+fetched = record {
+  server = record { peer = somebody; came = fetched_bytes };
+  among = ([], [], refl);
+  fetched = version_with 9 119;
+  gives = gives;
+  marked = refl;
+}
+
+transfers : Transfers transfer_world fetched_log
+transfers = record {
+  done = λ number among. absurd (none_among number among);
+  called_back = (
+    record {
+      connection = record {
+        peer = somebody;
+        came = sent xfr_call ++ sent match_call;
+        sent = sent (xfr_reply 7 5 Succ) ++ sent (match_reply 119);
+        cut = false;
+      };
+      among = ([], [], refl);
+      exchanges = record { caller = somebody; call = xfr_call; reply = Some (xfr_reply 7 5 Succ) }
+          ∷ record { caller = somebody; call = match_call; reply = Some (match_reply 119) } ∷ [];
+      rest = [];
+      came = (
+        sent xfr_call,
+        sent match_call,
+        xfr_record,
+        refl,
+        (sent match_call, [], match_record, sym (append-nil (sent match_call)), refl),
+      );
+      one = record { caller = somebody; call = xfr_call; reply = Some (xfr_reply 7 5 Succ) };
+      asked = ([], record { caller = somebody; call = match_call; reply = Some (match_reply 119) } ∷ [], refl);
+      front = first_log;
+      goes_on = ((0, version_with 9 119) ∷ [], refl);
+      reply = xfr_reply 7 5 Succ;
+      taken = its_transfer;
+      takes = is_taken;
+      stat = Succ;
+      says = refl;
+      shows = λ done. (version_with 9 119, (first_log, [], refl), fetched);
+    },
+    tt,
+  );
+}
+
+replies : Replies transfer_world first_log fetched_log
+replies = record {
   published = record {
     first = Some (version_with 7 118) ∷ [];
     stored = (refl, tt);
     begun_is = refl;
     more = (0, version_with 9 119) ∷ [];
     all = refl;
-    new = (
-      inr (record {
-        server = record { peer = somebody; came = fetched_bytes };
-        among = ([], [], refl);
-        fetched = version_with 9 119;
-        gives = gives;
-        marked = refl;
-      }),
-      tt,
-    );
+    new = (inr fetched, tt);
   };
   rises = λ number. two_rise (0 == number);
   connections = (
@@ -230,5 +268,8 @@ session_transfer = record {
     },
     tt,
   );
-  datagrams = record { exchanges = []; sent = tt; answered = ((0, version_with 9 119) ∷ [], refl) };
+  datagrams = tt;
 }
+
+pub session_transfer : Replies transfer_world first_log fetched_log × Transfers transfer_world fetched_log
+session_transfer = (replies, transfers)

@@ -30,14 +30,14 @@ module _ (world : World) (number : ℕ) (P : Option MapVersion → Type 0)
         (sym (push number log entry.0 entry.1 None ∙ ap (λ (b : Bool). cond b (Some entry.1) (shown number log)) differ.0)) is
   ]
 
-  kept : (log more others : Log) → P (shown number log) → AreMade (IsNew world) log (more ++ others)
+  pub kept : (log more others : Log) → P (shown number log) → AreMade (IsNew world) log (more ++ others)
       → P (shown number (log ++ more))
   kept log [] others is made = subst (λ (l : Log). P (shown number l)) (sym (append-nil log)) is
   kept log (entry ∷ more) others is made =
       subst (λ (l : Log). P (shown number l)) (append_assoc log (entry ∷ []) more)
       (kept (log ++ entry ∷ []) more others (next_shown log entry is made.0) made.1)
 
-  on_front : (begun log : Log) → IsPublishedLog world begun log → P (shown number begun) → (front : Log)
+  pub on_front : (begun log : Log) → IsPublishedLog world begun log → P (shown number begun) → (front : Log)
       → IsFront begun front → IsFront front log → P (shown number front)
   on_front begun log published is front begins goes_on =
       let parts : begun ++ published.more ≡ begun ++ (begins.0 ++ goes_on.0) =

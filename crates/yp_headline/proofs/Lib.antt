@@ -6,6 +6,7 @@ pub mod Heads
 pub mod Said
 pub mod Given
 pub mod Dialing
+pub mod Posting
 pub mod Named
 pub mod Built
 pub mod Session
@@ -23,6 +24,7 @@ pub mod Worked
 pub mod Fetching
 pub mod Steps
 pub mod Server
+pub mod Mail
 pub mod Serve
 pub mod Running
 pub mod Revnet
@@ -30,4 +32,6 @@ pub mod Skewed
 pub mod Kept
 pub mod Spoiled
 pub mod Mixed
+pub mod Mailed
+pub mod Called
 pub mod Right

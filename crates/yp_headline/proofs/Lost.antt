@@ -11,7 +11,8 @@ use Rattle.yp_publisher.specs.Grown.{AreMade}
 use Rattle.yp_headline.specs.inside.Tried.{version_with, whole_file, synced, one_file, IsTornWorld, quiet}
 use Rattle.yp_headline.specs.World.{World}
 use Rattle.yp_headline.specs.Storing.{stood_for}
-use Rattle.yp_headline.specs.Publishing.{IsAmong, IsNew, StoreHas, IsPublishedLog, OfFile, StandsBy, StandsByFront}
+use Rattle.yp_headline.specs.Publishing.{IsAmong, IsNew, StoreHas, IsPublishedLog, OfFile, StandsBy}
+use Rattle.yp_headline.specs.inside.Files.{StandsByFront}
 use Rattle.yp_headline.specs.Headline.{Crashes}
 use Rattle.yp_headline.proofs.Runs.{front_self}
 use Rattle.yp_headline.proofs.Torn.{is_image, image_length, stands_first, stands_second, stands_none}
@@ -75,7 +76,7 @@ lost_at_end begun log crashes = ⊎_elim
 pub lost_meanwhile : IsTornWorld (one_file (whole_file 7 118) [] (whole_file 7 118) [] [])
 lost_meanwhile begun log crashes = ⊎_elim
     (λ first. let same = image_length (whole_file 7 118) [] first in omega (arith, same))
-    (λ by. let is = stands_so [] (whole_file 7 118) begun log crashes.published by.front by.begins by.goes_on [] by.stands_by in
+    (λ by. let is = stands_so [] (whole_file 7 118) begun log crashes.published by.log by.begins by.goes_on [] by.holds in
     let e : None ≡ Some (version_with 7 118) = same_held None (Some (version_with 7 118)) (sym stands_none ∙ is) in cc)
     (crashes.any_moment 0 [] (inr (inl (is_image []))))
 

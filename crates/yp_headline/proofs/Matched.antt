@@ -81,7 +81,7 @@ first_match = record {
     },
     tt,
   );
-  datagrams = record { exchanges = []; sent = tt; answered = front_self first_log };
+  datagrams = tt;
 }
 
 -- ---- what such a server shows
@@ -117,7 +117,7 @@ stays world catalogue dialed log (entry ∷ more) others is made =
     ] in
     ap (shown 0) (sym (append_assoc log (entry ∷ []) more)) ∙ stays world catalogue dialed next more others shows made.1
 
-only_first : (version : MapVersion) (first : List (Option MapVersion)) → AllZip StoreHas (Given version ∷ []) first
+pub only_first : (version : MapVersion) (first : List (Option MapVersion)) → AllZip StoreHas (Given version ∷ []) first
     → first ≡ Some version ∷ []
 only_first version [] stored = absurd stored
 only_first version (one ∷ []) stored = ap (λ (o : Option MapVersion). o ∷ []) stored.0

@@ -195,7 +195,7 @@ never_nothing secure is = let e : None ≡ Some (marked secure) = same_held None
 
 module _ (first_one : FirstIsOne) where
   -- it gives one version
-  gives_one : (version : MapVersion) → Gives fetched_bytes version → version ≡ version_with 9 119
+  pub gives_one : (version : MapVersion) → Gives fetched_bytes version → version ≡ version_with 9 119
   gives_one version gives =
       let last = sent (order_reply 4 9) in
       let third = sent (all_reply 3) ++ last in

@@ -125,5 +125,5 @@ module _ {S K D C A I T : Type 0} (seen : Seeing S K D C A I T) where
               (cut_is is.end ∙ ap cuts_short (sym is.told)) served,
           tt,
         );
-        datagrams = record { exchanges = []; sent = tt; answered = front_self log };
+        datagrams = tt;
       }

@@ -16,9 +16,10 @@ use Rattle.yp_transfer.specs.Fetched.{StreamPlace, place_of, rows_of, Fetched}
 use Rattle.yp_end_to_end.specs.inside.transfer.Laws.{FetchedIsShown}
 use Rattle.yp_end_to_end.specs.inside.transfer.Turns.{TurnsGiveFetch}
 use Rattle.yp_headline.specs.World.{World, Dialed}
-use Rattle.yp_headline.specs.Publishing.{IsAmong, IsPublishedLog, OfFile, StandsBy, StandsByFront}
+use Rattle.yp_headline.specs.Publishing.{IsAmong, IsPublishedLog, OfFile, StandsBy}
 use Rattle.yp_headline.specs.Storing.{stood_for}
 use Rattle.yp_headline.specs.Sources.{Source, ShowedThroughout, Succeeded}
+use Rattle.yp_headline.specs.inside.Files.{StandsByFront}
 use Rattle.yp_headline.specs.Headline.{Crashes, Transfers}
 use Rattle.yp_headline.specs.inside.Tried.{somebody, version_with, whole_file, synced, order_reply, master_reply, all_reply, fetched_bytes}
 use Rattle.yp_headline.specs.inside.TriedFiles.{stored_of, stored_log}
@@ -57,10 +58,10 @@ moments : (number : ℕ) → OfFile number world.stores (λ file. (image : List 
     → IsImage file.first image ⊎ StandsByFront world number [] stored_log image)
 moments zero = λ image left. ⊎_elim
     (λ is. inr (record {
-      front = stored_log;
+      log = stored_log;
       begins = (stored_log, refl);
       goes_on = front_self stored_log;
-      stands_by = inl (stands_stored image is);
+      holds = inl (stands_stored image is);
     }))
     (λ later. ⊎_elim (λ is. inl is) (λ last. ⊎_elim (λ is. inl is) (λ none. absurd none) last) later) left
 moments (suc number) = tt
@@ -198,4 +199,5 @@ succeeded turns shows = record {
 pub transfers : TurnsGiveFetch → FetchedIsShown → Transfers (stored_of (whole_file 9 119)) stored_log
 transfers turns shows = record {
   done = λ number among. subst (λ (n : ℕ). Succeeded world stored_log n) (sym (only_done number among)) (succeeded turns shows);
+  called_back = tt;
 }

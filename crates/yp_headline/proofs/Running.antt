@@ -1,5 +1,5 @@
 -- What `run` does is what the headline says.
-use Rattle.std.proofs.Common.{◌≡◌, ℕ, ◌-◌, ◌∷◌, suc, Bool, true, false, List, [], take, Option, Some, None, sym, ap, ◌∙◌, subst, arith, inl, ⊎_elim}
+use Rattle.std.proofs.Common.{◌≡◌, ℕ, ◌-◌, suc, Bool, true, false, List, [], take, Option, Some, None, sym, ap, ◌∙◌, subst, arith, inl, ⊎_elim}
 use Rattle.yp_io.specs.Disk.{History, IsImage, LeftIn, LeftBetween, states, moment}
 use Rattle.yp_io.specs.Dials.{Connected}
 use Rattle.yp_version.specs.Versions.{MapVersion}
@@ -29,6 +29,7 @@ use Rattle.yp_headline.specs.Headline.{Crashes}
 use Rattle.yp_headline.specs.inside.Files.{file_world, file_log, done_where}
 use Rattle.yp_headline.specs.inside.Worlds.{was_served}
 use Rattle.yp_headline.specs.inside.Running.{was_hosted, BuildHolds, CommandHolds, RunHolds}
+use Rattle.yp_headline.proofs.Runs.{none_among}
 use Rattle.yp_headline.proofs.Once.{once_replies}
 use Rattle.yp_headline.proofs.Session.{session_holds}
 use Rattle.yp_headline.proofs.Xfr.{xfr_holds}
@@ -44,10 +45,6 @@ at_once h image left =
     let none : moment h - moment h ≡ 0 = omega arith in
     let here : LeftIn (take 1 (states h)) image = subst (λ (n : ℕ). LeftIn (take (suc n) (states h)) image) none left in
     ⊎_elim (λ is. is) (λ no. absurd no) here
-
-nothing_among : (number : ℕ) → IsAmong [] number → ⊥
-nothing_among number ([], back, is) = cc
-nothing_among number (one ∷ front, back, is) = cc
 
 same_kind : (a b : Kind) → Some a ≡ Some b → a ≡ b
 same_kind a b is = cc
@@ -135,7 +132,8 @@ module _ {S K D C A I T : Type 0} (seen : Seeing S K D C A I T) (turns : TurnsGi
         log = file_log held;
         crashes = untouched name store (λ name. None) reading_of wires h held stood h' (tells_stored s) same told;
         transfers = record {
-          done = λ number among. absurd (nothing_among number (subst (λ (b : Bool). IsAmong (done_where b) number) told among));
+          done = λ number among. absurd (none_among number (subst (λ (b : Bool). IsAmong (done_where b) number) told among));
+          called_back = tt;
         };
       }
   forgone (Build name store flag) s old new door door' none stays = λ kind of_kind. unbuilt name store (Text kind) s old new none stays

@@ -11,7 +11,6 @@ use Rattle.yp_messages.specs.declared.transfer.XfrStat.TheVariants.{Succ}
 use Rattle.yp_board.specs.Catalogues.{Catalogue}
 use Rattle.yp_board.specs.Logs.{Log}
 use Rattle.yp_board.specs.Views.{IsFront}
-use Rattle.yp_answer.specs.declared.procedure.Path.{Path}
 use Rattle.yp_answer.specs.declared.procedure.Path.TheVariants.{Stream}
 use Rattle.yp_answer.specs.Numbers.{record_max}
 use Rattle.yp_answer.specs.Served.{maps_on}
@@ -24,8 +23,14 @@ use Rattle.yp_answer.specs.session.Hosts.{Conduct, Turn}
 use Rattle.yp_answer.specs.session.LogRuns.{LogRun, Gets}
 use Rattle.yp_answer.specs.session.Wires.{Wire, SinkTells}
 use Rattle.yp_answer.specs.session.Runs.{Dialogue, Chain, Runs, sent_reply}
+use Rattle.yp_headline.specs.Publishing.{IsAmong}
 use Rattle.yp_headline.specs.inside.Files.{is_cut}
 use Rattle.yp_headline.specs.Serving.{Exchange, IsPublished, IsReply, AnswersInTurn, BeginsWith, sent_over, IsServed}
+
+-- nothing is among none
+pub none_among : {A : Type 0} (item : A) → IsAmong [] item → ⊥
+none_among item ([], back, is) = cc
+none_among item (one ∷ front, back, is) = cc
 
 -- ---- replies on logs
 
@@ -52,18 +57,18 @@ is_reply catalogue (Open xid job) answer log next gets =
 pub front_self : (log : Log) → IsFront log log
 front_self log = ([], sym (append-nil log))
 
-pub in_turn : (catalogue : Catalogue) (path : Path) (peer : Peer) (turns : List Turn) (first last log : Log)
-    → LogRun catalogue path peer turns first last → IsFront last log
-    → AnswersInTurn catalogue path (exchanges_of peer turns) first log
-in_turn catalogue path peer [] first last log run front = subst (λ (l : Log). IsFront l log) run front
-in_turn catalogue path peer (turn ∷ turns) first last log run front =
+pub in_turn : (catalogue : Catalogue) (peer : Peer) (turns : List Turn) (first last log : Log)
+    → LogRun catalogue Stream peer turns first last → IsFront last log
+    → AnswersInTurn catalogue Stream (exchanges_of peer turns) first log
+in_turn catalogue peer [] first last log run front = subst (λ (l : Log). IsFront l log) run front
+in_turn catalogue peer (turn ∷ turns) first last log run front =
     let one = run.1 in (
       one.log,
       run.0,
       one.begins,
       one.goes_on,
-      is_reply catalogue (reply path (maps_on catalogue one.log) peer turn.message) turn.answer one.log run.0 one.gets,
-      in_turn catalogue path peer turns run.0 last log run.2 front,
+      is_reply catalogue (reply Stream (maps_on catalogue one.log) peer turn.message) turn.answer one.log run.0 one.gets,
+      in_turn catalogue peer turns run.0 last log run.2 front,
     )
 
 pub all_callers : (peer : Peer) (turns : List Turn)
@@ -100,18 +105,18 @@ one_more (other ∷ exchanges) one bytes first more rest h fragments e =
 
 -- ---- the records of a chain
 
-abbrev turns_in : {H : Type 0} → List (Turn × Dialogue H) → List Turn
+abbrev pub turns_in : {H : Type 0} → List (Turn × Dialogue H) → List Turn
 turns_in answered = map (λ one. one.0) answered
 
 -- what is left of the input, and what the output took
-record Reads (exchanges : List Exchange) (came before : List ℕ) (wire : Wire) : Type 0 where
-  rest : List ℕ
-  left : wire.source.input ≡ Some rest
-  begins : BeginsWith came exchanges rest
-  took : wire.sink.output ≡ Some (before ++ sent_over exchanges)
+pub record Reads (exchanges : List Exchange) (came before : List ℕ) (wire : Wire) : Type 0 where
+  pub rest : List ℕ
+  pub left : wire.source.input ≡ Some rest
+  pub begins : BeginsWith came exchanges rest
+  pub took : wire.sink.output ≡ Some (before ++ sent_over exchanges)
 
 module _ {H : Type 0} (conduct : Conduct H) (peer : Peer) where
-  chain_reads : (answered : List (Turn × Dialogue H)) (old new : Dialogue H) (came before : List ℕ)
+  pub chain_reads : (answered : List (Turn × Dialogue H)) (old new : Dialogue H) (came before : List ℕ)
       → old.wire.source.input ≡ Some came → old.wire.sink.output ≡ Some before → Chain conduct peer answered old new
       → Reads (exchanges_of peer (turns_in answered)) came before new.wire
   chain_reads [] old new came before input output chain = record {
@@ -270,7 +275,7 @@ module _ {H : Type 0} (conduct : Conduct H) (peer : Peer) (most : ℕ) (old new 
         callers = all_callers peer runs.turns;
         rest = d.rest;
         came = d.begins;
-        answered = in_turn (conduct.seen old.host).catalogue Stream peer runs.turns (conduct.seen old.host).known
+        answered = in_turn (conduct.seen old.host).catalogue peer runs.turns (conduct.seen old.host).known
             (conduct.seen new.host).known log runs.on_logs front;
         unsent = d.missing;
         sent = d.all;

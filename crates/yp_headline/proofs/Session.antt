@@ -1,6 +1,6 @@
 -- What a session over stored maps does is what the headline says.
-use Rattle.std.proofs.Common.{◌≡◌, ◌⊎◌, ℕ, zero, suc, ◌≤◌, Bool, true, List, [], ◌∷◌, ◌++◌, length, map, Option, Some, None, refl, sym, ap, ◌∙◌, subst, arith, inl, inr, ⊎_elim}
-use Rattle.std.specs.Prelude.{IfSome, IsSome, slice_get, slice_index_or, unwrap_or}
+use Rattle.std.proofs.Common.{◌≡◌, ◌⊎◌, ℕ, zero, suc, ◌≤◌, Bool, true, List, [], ◌∷◌, ◌++◌, length, map, Option, Some, None, refl, sym, ap, ◌∙◌, subst, arith, inl, inr, ⊎_elim, append_assoc, Result, Ok, Err}
+use Rattle.std.specs.Prelude.{Contains, IfSome, IsSome, slice_get, slice_index_or, unwrap_or}
 use Rattle.std.specs.List.{AllZip}
 use Rattle.std.proofs.lemmas.List.{append_cancel_left, map-append, length-map}
 use Rattle.yp_io.specs.Disk.{History, IsImage, LeftIn, MayLeave, LeavesOnly}
@@ -21,8 +21,18 @@ use Rattle.yp_answer.specs.declared.session.session.TheConstants.{CALLS_MAX}
 use Rattle.yp_answer.specs.session.Progress.{begun}
 use Rattle.yp_answer.specs.session.Wires.{Wire}
 use Rattle.yp_answer.specs.session.Runs.{dialogue_at}
+use Rattle.yp_messages.specs.declared.transfer.XfrStat.{XfrStat}
+use Rattle.yp_messages.specs.declared.transfer.XfrStat.TheVariants.{Succ}
+use Rattle.yp_publisher.specs.declared.install.Installed.{Installed}
+use Rattle.yp_transfer.specs.declared.fault.XfrFault.{XfrFault}
+use Rattle.yp_transfer.specs.HostTable.{HostList}
+use Rattle.yp_transfer.specs.CallBack.{outcome_stat}
+use Rattle.yp_answer.specs.Served.{maps_on}
+use Rattle.yp_answer.specs.Reply.{Takes, reply}
+use Rattle.yp_answer.specs.Transfer.{Taken}
+use Rattle.yp_host.specs.Transferring.{request_for}
 use Rattle.yp_host.specs.Locals.{Local}
-use Rattle.yp_host.specs.Connections.{Service, Connection, local_conduct, log_of, WasMade, WasFetched, given_in, transitions_of, ServesConnection}
+use Rattle.yp_host.specs.Connections.{Service, Connection, local_conduct, log_of, WasMade, WasFetched, Transition, GaveVersion, given_in, transitions_of, ServesConnection}
 use Rattle.yp_board.specs.Catalogues.{name_view}
 use Rattle.yp_command.specs.declared.office.disks.NamedDisk.{NamedDisk}
 use Rattle.yp_command.specs.declared.office.status.Status.{Status}
@@ -33,16 +43,19 @@ use Rattle.yp_command_serve.specs.Session.{Sessions, service, connection}
 use Rattle.yp_headline.specs.World.{World}
 use Rattle.yp_headline.specs.Fetching.{Gives}
 use Rattle.yp_headline.specs.Serving.{IsServed}
-use Rattle.yp_headline.specs.Publishing.{IsAmong, IsFetched, IsNew, StoreHas, IsPublishedLog, OfStore, OfFile, StandsBy, StandsByFront}
-use Rattle.yp_headline.specs.Headline.{Replies, Crashes}
-use Rattle.yp_headline.specs.inside.Files.{is_cut, filed, stores_between, dialed_of}
+use Rattle.yp_headline.specs.Publishing.{IsAmong, IsMarked, IsFetched, IsNew, StoreHas, IsPublishedLog, OfStore, OfFile, StandsBy}
+use Rattle.yp_headline.specs.Calling.{IsCallBack}
+use Rattle.yp_headline.specs.Headline.{Replies, Crashes, Transfers}
+use Rattle.yp_headline.specs.inside.Files.{is_cut, filed, stores_between, dialed_of, StandsByFront}
 use Rattle.yp_headline.specs.inside.Worlds.{cuts_short, was_served, session_world}
 use Rattle.yp_headline.specs.inside.Laws.{WorldHolds, SessionHolds}
-use Rattle.yp_headline.proofs.Runs.{front_self, run_served}
+use Rattle.yp_headline.proofs.Runs.{exchange_of, exchanges_of, turns_in, chain_reads, front_self, none_among, run_served}
 use Rattle.yp_headline.proofs.Stood.{stood as as_stood}
 use Rattle.yp_headline.proofs.Named.{open_is_named}
 use Rattle.yp_headline.proofs.Built.{made_built}
 use Rattle.yp_headline.proofs.Dialing.{IsSound, Goes, fetched_among, chained, ended_goes, some_then}
+use Rattle.yp_headline.proofs.Posting.{Gains, IsPosted, all_then, all_posted, run_posts, among_exchanges, installed_in, never_succeeds}
+use Rattle.yp_headline.proofs.Steps.{front_then}
 
 -- ---- files
 
@@ -115,10 +128,6 @@ module _ {D : Type 0} (history : D → Option History) where
   end_at P zero (old ∷ olds) (kept ∷ maps) then =
       end_of P (history old) (history kept.disk) (λ h is. then kept h refl is)
   end_at P (suc number) (old ∷ olds) (kept ∷ maps) then = end_at P number olds maps then
-
-no_item : (number : ℕ) → IsAmong [] number → ⊥
-no_item number ([], back, is) = cc
-no_item number (one ∷ front, back, is) = cc
 
 version_at : {D : Type 0} (maps : List (StoredMap D)) (number : ℕ) (kept : StoredMap D) → slice_get maps number ≡ Some kept
     → slice_index_or (versions maps) number None ≡ kept.version
@@ -196,14 +205,15 @@ module _ {D B E : Type 0} (service : Service D B E) (end : End) (old new : Conne
         count = tail.count ∙ chain.count;
       }
 
-  fetched_new : (number : ℕ) (log : Log) (version : MapVersion)
-      → WasFetched service (transitions_of (dialogue_at serves.start old.wire begun) serves.runs.answered)
-      (service.telling.hosts old.desk) number log version → IsFetched world version
-  fetched_new number log version fetched =
-      let a = fetched_among service (service.telling.hosts old.desk) fetched.taken fetched.fetched CALLS_MAX end
+  -- a version that the transfer behind one of the records fetched
+  fetched_by : (hosts : HostList) (taken : Taken) (fetched version : MapVersion) (transition : Transition (Local D B E))
+      → Contains (transitions_of (dialogue_at serves.start old.wire begun) serves.runs.answered) transition
+      → GaveVersion service hosts taken fetched transition → IsMarked fetched version → IsFetched world version
+  fetched_by hosts taken fetched version transition among gave marked =
+      let a = fetched_among service hosts taken fetched CALLS_MAX end
       serves.runs.answered (dialogue_at serves.start old.wire begun) serves.runs.last
       (dialogue_at serves.finish new.wire serves.progress) (length serves.runs.answered) serves.runs.chain serves.runs.ends
-      sound fetched.transition fetched.among fetched.gave in
+      sound transition among gave in
       let from : a.came.before ≡ first = same_some a.came.before first
       (sym a.came.was ∙ ap (λ (e : E). (service.telling.dial e).past) start_desk ∙ was) in
       let to : a.came.after ≡ last = same_some a.came.after last
@@ -221,11 +231,18 @@ module _ {D B E : Type 0} (service : Service D B E) (end : End) (old new : Conne
           map dialed_of a.back,
           ap (map dialed_of) parts ∙ map-append dialed_of a.front (a.wire ∷ a.back),
         );
-        fetched = fetched.fetched;
-        gives = subst (λ (l : List ℕ). Gives l fetched.fetched) (sym (told_input a.wire.input input_is.0 input_is.1)) gives;
-        marked = fetched.marked ∙ ap (λ (b : Bool). record fetched.fetched { secure = b })
-            (sym (ap (λ (v : MapVersion). v.secure) fetched.marked));
+        fetched = fetched;
+        gives = subst (λ (l : List ℕ). Gives l fetched) (sym (told_input a.wire.input input_is.0 input_is.1)) gives;
+        marked = marked;
       }
+
+  fetched_new : (number : ℕ) (log : Log) (version : MapVersion)
+      → WasFetched service (transitions_of (dialogue_at serves.start old.wire begun) serves.runs.answered)
+      (service.telling.hosts old.desk) number log version → IsFetched world version
+  fetched_new number log version is =
+      fetched_by (service.telling.hosts old.desk) is.taken is.fetched version is.transition is.among is.gave
+      (is.marked ∙ ap (λ (b : Bool). record is.fetched { secure = b })
+      (sym (ap (λ (v : MapVersion). v.secure) is.marked)))
 
   is_new : (number : ℕ) (log : Log) (version : MapVersion)
       → given_in service old serves.start serves.runs.turns serves.runs.answered number log version
@@ -269,7 +286,7 @@ module _ {D B E : Type 0} (service : Service D B E) (end : End) (old new : Conne
     published = published;
     rises = serves.rises told;
     connections = (served_one, tt);
-    datagrams = record { exchanges = []; sent = tt; answered = log_grown };
+    datagrams = tt;
   }
 
   -- ---- what a crash leaves
@@ -284,10 +301,10 @@ module _ {D B E : Type 0} (service : Service D B E) (end : End) (old new : Conne
       → IsOfBetween (given_in service old serves.start serves.runs.turns serves.runs.answered) number log0 log1 image
       → StandsByFront world number log0 log1 image
   by_front number image is = record {
-    front = is.log;
+    log = is.log;
     begins = is.begins;
     goes_on = is.goes_on;
-    stands_by = stands_by number is.log image is.holds;
+    holds = stands_by number is.log image is.holds;
   }
 
   by_standing : (number : ℕ) (standing : MapStanding) (image : List ℕ)
@@ -329,7 +346,83 @@ module _ {D B E : Type 0} (service : Service D B E) (end : End) (old new : Conne
         (sym serves.last.disks)
         (end_at service.keeping.history (StandsBy world number log1)
         number old.disks serves.finish.published.maps (at_end number));
-    stored = λ number among. absurd (no_item number among);
+    stored = λ number among. absurd (none_among number among);
+  }
+
+  -- ---- what was called back
+
+  abbrev WasPosted : List ℕ → Type 0
+  WasPosted bytes =
+      IsPosted service serves.start (transitions_of (dialogue_at serves.start old.wire begun) serves.runs.answered) serves.finish bytes
+
+  posted : Gains WasPosted (service.telling.dial old.desk).letters (service.telling.dial new.desk).letters
+  posted =
+      subst (λ (e : E). Gains WasPosted (service.telling.dial e).letters (service.telling.dial new.desk).letters) start_desk
+      (subst (λ (e : E). Gains WasPosted (service.telling.dial serves.start.desk).letters (service.telling.dial e).letters)
+      (sym serves.last.desk)
+      (run_posts service serves.runs.answered (dialogue_at serves.start old.wire begun) serves.runs.last
+      (dialogue_at serves.finish new.wire serves.progress) CALLS_MAX (length serves.runs.answered) end serves.runs.chain
+      serves.runs.ends))
+
+  abbrev Shows : Taken → XfrStat → Type 0
+  Shows taken stat = stat ≡ Succ → (version : MapVersion) × IsAmong log1 (taken.map, version) × IsFetched world version
+
+  -- a transfer that succeeded is in the log
+  by_result : (bytes : List ℕ) (is : WasPosted bytes) (result : Result Installed XfrFault) → is.carried.transfers.result ≡ result
+      → Shows is.taken (outcome_stat result)
+  by_result bytes is (Err why) result_is = λ done. absurd (never_succeeds why done)
+  by_result bytes is (Ok installed) result_is = λ done.
+      let entered = installed_in service.keeping (request_for is.taken) is.carried.transfers.transfers.outcome
+      is.carried.transfers.result installed is.middle.published is.transition.after.published result_is
+      is.carried.transfers.transfers.installs in (
+        entered.stored,
+        (
+          entered.entry.0,
+          entered.entry.1 ++ is.goes_on.0,
+          is.goes_on.1 ∙ ap (λ (l : Log). l ++ is.goes_on.0) entered.entry.2
+              ∙ append_assoc entered.entry.0 ((is.taken.map, entered.stored) ∷ entered.entry.1) is.goes_on.0,
+        ),
+        fetched_by (service.telling.hosts is.middle.desk) is.taken entered.version entered.stored is.transition is.among
+            (record {
+              took = is.took;
+              flushed = is.flushed;
+              middle = is.middle;
+              middle_is = is.middle_is;
+              hosts_are = refl;
+              carried = is.carried;
+              gave = entered.outcome_is;
+            })
+            entered.marked,
+      )
+
+  call_back : (bytes : List ℕ) → WasPosted bytes → IsCallBack world log1 bytes
+  call_back bytes is =
+      let reads = chain_reads (local_conduct service.keeping service.telling) service.peer serves.runs.answered
+      (dialogue_at serves.start old.wire begun) serves.runs.last came before input output serves.runs.chain in
+      record {
+        connection = record { peer = service.peer; came = came; sent = sent; cut = is_cut end };
+        among = ([], [], refl);
+        exchanges = exchanges_of service.peer (turns_in serves.runs.answered);
+        rest = reads.rest;
+        came = reads.begins;
+        one = exchange_of service.peer is.transition.turn;
+        asked = among_exchanges service serves.runs.answered (dialogue_at serves.start old.wire begun) is.transition is.among;
+        front = log_of service is.middle;
+        goes_on = front_then (log_of service is.middle) (log_of service is.transition.after) log1 is.grown is.goes_on;
+        reply = is.answer;
+        taken = is.taken;
+        takes = subst (λ (c : Catalogue). reply Stream (maps_on c (log_of service is.middle)) service.peer is.transition.turn.message
+            ≡ Takes is.answer is.taken) (is.catalogue ∙ start_catalogue) is.takes;
+        stat = outcome_stat is.carried.transfers.result;
+        says = is.says;
+        shows = by_result bytes is is.carried.transfers.result refl;
+      }
+
+  pub session_transfers : Transfers world log1
+  session_transfers = record {
+    done = λ number among. absurd (none_among number among);
+    called_back = all_then WasPosted (IsCallBack world log1) call_back world.posted
+        (all_posted WasPosted (service.telling.dial old.desk).letters (service.telling.dial new.desk).letters posted);
   }
 
 -- ---- by the status
@@ -351,6 +444,8 @@ module _ {D B E : Type 0} (service : Service D B E) (old new : Connection D E) (
     replies = session_replies service end old new wires serves came before sent dialed first last count told told' was is few
         more_came inputs input output took;
     crashes = session_crashes service end old new wires serves came before sent dialed first last count told told' was is few
+        more_came inputs input output took;
+    transfers = session_transfers service end old new wires serves came before sent dialed first last count told told' was is few
         more_came inputs input output took;
   }
 

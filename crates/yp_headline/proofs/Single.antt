@@ -10,9 +10,9 @@ use Rattle.yp_board.specs.Logs.{Log, shown}
 use Rattle.yp_publisher.specs.Standing.{stands_for}
 use Rattle.yp_texts.specs.declared.reading.Reading.{Reading}
 use Rattle.yp_headline.specs.World.{World}
-use Rattle.yp_headline.specs.Publishing.{IsAmong, IsNew, OfFile, StandsBy, StandsByFront}
+use Rattle.yp_headline.specs.Publishing.{IsAmong, IsNew, OfFile, StandsBy}
 use Rattle.yp_headline.specs.Headline.{Crashes}
-use Rattle.yp_headline.specs.inside.Files.{file_world, file_log, file_log_with}
+use Rattle.yp_headline.specs.inside.Files.{file_world, file_log, file_log_with, StandsByFront}
 use Rattle.yp_headline.specs.Storing.{stood_for}
 use Rattle.yp_headline.proofs.Runs.{front_self}
 use Rattle.yp_headline.proofs.Stood.{stood as as_stood}
@@ -55,7 +55,7 @@ module _ (own : List ℕ) (name : Name) (text : List ℕ → Option (List ℕ)) 
         → LeftBetween (Some old) (Some new) image
         → IsImage old.state image ⊎ StandsByFront (world told) 0 (file_log held) log image
     by_front log more is image left = ⊎_elim (λ first. inl first)
-        (λ by. inr (record { front = file_log held; begins = front_self (file_log held); goes_on = (more, is); stands_by = by }))
+        (λ by. inr (record { log = file_log held; begins = front_self (file_log held); goes_on = (more, is); holds = by }))
         (by_first image left)
 
     any_moment : (log more : Log) → log ≡ file_log held ++ more → (number : ℕ)

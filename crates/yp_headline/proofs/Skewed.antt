@@ -85,7 +85,7 @@ module _ (first_one : FirstIsOne) where
       let one = behind reply_max (order_reply 1 9) more came gives.second order_record parts gives.says_order in
       (says_one 1 U32 version.order 9 (order_reply 1 9) one.0 first_order, one.1)
 
-  order_alone : (version : MapVersion) → Gives (sent (order_reply 1 9)) version → ⊥
+  pub order_alone : (version : MapVersion) → Gives (sent (order_reply 1 9)) version → ⊥
   order_alone version gives =
       let one = after_order [] (sent (order_reply 1 9)) version (sym (append-nil (sent (order_reply 1 9)))) gives in
       never_empty reply_max gives.says_master.reply gives.says_master.first gives.third gives.says_master.fragments

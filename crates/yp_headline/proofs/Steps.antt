@@ -51,10 +51,10 @@ joined catalogue path (one ∷ exchanges) others known middle later log answered
 -- ---- one record
 
 module _ {H : Type 0} (conduct : Conduct H) where
-  abbrev known : H → Log
+  abbrev pub known : H → Log
   known host = (conduct.seen host).known
 
-  abbrev catalogue_of : H → Catalogue
+  abbrev pub catalogue_of : H → Catalogue
   catalogue_of host = (conduct.seen host).catalogue
 
   -- a host goes on: its catalogue stays, and what it knew is a front of what it knows
@@ -102,14 +102,14 @@ module _ {H : Type 0} (conduct : Conduct H) where
       }
 
   -- a record's link, on logs alone
-  record Linked (path : Path) (peer : Peer) (turn : Turn) (old new : H) : Type 0 where
-    front : Log
-    begins : IsFront (known old) front
-    goes : IsFront front (known new)
-    catalogue : catalogue_of new ≡ catalogue_of old
-    replied : IsReply (reply path (maps_on (catalogue_of old) front) peer turn.message) turn.answer front (known new)
+  pub record Linked (path : Path) (peer : Peer) (turn : Turn) (old new : H) : Type 0 where
+    pub front : Log
+    pub begins : IsFront (known old) front
+    pub goes : IsFront front (known new)
+    pub catalogue : catalogue_of new ≡ catalogue_of old
+    pub replied : IsReply (reply path (maps_on (catalogue_of old) front) peer turn.message) turn.answer front (known new)
 
-  linked : (path : Path) (peer : Peer) (turn : Turn) (old new : H) → Link conduct path peer turn old new
+  pub linked : (path : Path) (peer : Peer) (turn : Turn) (old new : H) → Link conduct path peer turn old new
       → Linked path peer turn old new
   linked path peer turn old new link =
       let step = stepped_on (asks path turn.message) old link.mid link.step in
@@ -123,7 +123,7 @@ module _ {H : Type 0} (conduct : Conduct H) where
             (known link.mid) (known new)) step.catalogue got.replied;
       }
 
-  linked_on : (path : Path) (peer : Peer) (turn : Turn) (old new : H) → Linked path peer turn old new → GoesOn old new
+  pub linked_on : (path : Path) (peer : Peer) (turn : Turn) (old new : H) → Linked path peer turn old new → GoesOn old new
   linked_on path peer turn old new is =
       record { catalogue = is.catalogue; grown = front_then (known old) is.front (known new) is.begins is.goes }
 
@@ -136,7 +136,7 @@ module _ {H : Type 0} (conduct : Conduct H) where
   deed_on peer (Read wire) old new does = stays_on old new does
 
   module _ {T : Type 0} (counted : H → T) where
-    told_on : (old new : H) → TakesStep conduct counted Learned old new → GoesOn old new
+    pub told_on : (old new : H) → TakesStep conduct counted Learned old new → GoesOn old new
     told_on old new told = record {
       catalogue = ap (λ (s : Seen). s.catalogue) told.learned.same;
       grown = told.learned.grown;

@@ -53,7 +53,7 @@ torn_at_end begun log crashes = ⊎_elim
 pub torn_meanwhile : IsTornWorld (one_file [] torn_file [] [] [])
 torn_meanwhile begun log crashes = ⊎_elim
     (λ first. let same = image_length [] torn_file first in omega (arith, same))
-    (λ by. no_damage (one_file [] torn_file [] [] []) by.front torn_file stands_torn by.stands_by)
+    (λ by. no_damage (one_file [] torn_file [] [] []) by.log torn_file stands_torn by.holds)
     (crashes.any_moment 0 torn_file (inr (inl (is_image torn_file))))
 
 -- ---- transfers

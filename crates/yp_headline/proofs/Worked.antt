@@ -23,11 +23,12 @@ use Rattle.std.proofs.lemmas.Grind.{same_number_lists}
 use Rattle.yp_texts.specs.Builds.{order_after}
 use Rattle.yp_texts.specs.After.{other_master, last_order}
 use Rattle.yp_headline.specs.inside.Tried.{version_with, whole_file, synced, match_call, match_reply, first_log, own_map, own_caller, make_call, make_world, made_log, skewed_world, installing, all_log, twice_log}
-use Rattle.yp_headline.specs.Publishing.{IsAmong, IsBuilt, OfFile, StandsBy, StandsByFront}
+use Rattle.yp_headline.specs.Publishing.{IsAmong, IsBuilt, OfFile, StandsBy}
 use Rattle.yp_headline.specs.Serving.{IsReply}
 use Rattle.yp_headline.specs.Storing.{stood_for}
+use Rattle.yp_headline.specs.inside.Files.{StandsByFront}
 use Rattle.yp_headline.specs.Headline.{Replies, Crashes, Transfers}
-use Rattle.yp_headline.proofs.Runs.{front_self}
+use Rattle.yp_headline.proofs.Runs.{front_self, none_among}
 use Rattle.yp_headline.proofs.Listing.{one_listed}
 use Rattle.yp_headline.proofs.Torn.{stands_first}
 use Rattle.yp_headline.proofs.Matched.{match_record}
@@ -53,14 +54,14 @@ matched_on : (log : Log) (peer : Peer) (order value : ℕ) → shown 0 log ≡ S
 unfolding word_at content_at opaque_at fixed opaque
 matched_on log peer order value is = rw is refl
 
-made : IsBuilt make_world 0 first_log (version_with 8 119)
+pub made : IsBuilt make_world 0 first_log (version_with 8 119)
 made = record { moment = 8; master = refl; of_own = refl; order = refl; rows = λ none. one_listed (107 ∷ [], 119 ∷ []) }
 
 two : IsStrictlyIncreasing (7 ∷ 8 ∷ [])
 two zero within = omega arith
 two (suc k) within = absurd (omega (arith, within))
 
-two_rise : (b : Bool) → IsStrictlyIncreasing (map (λ (entry : ℕ × MapVersion). entry.1.order)
+pub two_rise : (b : Bool) → IsStrictlyIncreasing (map (λ (entry : ℕ × MapVersion). entry.1.order)
     (cond b ((0, version_with 7 118) ∷ cond b ((0, version_with 8 119) ∷ []) []) (cond b ((0, version_with 8 119) ∷ []) [])))
 two_rise true = two
 two_rise false = λ k within. absurd (omega (arith, within))
@@ -120,14 +121,10 @@ make_then_match = record {
     },
     tt,
   );
-  datagrams = record { exchanges = []; sent = tt; answered = ((0, version_with 8 119) ∷ [], refl) };
+  datagrams = tt;
 }
 
 -- ---- a source that changes between its replies: nothing is stored
-
-none_done : (number : ℕ) → IsAmong [] number → ⊥
-none_done number ([], back, is) = cc
-none_done number (one ∷ front, back, is) = cc
 
 skewed_moments : (came : List ℕ) (number : ℕ) → OfFile number (skewed_world came).stores (λ file. (image : List ℕ)
     → LeftIn file.moments image → IsImage file.first image ⊎ StandsByFront (skewed_world came) number first_log first_log image)
@@ -152,9 +149,9 @@ skewed_source came = (
     };
     any_moment = skewed_moments came;
     at_end = skewed_end came;
-    stored = λ number among. absurd (none_done number among);
+    stored = λ number among. absurd (none_among number among);
   },
-  record { done = λ number among. absurd (none_done number among) },
+  record { done = λ number among. absurd (none_among number among); called_back = tt },
 )
 
 -- ---- three installs of one file
@@ -187,7 +184,7 @@ by_front : (front later : Log) (image : List ℕ) (version : MapVersion) → IsF
     → shown 0 front ≡ Some version → stood_for image ≡ Some (Some version)
     → StandsByFront installing 0 first_log all_log image
 by_front front later image version begins all shows is =
-    record { front = front; begins = begins; goes_on = (later, all); stands_by = inl (is ∙ ap (λ (o : Option MapVersion). Some o) (sym shows)) }
+    record { log = front; begins = begins; goes_on = (later, all); holds = inl (is ∙ ap (λ (o : Option MapVersion). Some o) (sym shows)) }
 
 install_moments : (number : ℕ) → OfFile number installing.stores (λ file. (image : List ℕ)
     → LeftIn file.moments image → IsImage file.first image ⊎ StandsByFront installing number first_log all_log image)

@@ -16,6 +16,7 @@ use Rattle.yp_answer.specs.session.Runs.{sent_reply}
 use Rattle.yp_answer.specs.Reply.{Response, Bytes, reply}
 use Rattle.yp_headline.specs.inside.Tried.{null_call, null_reply, somebody, no_maps, one_connection, IsWrong, one_datagram}
 use Rattle.yp_headline.specs.World.{Connection}
+use Rattle.yp_headline.specs.Answering.{answer}
 use Rattle.yp_headline.specs.Serving.{Exchange, BeginsWith, sent_over, IsReply, AnswersInTurn, IsServed, AreSent}
 use Rattle.yp_headline.specs.Headline.{Replies}
 
@@ -32,7 +33,7 @@ unfolding word_at content_at opaque_at
 eighth catalogue log peer = refl
 
 mailed : (catalogue : Catalogue) (log : Log) (peer : Peer)
-    → reply Mail (maps_on catalogue log) peer (null_call 7) ≡ Bytes (null_reply 7)
+    → answer Mail (maps_on catalogue log) peer (null_call 7) ≡ Bytes (null_reply 7)
 unfolding word_at content_at opaque_at
 mailed catalogue log peer = refl
 
@@ -128,21 +129,21 @@ no_reply catalogue known log (one ∷ more) calls = absurd cc
 
 -- ---- replies: the worlds
 
-mail_reply : (known log : Log) (answer : Option (List ℕ)) (exchanges : List Exchange)
-    → AreSent (record { peer = somebody; came = null_call 7; sent = answer; lost = false } ∷ []) exchanges
-    → AnswersInTurn no_maps Mail exchanges known log → answer ≡ Some (null_reply 7)
-mail_reply known log answer [] sent_are answered = absurd sent_are
-mail_reply known log answer (one ∷ two ∷ more) sent_are answered = absurd sent_are.3
-mail_reply known log answer (one ∷ []) sent_are answered =
-    sent_are.2 refl ∙ replied (reply Mail (maps_on no_maps answered.0) one.caller one.call) (null_reply 7) one.reply answered.0
-    answered.1 (ap (λ (m : List ℕ). reply Mail (maps_on no_maps answered.0) one.caller m) sent_are.1
+mail_reply : (known log : Log) (back : Option (List ℕ)) (exchanges : List Exchange)
+    → AreSent (record { peer = somebody; came = null_call 7; sent = back; lost = false } ∷ []) exchanges
+    → AnswersInTurn no_maps Mail exchanges known log → back ≡ Some (null_reply 7)
+mail_reply known log back [] sent_are answered = absurd sent_are
+mail_reply known log back (one ∷ two ∷ more) sent_are answered = absurd sent_are.3
+mail_reply known log back (one ∷ []) sent_are answered =
+    sent_are.2 ∙ replied (answer Mail (maps_on no_maps answered.0) one.caller one.call) (null_reply 7) one.reply answered.0
+    answered.1 (ap (λ (m : List ℕ). answer Mail (maps_on no_maps answered.0) one.caller m) sent_are.1
     ∙ mailed no_maps answered.0 one.caller) answered.4
 
 -- what a datagram gets is its reply
-mailed_back : (answer : Option (List ℕ)) (begun log : Log) → Replies (one_datagram answer) begun log
-    → answer ≡ Some (null_reply 7)
-mailed_back answer begun log replies =
-    let mails = replies.datagrams in mail_reply begun log answer mails.exchanges mails.sent mails.answered
+mailed_back : (back : Option (List ℕ)) (begun log : Log) → Replies (one_datagram back) begun log
+    → back ≡ Some (null_reply 7)
+mailed_back back begun log replies =
+    let mails = replies.datagrams.0 in mail_reply begun log back mails.exchanges mails.sent mails.answered
 
 module _ (one : CutIsOne) where
   -- what is sent for one call is its reply

@@ -33,6 +33,7 @@ use Rattle.yp_headline.specs.Publishing.{IsAmong, IsMarked, IsNew}
 use Rattle.yp_headline.specs.Sources.{Source, ShowedThroughout, Succeeded}
 use Rattle.yp_headline.specs.inside.Files.{dialed_of, file_world, file_log, file_log_with}
 use Rattle.yp_headline.specs.inside.Laws.{XfrHolds, FileHolds}
+use Rattle.yp_headline.proofs.Runs.{none_among}
 use Rattle.yp_headline.proofs.Given.{fetched_gives}
 use Rattle.yp_headline.proofs.Dialing.{fetched_over}
 use Rattle.yp_headline.proofs.Single.{IsLeft, left_crashes, stored_crashes, shown_with}
@@ -86,9 +87,6 @@ same_wires a b e = cc
 nothing_behind : (front : List ℕ) (number : ℕ) (back : List ℕ) → [] ≡ front ++ number ∷ back → ⊥
 nothing_behind [] number back is = cc
 nothing_behind (one ∷ front) number back is = cc
-
-nothing_among : (number : ℕ) → IsAmong [] number → ⊥
-nothing_among number among = nothing_behind among.0 number among.1 among.2
 
 pub only_done : (number : ℕ) → IsAmong (0 ∷ []) number → number ≡ 0
 only_done number ([], back, is) = cc
@@ -173,7 +171,7 @@ module _ {S K D C A I T : Type 0} (seen : Seeing S K D C A I T) (job : Job) (sta
       log = file_log held;
       crashes = left_crashes job.name job.store (λ name. None) reading_of wires h h' held (made_of job file outcome) stood
           (new_by false outcome refl) (each leaves);
-      transfers = record { done = λ number among. absurd (nothing_among number among) };
+      transfers = record { done = λ number among. absurd (none_among number among); called_back = tt };
     }
 
   module _ (file : FileVersion) (file_is : file.version ≡ held) (version : MapVersion)
@@ -214,6 +212,7 @@ module _ {S K D C A I T : Type 0} (seen : Seeing S K D C A I T) (job : Job) (sta
           (new_by file file_is (Ok version) fetches true (Ok version) refl) (each file file_is (Ok version) fetches leaves);
       transfers = record {
         done = λ number among. subst (λ (n : ℕ). Succeeded (world true) log n) (sym (only_done number among)) succeeded;
+        called_back = tt;
       };
     }
 
@@ -240,7 +239,7 @@ module _ {S K D C A I T : Type 0} (seen : Seeing S K D C A I T) (job : Job) (sta
     crashes = left_crashes job.name job.store (λ name. None) reading_of wires h h' held None stood (λ version made. absurd cc)
         (λ image left. inl ((subst (λ (o : Option History). LeavesOnly (Some h) o (MayLeave (Some h))) is
         (subst (λ (o : Option History). LeavesOnly o (history seen new) (MayLeave o)) was leaves)).each image left));
-    transfers = record { done = λ number among. absurd (nothing_among number among) };
+    transfers = record { done = λ number among. absurd (none_among number among); called_back = tt };
   }
 
   pub holds : TurnsGiveFetch → FetchedIsShown → XfrDoes seen job status old new → FileHolds (world (tells_stored status)) held

@@ -1,5 +1,5 @@
 -- What a call gets, by the numbers of the programs that are answered: YP version 2 (yp.x) and the make program.
-use Rattle.std.specs.Prelude.{ℕ, ◌==◌, if◌then◌else◌, List, Option, Some, None}
+use Rattle.std.specs.Prelude.{ℕ, ◌==◌, if◌then◌else◌, List, length, Option, Some, None}
 use Rattle.yp_io.specs.declared.stream.Peer.{Peer}
 use Rattle.yp_rpc.specs.Judging.{ProgramTable, judged}
 use Rattle.yp_rpc.specs.Called.{call_of}
@@ -12,7 +12,7 @@ use Rattle.yp_answer.specs.declared.procedure.Procedure.TheVariants.{Xfr, Clear,
 use Rattle.yp_answer.specs.declared.procedure.Procedure.TheVariants.{Make, MakeNamed}
 use Rattle.yp_answer.specs.Procedures.{all_on}
 use Rattle.yp_answer.specs.Maps.{Maps}
-use Rattle.yp_answer.specs.Reply.{Response, judged_reply}
+use Rattle.yp_answer.specs.Reply.{Response, Silence, exceeds, judged_reply}
 
 -- the procedure of YP with a number, and that of the make program
 abbrev pub yp_procedure : Path → ℕ → Option Procedure
@@ -36,9 +36,10 @@ programs path = record {
       else (if prog == 536890953 then make_program_procedure number else None);
 }
 
--- what a record, or a datagram, of a caller gets
+-- what a record, or a datagram, of a caller gets: nothing, where a datagram is too long
 abbrev pub answer : Path → Maps → Peer → List ℕ → Response
-answer path maps peer message = judged_reply path maps peer message (judged (programs path) message)
+answer path maps peer message = if exceeds path (length message) then Silence
+    else judged_reply path maps peer message (judged (programs path) message)
 
 -- a call about a map of a procedure of YP, by its number
 abbrev pub map_call : (procedure : ℕ) → Name → (xid : ℕ) → List ℕ

@@ -18,19 +18,8 @@ head_kind = Sequence U32 (Sequence I32 (Sequence I32 (Sequence auth_kind I32)))
 -- the results of a reply to the call with a number begin there
 pub record ResultsAre (xid : ℕ) (reply : List ℕ) (left : Remaining) : Type 0 where
   pub verifier : Value auth_kind
-  pub head : reading head_kind (record { at = 0; bytes = reply }) ≡ Ok (
-    (
-      xid,
-      (
-        pos 1,
-        (
-          pos 0,
-          (verifier, pos 0),
-        ),
-      ),
-    ),
-    left,
-  )
+  pub head : reading head_kind (record { at = 0; bytes = reply })
+      ≡ Ok ((xid, (pos 1, (pos 0, (verifier, pos 0)))), left)
 
 -- a reply says this of a kind, behind the status TRUE
 pub record Says (xid : ℕ) (kind : Kind) (value : Value kind) (reply : List ℕ) : Type 0 where

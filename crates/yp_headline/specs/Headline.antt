@@ -3,20 +3,22 @@ use Rattle.std.specs.Prelude.{◌≡◌, ◌⊎◌, ℕ, List, Some}
 use Rattle.std.specs.List.{AllByRecursion}
 use Rattle.yp_io.specs.Disk.{IsImage, LeftIn}
 use Rattle.yp_board.specs.Logs.{Log, shown}
+use Rattle.yp_board.specs.Between.{Between}
 use Rattle.yp_publisher.specs.Rising.{IsRisingLog}
 use Rattle.yp_headline.specs.World.{World}
 use Rattle.yp_headline.specs.Serving.{IsServed, AreServed}
-use Rattle.yp_headline.specs.Publishing.{IsAmong, IsPublishedLog, OfFile, StandsBy, StandsByFront}
+use Rattle.yp_headline.specs.Publishing.{IsAmong, IsPublishedLog, OfFile, StandsBy}
 use Rattle.yp_headline.specs.Sources.{Succeeded}
+use Rattle.yp_headline.specs.Calling.{IsCallBack}
 use Rattle.yp_headline.specs.Storing.{stood_for}
 
 -- Replies. There is one log of published versions, in which the orders of each map rise. Each connection was answered
--- in turn on fronts of it that never go back, from what there was at first; and so were the datagrams.
+-- in turn on fronts of it that never go back, from what there was at first; and so were the datagrams of each inbox.
 pub record Replies (world : World) (begun log : Log) : Type 0 where
   pub published : IsPublishedLog world begun log
   pub rises : IsRisingLog log
   pub connections : AllByRecursion (IsServed world.catalogue begun log) world.connections
-  pub datagrams : AreServed world.catalogue begun log world.datagrams
+  pub datagrams : AllByRecursion (AreServed world.catalogue begun log) world.datagrams
 
 -- Crashes. Whatever a crash leaves of a map's file, at any moment, it might have left at first, or it stands for what a
 -- front of the log shows of the map, or for a version that was new behind that front. At the end it might have been
@@ -25,7 +27,7 @@ pub record Replies (world : World) (begun log : Log) : Type 0 where
 pub record Crashes (world : World) (begun log : Log) : Type 0 where
   pub published : IsPublishedLog world begun log
   pub any_moment : (number : ℕ) → OfFile number world.stores (λ file. (image : List ℕ) → LeftIn file.moments image
-      → IsImage file.first image ⊎ StandsByFront world number begun log image)
+      → IsImage file.first image ⊎ Between begun log (λ front. StandsBy world number front image))
   pub at_end : (number : ℕ) → OfFile number world.stores (λ file. (image : List ℕ) → IsImage file.last image
       → IsImage file.first image ⊎ StandsBy world number log image)
   pub stored : (number : ℕ) → IsAmong world.done number → OfFile number world.stores (λ file. (image : List ℕ)
@@ -33,6 +35,7 @@ pub record Crashes (world : World) (begun log : Log) : Type 0 where
 
 -- Transfers. Each that was told as done is of a map whose version a server that was dialed gave: the log shows it.
 -- Where what came begins with what a source sent whose own log rises, it is the version that the source showed
--- throughout.
+-- throughout. Each datagram that was posted calls back a transfer that a connection asked for.
 pub record Transfers (world : World) (log : Log) : Type 0 where
   pub done : (number : ℕ) → IsAmong world.done number → Succeeded world log number
+  pub called_back : AllByRecursion (IsCallBack world log) world.posted

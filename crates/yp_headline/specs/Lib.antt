@@ -8,4 +8,5 @@ pub mod Texts
 pub mod Listing
 pub mod Fetching
 pub mod Sources
+pub mod Calling
 pub mod inside

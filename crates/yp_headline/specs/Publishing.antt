@@ -4,7 +4,6 @@ use Rattle.std.specs.Prelude.{IfSome, ⊤}
 use Rattle.std.specs.List.{AllZip}
 use Rattle.yp_version.specs.Versions.{MapVersion}
 use Rattle.yp_board.specs.Logs.{Log, shown, starts}
-use Rattle.yp_board.specs.Views.{IsFront}
 use Rattle.yp_publisher.specs.Grown.{AreMade}
 use Rattle.yp_texts.specs.Builds.{order_after}
 use Rattle.yp_texts.specs.After.{other_master, last_order}
@@ -82,10 +81,3 @@ abbrev pub StandsBy : World → ℕ → Log → List ℕ → Type 0
 StandsBy world number log image =
     (stood_for image ≡ Some (shown number log))
     ⊎ ((version : MapVersion) × IsNew world number log version × (stood_for image ≡ Some (Some version)))
-
--- They do by a front of the log that begins with what there was at first.
-pub record StandsByFront (world : World) (number : ℕ) (begun log : Log) (image : List ℕ) : Type 0 where
-  pub front : Log
-  pub begins : IsFront begun front
-  pub goes_on : IsFront front log
-  pub stands_by : StandsBy world number front image

@@ -1,5 +1,5 @@
 -- How what came is answered: on fronts of one log, which never go back.
-use Rattle.std.specs.Prelude.{◌≡◌, ℕ, false, List, [], ◌∷◌, ◌++◌, flat_map, Option, Some, None, ⊤}
+use Rattle.std.specs.Prelude.{◌≡◌, ℕ, false, if◌then◌else◌, List, [], ◌∷◌, ◌++◌, flat_map, Option, Some, None, ⊤}
 use Rattle.std.specs.List.{AllByRecursion}
 use Rattle.yp_io.specs.declared.stream.Peer.{Peer}
 use Rattle.yp_rpc.specs.Records.{Fragments, IsRest}
@@ -82,7 +82,7 @@ pub record IsServed (catalogue : Catalogue) (known log : Log) (connection : Conn
 abbrev pub AreSent : List Datagram → List Exchange → Type 0
 AreSent [] [] = ⊤
 AreSent (mail ∷ mails) (one ∷ more) =
-    (one.caller ≡ mail.peer) × (one.call ≡ mail.came) × (mail.lost ≡ false → mail.sent ≡ one.reply)
+    (one.caller ≡ mail.peer) × (one.call ≡ mail.came) × (mail.sent ≡ (if mail.lost then None else one.reply))
     × AreSent mails more
 AreSent _ _ = ⊥
 

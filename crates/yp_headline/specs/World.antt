@@ -38,14 +38,15 @@ pub record Dialed : Type 0 where
   pub came : List ℕ
 
 -- the own name with the names of the maps, and the store of each; the texts by their names, where they are told, and
--- how that of a map is read; the connections and datagrams that were served; what came of servers that were dialed; and
--- the maps whose transfer was told as done
+-- how that of a map is read; the connections that were served, and inbox by inbox the datagrams; what came of
+-- servers that were dialed; the datagrams that were posted; and the maps whose transfer was told as done
 pub record World : Type 0 where
   pub catalogue : Catalogue
   pub stores : List Store
   pub text : List ℕ → Option (List ℕ)
   pub reading : List ℕ → Reading
   pub connections : List Connection
-  pub datagrams : List Datagram
+  pub datagrams : List (List Datagram)
   pub dialed : List Dialed
+  pub posted : List (List ℕ)
   pub done : List ℕ

@@ -20,7 +20,7 @@ pub fn once_replies<S: Source, K: Sink, D: Disk, C: Clock, A: Dial, I: Inbox, T:
     ensures { OnceReplies (seeing S.Source K.Sink D.Disk C.Clock A.Dial I.Inbox T.Texts) }
 {}
 
-/// What `session` does is what the headline says of replies and of crashes.
+/// What `session` does is what the headline says of replies, of crashes and of transfers.
 pub fn session_holds<S: Source, K: Sink, D: Disk, C: Clock, A: Dial, I: Inbox, T: Texts>()
     ensures { SessionHolds (seeing S.Source K.Sink D.Disk C.Clock A.Dial I.Inbox T.Texts) }
 {}
@@ -43,8 +43,8 @@ pub fn revnet_holds<S: Source, K: Sink, D: Disk, C: Clock, A: Dial, I: Inbox, T:
     ensures { RevnetHolds (seeing S.Source K.Sink D.Disk C.Clock A.Dial I.Inbox T.Texts) }
 {}
 
-/// What `serve` does with its connections is what the headline says of replies, but for what was published behind the
-/// first versions.
+/// What `serve` does with its connections and its datagrams is what the headline says of replies, but for what was
+/// published behind the first versions; and at the end its files stand for what was.
 pub fn serve_holds<S: Source, K: Sink, D: Disk, C: Clock, A: Dial, I: Inbox, T: Texts>()
     ensures { ServeHolds (seeing S.Source K.Sink D.Disk C.Clock A.Dial I.Inbox T.Texts) }
 {}

@@ -1,16 +1,18 @@
 -- The world of a command over one file.
 use Rattle.std.specs.Prelude.{ℕ, ◌-◌, suc, Bool, true, false, List, []}
-use Rattle.std.specs.Prelude.{◌∷◌, ◌++◌, map, take, Option, Some, unwrap_or}
+use Rattle.std.specs.Prelude.{◌∷◌, ◌++◌, map, length, take, drop, Option, Some, None, unwrap_or}
 use Rattle.yp_io.specs.Disk.{History, states, moment}
-use Rattle.yp_io.specs.Dials.{Connected}
+use Rattle.yp_io.specs.Dials.{Connected, Sending, Posted, Asked}
 use Rattle.yp_version.specs.Versions.{MapVersion, unmarked}
 use Rattle.yp_board.specs.Catalogues.{Name}
 use Rattle.yp_board.specs.Logs.{Log, starts}
+use Rattle.yp_board.specs.Between.{Between}
 use Rattle.yp_texts.specs.declared.reading.Reading.{Reading}
 use Rattle.yp_answer.specs.declared.session.session.End.{End}
 use Rattle.yp_answer.specs.declared.session.session.End.TheVariants.{Clean, Torn, TooLong}
 use Rattle.yp_answer.specs.declared.session.session.End.TheVariants.{ReadFault, WriteFault, Enough}
 use Rattle.yp_headline.specs.World.{World, Store, Given, Filed, Dialed}
+use Rattle.yp_headline.specs.Publishing.{StandsBy}
 
 -- whether a session that ended so was cut short
 abbrev pub is_cut : End → Bool
@@ -40,6 +42,22 @@ stores_between history _ _ = []
 abbrev pub dialed_of : Connected → Dialed
 dialed_of wire = record { peer = wire.peer; came = unwrap_or wire.input [] }
 
+-- the datagrams that a dial posted, but for questions whose answer was awaited
+abbrev pub posted_of : List Sending → List (List ℕ)
+posted_of [] = []
+posted_of (Posted peer bytes ∷ sent) = bytes ∷ posted_of sent
+posted_of (Asked peer bytes came ∷ sent) = posted_of sent
+
+-- those that were told more at last than at first
+abbrev pub posted_between : Option (List Sending) → Option (List Sending) → List (List ℕ)
+posted_between None new = []
+posted_between (Some old) None = []
+posted_between (Some old) (Some new) = posted_of (drop (length old) new)
+
+-- bytes stand for what a front of a log shows of a map, or for a version that is new behind that front
+abbrev pub StandsByFront : World → ℕ → (begun log : Log) → List ℕ → Type 0
+StandsByFront world number begun log image = Between begun log (λ front. StandsBy world number front image)
+
 -- ---- one file
 
 -- the first map, where a command tells that it stored it
@@ -58,6 +76,7 @@ file_world own name text reading wires stored old new = record {
   connections = [];
   datagrams = [];
   dialed = map dialed_of wires;
+  posted = [];
   done = done_where stored;
 }
 

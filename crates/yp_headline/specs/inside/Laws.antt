@@ -69,6 +69,7 @@ pub record WorldHolds (world : World) : Type 0 where
   pub log : Log
   pub replies : Replies world begun log
   pub crashes : Crashes world begun log
+  pub transfers : Transfers world log
 
 -- What `session` does, where it serves its connection, and its disks, its dial and its wire tell.
 abbrev pub SessionHolds : {S K D C A I T : Type 0} → Seeing S K D C A I T → Type 0

@@ -1,6 +1,6 @@
 -- What `run` does is what the headline says, command by command.
 use Rattle.std.specs.Prelude.{◌≡◌, ◌≢◌, ◌≤◌, ℕ, Bool, true, false, List}
-use Rattle.std.specs.Prelude.{[], ◌++◌, length, map, Option, Some, None, Ok, ⊤}
+use Rattle.std.specs.Prelude.{[], ◌++◌, length, Option, Some, None, Ok, ⊤}
 use Rattle.std.specs.List.{AllByRecursion}
 use Rattle.yp_io.specs.Disk.{History}
 use Rattle.yp_io.specs.Dials.{Connected, Wires}
@@ -36,7 +36,7 @@ use Rattle.yp_headline.specs.Headline.{Replies}
 use Rattle.yp_headline.specs.inside.Files.{file_world}
 use Rattle.yp_headline.specs.inside.Worlds.{once_world, session_world, was_served, cuts_short}
 use Rattle.yp_headline.specs.inside.Laws.{WorldHolds, FileHolds, FileCrashes}
-use Rattle.yp_headline.specs.inside.Server.{IsToldClosed, closed_in, ServerHolds}
+use Rattle.yp_headline.specs.inside.Server.{IsToldClosed, closed_in, may_lose, told_by, ServerHolds}
 
 -- whether `serve` served its maps, by its status
 abbrev pub was_hosted : Status → Bool
@@ -95,8 +95,8 @@ CommandHolds seen (Serve own port workers connections turns stores hosts log) st
     → (calls calls' : ListenerHistory) (closed : List (List ClosedConnection)) → door.past ≡ Some calls
     → door'.past ≡ Some calls'
     → calls'.closed ≡ calls.closed ++ closed → AllByRecursion IsToldClosed (closed_in closed)
-    → ServerHolds (catalogue_of (serve_job_of own connections turns stores hosts log))
-    (map seen.disk.history (disks_of old.disks.items)) (closed_in closed)
+    → ServerHolds (catalogue_of (serve_job_of own connections turns stores hosts log)) (may_lose status)
+    (told_by seen old) (told_by seen new) (closed_in closed)
 CommandHolds seen _ status old new door door' = ⊤
 
 -- What `run` ensures of a command, in its clause `does`, is that.

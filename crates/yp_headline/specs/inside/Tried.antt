@@ -1,12 +1,14 @@
 -- Worlds by which the headline is tried: of right ones it is true, and of wrong ones false.
-use Rattle.std.specs.Prelude.{ℕ, Bool, false, List, [], ◌∷◌, ◌++◌, Option, Some, None, take}
+use Rattle.std.specs.Prelude.{ℕ, pos, Bool, true, false, List, [], ◌∷◌, ◌++◌, Option, Some, None, replicate, take}
 use Rattle.yp_io.specs.declared.stream.Peer.{Peer}
 use Rattle.yp_io.specs.Disk.{DiskState}
 use Rattle.yp_io.specs.Peers.{own_host}
 use Rattle.yp_rpc.specs.Records.{sent}
+use Rattle.yp_rpc.specs.Called.{call_of}
 use Rattle.yp_rpc.specs.Reply.{words, reply_head}
 use Rattle.yp_rpc.specs.declared.reply.ReplyHead.TheVariants.{Success}
 use Rattle.yp_messages.specs.declared.transfer.XfrStat.TheVariants.{Succ}
+use Rattle.yp_messages.specs.Transfers.{resp_xfr}
 use Rattle.yp_version.specs.Versions.{MapVersion}
 use Rattle.yp_board.specs.Catalogues.{Catalogue}
 use Rattle.yp_board.specs.Logs.{Log}
@@ -14,7 +16,7 @@ use Rattle.yp_texts.specs.declared.reading.Reading.TheVariants.{Rows}
 use Rattle.yp_texts.specs.Readings.{reading_of}
 use Rattle.yp_answer.specs.Transfer.{Taken}
 use Rattle.yp_answer.specs.Reply.{make_reply, xfr_reply}
-use Rattle.yp_headline.specs.World.{World, Given, Filed, Dialed}
+use Rattle.yp_headline.specs.World.{World, Datagram, Given, Filed, Dialed}
 use Rattle.yp_headline.specs.Headline.{Replies, Crashes, Transfers}
 
 -- a call of the procedure 0, and its reply
@@ -40,6 +42,7 @@ one_connection came sent cut = record {
   connections = record { peer = somebody; came = came; sent = sent; cut = cut } ∷ [];
   datagrams = [];
   dialed = [];
+  posted = [];
   done = [];
 }
 
@@ -47,17 +50,34 @@ abbrev pub IsWrong : World → Type 0
 IsWrong world = (begun log : Log) → Replies world begun log → ⊥
 
 -- a server of no maps, with one datagram
-abbrev pub one_datagram : Option (List ℕ) → World
-one_datagram answer = record {
+abbrev pub datagram_world : Datagram → World
+datagram_world mail = record {
   catalogue = no_maps;
   stores = [];
   text = λ name. None;
   reading = reading_of;
   connections = [];
-  datagrams = record { peer = somebody; came = null_call 7; sent = answer; lost = false } ∷ [];
+  datagrams = (mail ∷ []) ∷ [];
   dialed = [];
+  posted = [];
   done = [];
 }
+
+-- with this reply, or none
+abbrev pub one_datagram : Option (List ℕ) → World
+one_datagram answer = datagram_world (record { peer = somebody; came = null_call 7; sent = answer; lost = false })
+
+-- whose reply was sent, and lost
+abbrev pub lost_datagram : World
+lost_datagram =
+    datagram_world (record { peer = somebody; came = null_call 7; sent = Some (null_reply 7); lost = true })
+
+-- a call with so many more bytes that the datagram has 8,193
+abbrev pub long_call : List ℕ
+long_call = null_call 7 ++ replicate 8153 0
+
+abbrev pub long_datagram : World
+long_datagram = datagram_world (record { peer = somebody; came = long_call; sent = Some (null_reply 7); lost = false })
 
 -- a cell with an open gate, of generation 1, whose body is behind the cells and has this length
 abbrev pub cell_of : ℕ → List ℕ
@@ -105,6 +125,7 @@ one_file first middle last done dialed = record {
   connections = [];
   datagrams = [];
   dialed = dialed;
+  posted = [];
   done = done;
 }
 
@@ -137,6 +158,7 @@ one_match sent_back = record {
   connections = record { peer = somebody; came = sent match_call; sent = sent_back; cut = false } ∷ [];
   datagrams = [];
   dialed = [];
+  posted = [];
   done = [];
 }
 
@@ -176,6 +198,30 @@ make_world = record {
   } ∷ [];
   datagrams = [];
   dialed = [];
+  posted = [];
+  done = [];
+}
+
+-- a caller with a port under 1024, which secure maps are shown to, too
+abbrev pub low_caller : Peer
+low_caller = record { addr = 10 ∷ 0 ∷ 0 ∷ 7 ∷ []; port = 700 }
+
+-- the value of k is asked for in a datagram, and this one told
+abbrev pub matched_mail : ℕ → Datagram
+matched_mail value =
+    record { peer = low_caller; came = match_call; sent = Some (match_reply value); lost = false }
+
+-- a server of one map, which may be made of the text meanwhile, with datagrams at some inboxes
+abbrev pub mails_world : List (List Datagram) → World
+mails_world mails = record {
+  catalogue = own_map;
+  stores = Given (version_with 7 118) ∷ [];
+  text = λ name. Some text;
+  reading = λ name. Rows;
+  connections = [];
+  datagrams = mails;
+  dialed = [];
+  posted = [];
   done = [];
 }
 
@@ -196,6 +242,7 @@ skewed_world came = record {
   connections = [];
   datagrams = [];
   dialed = record { peer = own_caller; came = came } ∷ [];
+  posted = [];
   done = [];
 }
 
@@ -213,6 +260,7 @@ installing = record {
   connections = [];
   datagrams = [];
   dialed = [];
+  posted = [];
   done = 0 ∷ [];
 }
 
@@ -236,17 +284,22 @@ all_reply xid = reply_head xid Success ++ 0 ∷ 0 ∷ 0 ∷ 1 ∷ 0 ∷ 0 ∷ 0 
 abbrev pub fetched_bytes : List ℕ
 fetched_bytes = sent (order_reply 1 9) ++ (sent (master_reply 2) ++ (sent (all_reply 3) ++ sent (order_reply 4 9)))
 
--- the transfer of the map p of the domain d from the host s, with the number 5, for a caller that isn't told
+-- the transfer of the map p of the domain d from the host s, with the number 5, for a program 1,073,741,824 at the
+-- port 700
 abbrev pub xfr_call : List ℕ
 xfr_call = words (7 ∷ 0 ∷ 2 ∷ 100004 ∷ 2 ∷ 6 ∷ 0 ∷ 0 ∷ 0 ∷ 0 ∷ 1 ∷ []) ++ 100 ∷ 0 ∷ 0 ∷ 0 ∷ 0 ∷ 0 ∷ 0 ∷ 1 ∷ 112
     ∷ 0 ∷ 0 ∷ 0 ∷ 0 ∷ 0
-    ∷ 0 ∷ 0 ∷ 0 ∷ 0 ∷ 0 ∷ 1 ∷ 115 ∷ 0 ∷ 0 ∷ 0 ∷ 0 ∷ 0 ∷ 0 ∷ 5 ∷ 0 ∷ 0 ∷ 0 ∷ 0 ∷ 0 ∷ 0 ∷ 0 ∷ 0 ∷ []
+    ∷ 0 ∷ 0 ∷ 0 ∷ 0 ∷ 0 ∷ 1 ∷ 115 ∷ 0 ∷ 0 ∷ 0 ∷ 0 ∷ 0 ∷ 0 ∷ 5 ∷ 64 ∷ 0 ∷ 0 ∷ 0 ∷ 0 ∷ 0 ∷ 2 ∷ 188 ∷ []
+
+-- it is told that its transfer succeeded
+abbrev pub success_call : List ℕ
+success_call = call_of resp_xfr 5 1073741824 1 1 (5, pos 1)
 
 abbrev pub fetched_log : Log
 fetched_log = (0, version_with 7 118) ∷ (0, version_with 9 119) ∷ []
 
 abbrev pub its_transfer : Taken
-its_transfer = record { map = 0; source = 115 ∷ []; transid = 5; prog = 0; port = 0 }
+its_transfer = record { map = 0; source = 115 ∷ []; transid = 5; prog = 1073741824; port = 700 }
 
 abbrev pub transfer_world : World
 transfer_world = record {
@@ -262,6 +315,7 @@ transfer_world = record {
   } ∷ [];
   datagrams = [];
   dialed = record { peer = somebody; came = fetched_bytes } ∷ [];
+  posted = success_call ∷ [];
   done = [];
 }
 
@@ -269,7 +323,9 @@ transfer_world = record {
 
 -- Connections and datagrams: a call that isn't answered, or is as another one, or twice, or in part; a reply to
 -- nothing; two replies in the wrong order; the second of two calls that isn't answered; a datagram that isn't answered,
--- or is as another one; a value that was never shown; and a reply of another procedure.
+-- or is as another one, or is though it is too long, or whose reply is lost and was sent; two datagrams at one inbox of
+-- which the second tells the value that was shown before; a value that was never shown; and a reply of another
+-- procedure.
 pub record RepliesAreFalse : Type 0 where
   pub unanswered : IsWrong (one_connection (sent (null_call 7)) [] false)
   pub another_xid : IsWrong (one_connection (sent (null_call 7)) (sent (null_reply 8)) false)
@@ -282,17 +338,23 @@ pub record RepliesAreFalse : Type 0 where
       (null_reply 7)) false)
   pub mail_unanswered : IsWrong (one_datagram None)
   pub mail_of_another : IsWrong (one_datagram (Some (null_reply 8)))
+  pub mail_too_long : IsWrong long_datagram
+  pub mail_lost_and_sent : IsWrong lost_datagram
+  pub mail_goes_back : IsWrong (mails_world ((matched_mail 119 ∷ matched_mail 118 ∷ []) ∷ []))
   pub never_shown : IsWrong (one_match (sent (match_reply 119)))
   pub answered_as_null : IsWrong (one_match (sent (reply_head 7 Success)))
 
 -- ---- the table of the right ones
 
--- One MATCH; a map that is made, and then asked for; one that is fetched, and then asked for; three installs; and a
--- source that changes between its replies, of which nothing is stored.
+-- One MATCH; a map that is made, and then asked for; one that is fetched and called back, and then asked for; datagrams
+-- at two inboxes, of which the second is behind the first; three installs; and a source that changes between its
+-- replies, of which nothing is stored.
 pub record HoldsOfRows : Type 0 where
   pub first_match : Replies (one_match (sent (match_reply 118))) first_log first_log
   pub make_then_match : Replies make_world first_log made_log
-  pub session_transfer : Replies transfer_world first_log fetched_log
+  pub session_transfer : Replies transfer_world first_log fetched_log × Transfers transfer_world fetched_log
+  pub two_inboxes : Replies (mails_world
+      ((matched_mail 118 ∷ matched_mail 119 ∷ []) ∷ (matched_mail 118 ∷ []) ∷ [])) first_log made_log
   pub three_installs : Crashes installing first_log all_log
   pub skewed_source : (came : List ℕ) → Crashes (skewed_world came) first_log first_log × Transfers
       (skewed_world came) first_log

@@ -7,12 +7,13 @@ use Rattle.yp_rpc.specs.declared.reply.ReplyHead.TheVariants.{Success}
 use Rattle.yp_board.specs.Logs.{Log}
 use Rattle.yp_texts.specs.declared.reading.Reading.TheVariants.{Rows}
 use Rattle.yp_texts.specs.Readings.{reading_of}
-use Rattle.yp_headline.specs.World.{World, Filed}
+use Rattle.yp_headline.specs.World.{World, Filed, Dialed}
 use Rattle.yp_headline.specs.Headline.{Crashes, Transfers}
 use Rattle.yp_headline.specs.inside.Tried.{cell_of, shut_cell, version_with, whole_file, torn_file}
 use Rattle.yp_headline.specs.inside.Tried.{synced, one_file, own_map, text, somebody}
 use Rattle.yp_headline.specs.inside.Tried.{order_reply, master_reply, all_reply}
-use Rattle.yp_headline.specs.inside.Tried.{fetched_bytes, IsTornWorld, IsWrongTransfer}
+use Rattle.yp_headline.specs.inside.Tried.{fetched_bytes, success_call, first_log, transfer_world}
+use Rattle.yp_headline.specs.inside.Tried.{IsTornWorld, IsWrongTransfer}
 
 -- ---- files
 
@@ -30,6 +31,7 @@ text_world first last done = record {
   connections = [];
   datagrams = [];
   dialed = [];
+  posted = [];
   done = done;
 }
 
@@ -48,6 +50,7 @@ two_files last = record {
   connections = [];
   datagrams = [];
   dialed = [];
+  posted = [];
   done = [];
 }
 
@@ -98,9 +101,19 @@ stored_of file = one_file [] [] file (0 ∷ []) (record { peer = somebody; came 
 abbrev pub IsWrongStored : World → Type 0
 IsWrongStored world = (begun log : Log) → Crashes world begun log → Transfers world log → ⊥
 
+-- a transfer that is called back as done where nobody asked for one
+abbrev pub called_unasked : World
+called_unasked = record (one_file [] [] [] [] []) { posted = success_call ∷ [] }
+
+-- one that was asked for, where such servers were dialed
+abbrev pub called_of : List Dialed → World
+called_of dialed = record transfer_world { dialed = dialed }
+
 -- Transfers that are told as done: of no server; of one that gave nothing, its order alone, no rows, or another order
 -- at last; of one that told that it has no such map, or that answered another call; and of one that gave a version,
--- where the file stands for nothing, for another row, for another order, for no rows, or for a row more.
+-- where the file stands for nothing, for another row, for another order, for no rows, or for a row more. And transfers
+-- that are called back as done: for which nobody asked, of no server, of one that gave its order alone, and of one that gave a version that the
+-- log hasn't.
 pub record TransfersAreFalse : Type 0 where
   pub of_no_server : IsWrongTransfer (one_file [] [] (whole_file 7 118) (0 ∷ []) [])
   pub gave_nothing : IsWrongTransfer (transfer_of [])
@@ -115,6 +128,10 @@ pub record TransfersAreFalse : Type 0 where
   pub stored_another_order : IsWrongStored (stored_of (whole_file 10 119))
   pub row_missing : IsWrongStored (stored_of (no_row_file 9))
   pub row_added : IsWrongStored (stored_of (two_row_file 9 119))
+  pub called_without_call : IsWrongTransfer called_unasked
+  pub called_of_no_server : IsWrongTransfer (called_of [])
+  pub called_of_order : IsWrongTransfer (called_of (record { peer = somebody; came = sent (order_reply 1 9) } ∷ []))
+  pub called_unshown : Transfers transfer_world first_log → ⊥
 
 -- ---- a right one
 

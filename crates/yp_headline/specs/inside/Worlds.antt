@@ -11,7 +11,7 @@ use Rattle.yp_command.specs.declared.office.status.Status.{Status}
 use Rattle.yp_command.specs.declared.office.status.Status.TheVariants as status
 use Rattle.yp_command_serve.specs.Once.{once_maps, once_version}
 use Rattle.yp_headline.specs.World.{World, Connection, Given}
-use Rattle.yp_headline.specs.inside.Files.{dialed_of, stores_between}
+use Rattle.yp_headline.specs.inside.Files.{dialed_of, posted_between, stores_between}
 
 -- whether a session was cut short, by its status
 abbrev pub cuts_short : Status → Bool
@@ -35,6 +35,7 @@ once_world store rows status came sent = record {
   connections = connection_of nobody status came sent ∷ [];
   datagrams = [];
   dialed = [];
+  posted = [];
   done = [];
 }
 
@@ -52,6 +53,7 @@ session_world service cut old new came sent wires = record {
   connections = record { peer = service.peer; came = came; sent = sent; cut = cut } ∷ [];
   datagrams = [];
   dialed = map dialed_of wires;
+  posted = posted_between (service.telling.dial old.desk).letters (service.telling.dial new.desk).letters;
   done = [];
 }
 

@@ -1,5 +1,6 @@
 use Rattle.yp_headline.proofs.Wrong as wrong
 use Rattle.yp_headline.proofs.Matched as matched
+use Rattle.yp_headline.proofs.Mailed as mailed
 use Rattle.yp_headline.proofs.worlds.replies_are_false.Goals as goal
 
 pub returns : goal.returns
@@ -15,6 +16,9 @@ returns c =
       second_unanswered = wrong.second_unanswered one;
       mail_unanswered = wrong.mail_unanswered one;
       mail_of_another = wrong.mail_of_another one;
+      mail_too_long = mailed.mail_too_long;
+      mail_lost_and_sent = mailed.mail_lost_and_sent;
+      mail_goes_back = mailed.mail_goes_back;
       never_shown = matched.never_shown one;
       answered_as_null = matched.answered_as_null one;
     }

@@ -1,6 +1,7 @@
 use Rattle.yp_headline.proofs.Torn.{of_no_server}
 use Rattle.yp_headline.proofs.Skewed as skewed
 use Rattle.yp_headline.proofs.Mixed as mixed
+use Rattle.yp_headline.proofs.Called as called
 use Rattle.yp_headline.proofs.worlds.transfers_are_false.Goals as goal
 
 pub returns : goal.returns
@@ -19,4 +20,8 @@ returns c =
       stored_another_order = mixed.stored_another_order one;
       row_missing = mixed.row_missing one;
       row_added = mixed.row_added one;
+      called_without_call = called.called_without_call;
+      called_of_no_server = called.called_of_no_server;
+      called_of_order = called.called_of_order one;
+      called_unshown = called.called_unshown one;
     }

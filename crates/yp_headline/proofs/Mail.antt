@@ -1,0 +1,224 @@
+-- The datagrams that came to an inbox are answered in turn.
+use Rattle.std.proofs.Common.{◌≡◌, ◌≤◌, ℕ, Bool, true, false, cond, List, [], ◌∷◌, ◌++◌, length, Option, Some, None, Result, Ok, Err, refl, sym, ap, ◌∙◌, subst, arith, ⊎_elim, append_assoc}
+use Rattle.std.specs.Prelude.{flat_map, is_err, nat_lt}
+use Rattle.std.proofs.lemmas.List.{append_cancel_left}
+use Rattle.std.proofs.lemmas.Bool.Decides.{nat_tests}
+use Rattle.yp_io.specs.declared.stream.Failed.{Failed}
+use Rattle.yp_io.specs.declared.stream.Peer.{Peer}
+use Rattle.yp_io.specs.Inboxes.{InboxEvent, Arrived}
+use Rattle.yp_board.specs.Catalogues.{Catalogue}
+use Rattle.yp_board.specs.Logs.{Log}
+use Rattle.yp_board.specs.Views.{IsFront}
+use Rattle.yp_answer.specs.declared.procedure.Path.TheVariants.{Datagram as Mail}
+use Rattle.yp_answer.specs.Served.{maps_on}
+use Rattle.yp_answer.specs.Reply.{Response, Silence, exceeds, reply}
+use Rattle.yp_answer.specs.session.Hosts.{Conduct, Turn}
+use Rattle.yp_rpc.specs.Turns.{InboxTells, GainsAll, datagram_max}
+use Rattle.yp_rpc.specs.declared.turns.Ended.{Ended}
+use Rattle.yp_rpc.specs.declared.turns.Ended.TheVariants.{Done, Spent}
+use Rattle.yp_worker.specs.datagrams.Mailing.{AnswersMail}
+use Rattle.yp_worker.specs.datagrams.Serving.{MailTurn, Dropped, Rested, Answered, reply_posts, posts_over, DoesTurn, DoesTurns, LosesAnswer, EndsTurns}
+use Rattle.yp_server.specs.Serving.{ServesDatagrams}
+use Rattle.yp_headline.specs.World.{Datagram}
+use Rattle.yp_headline.specs.Serving.{Exchange, IsReply, AnswersInTurn, AreSent}
+use Rattle.yp_headline.specs.inside.Server.{heard, told_of, MayLoseLast, InboxIsServed}
+use Rattle.yp_headline.proofs.Runs.{exchange_of, front_self}
+use Rattle.yp_headline.proofs.Steps.{known, catalogue_of, linked, told_on, earlier}
+
+-- ---- the datagrams of turns
+
+-- a datagram whose turn this was, and whose reply was lost or not
+abbrev mail_of : Bool → Peer → Turn → Datagram
+mail_of lost from turn = record { peer = from; came = turn.message; sent = cond lost None turn.answer; lost = lost }
+
+abbrev mails_of : List MailTurn → List Datagram
+mails_of [] = []
+mails_of (Dropped from bytes ∷ more) = record { peer = from; came = bytes; sent = None; lost = false } ∷ mails_of more
+mails_of (Rested ∷ more) = mails_of more
+mails_of (Answered from turn ∷ more) = mail_of false from turn ∷ mails_of more
+
+abbrev exchanges_in : List MailTurn → List Exchange
+exchanges_in [] = []
+exchanges_in (Dropped from bytes ∷ more) = record { caller = from; call = bytes; reply = None } ∷ exchanges_in more
+exchanges_in (Rested ∷ more) = exchanges_in more
+exchanges_in (Answered from turn ∷ more) = exchange_of from turn ∷ exchanges_in more
+
+heard_reply : (from : Peer) (reply : Option (List ℕ)) (events : List InboxEvent)
+    → heard (reply_posts from reply ++ events) ≡ reply_posts from reply ++ heard events
+heard_reply from None events = refl
+heard_reply from (Some bytes) events = refl
+
+-- what is told of them, before more
+told_over : (served : List MailTurn) (events : List InboxEvent)
+    → heard (posts_over served ++ events) ≡ flat_map told_of (mails_of served) ++ heard events
+told_over [] events = refl
+told_over (Dropped from bytes ∷ more) events = ap (λ (l : List InboxEvent). Arrived from bytes ∷ l) (told_over more events)
+told_over (Rested ∷ more) events = told_over more events
+told_over (Answered from turn ∷ more) events =
+    ap (λ (l : List InboxEvent). Arrived from turn.message ∷ l)
+    (ap heard (append_assoc (reply_posts from turn.answer) (posts_over more) events)
+    ∙ heard_reply from turn.answer (posts_over more ++ events)
+    ∙ ap (λ (l : List InboxEvent). reply_posts from turn.answer ++ l) (told_over more events)
+    ∙ sym (append_assoc (reply_posts from turn.answer) (flat_map told_of (mails_of more)) (heard events)))
+
+told_both : (mails others : List Datagram) → flat_map told_of (mails ++ others) ≡ flat_map told_of mails ++ flat_map told_of others
+told_both [] others = refl
+told_both (mail ∷ mails) others =
+    ap (λ (l : List InboxEvent). told_of mail ++ l) (told_both mails others)
+    ∙ sym (append_assoc (told_of mail) (flat_map told_of mails) (flat_map told_of others))
+
+sent_over : (served : List MailTurn) (mails : List Datagram) (exchanges : List Exchange) → AreSent mails exchanges
+    → AreSent (mails_of served ++ mails) (exchanges_in served ++ exchanges)
+sent_over [] mails exchanges sent = sent
+sent_over (Dropped from bytes ∷ more) mails exchanges sent = (refl, refl, refl, sent_over more mails exchanges sent)
+sent_over (Rested ∷ more) mails exchanges sent = sent_over more mails exchanges sent
+sent_over (Answered from turn ∷ more) mails exchanges sent = (refl, refl, refl, sent_over more mails exchanges sent)
+
+kept_over : (loses : Bool) (served : List MailTurn) (mails : List Datagram) → MayLoseLast loses mails
+    → MayLoseLast loses (mails_of served ++ mails)
+kept_over loses [] mails kept = kept
+kept_over loses (Dropped from bytes ∷ more) mails kept = (λ lost. absurd cc, kept_over loses more mails kept)
+kept_over loses (Rested ∷ more) mails kept = kept_over loses more mails kept
+kept_over loses (Answered from turn ∷ more) mails kept = (λ lost. absurd cc, kept_over loses more mails kept)
+
+-- ---- what they get
+
+-- a datagram that is too long gets nothing
+dropped : (b : Bool) (response : Response) (front next : Log) → b ≡ true → IsReply (cond b Silence response) None front next
+dropped true response front next long = refl
+dropped false response front next long = absurd cc
+
+short_reply : (b : Bool) (response : Response) (reply : Option (List ℕ)) (front next : Log) → b ≡ false
+    → IsReply response reply front next → IsReply (cond b Silence response) reply front next
+short_reply true response reply front next short is = absurd cc
+short_reply false response reply front next short is = is
+
+module _ {H T : Type 0} (conduct : Conduct H) (counted : H → T) where
+  abbrev Follow : List Exchange → H → Log → Type 0
+  Follow exchanges host log = AnswersInTurn (catalogue_of conduct host) Mail exchanges (known conduct host) log
+
+  -- a datagram that was answered, before others
+  before_answered : (from : Peer) (turn : Turn) (exchanges : List Exchange) (old new : H) (log : Log)
+      → length turn.message ≤ datagram_max → AnswersMail conduct from turn old new → Follow exchanges new log
+      → Follow (exchange_of from turn ∷ exchanges) old log
+  before_answered from turn exchanges old new log short answers follow =
+      let link = linked conduct Mail from turn old new answers.link in
+      let is_short : nat_lt datagram_max (length turn.message) ≡ false = grind (arith, nat_tests) in (
+        link.front,
+        known conduct new,
+        link.begins,
+        link.goes,
+        short_reply (exceeds Mail (length turn.message)) (reply Mail (maps_on (catalogue_of conduct old) link.front) from turn.message)
+            turn.answer link.front (known conduct new) is_short link.replied,
+        subst (λ (c : Catalogue). AnswersInTurn c Mail exchanges (known conduct new) log) link.catalogue follow,
+      )
+
+  before_turn : (one : MailTurn) (more : List MailTurn) (exchanges : List Exchange) (old next : H) (log : Log)
+      → DoesTurn conduct counted one old next → Follow (exchanges_in more ++ exchanges) next log
+      → Follow (exchanges_in (one ∷ more) ++ exchanges) old log
+  before_turn (Dropped from bytes) more exchanges old next log does follow =
+      let long = does.0 in
+      let is_long : nat_lt datagram_max (length bytes) ≡ true = grind (arith, nat_tests) in (
+        known conduct old,
+        known conduct old,
+        front_self (known conduct old),
+        front_self (known conduct old),
+        dropped (exceeds Mail (length bytes)) (reply Mail (maps_on (catalogue_of conduct old) (known conduct old)) from bytes)
+            (known conduct old) (known conduct old) is_long,
+        subst (λ (h : H). Follow (exchanges_in more ++ exchanges) h log) does.1 follow,
+      )
+  before_turn Rested more exchanges old next log does follow =
+      let on = told_on conduct counted old next does in
+      earlier (catalogue_of conduct old) Mail (exchanges_in more ++ exchanges) (known conduct old) (known conduct next) log on.grown
+      (subst (λ (c : Catalogue). AnswersInTurn c Mail (exchanges_in more ++ exchanges) (known conduct next) log) on.catalogue follow)
+  before_turn (Answered from turn) more exchanges old next log does follow =
+      before_answered from turn (exchanges_in more ++ exchanges) old next log does.0 does.2 follow
+
+  all_turns : (served : List MailTurn) (exchanges : List Exchange) (old last : H) (log : Log)
+      → DoesTurns conduct counted served old last → Follow exchanges last log
+      → Follow (exchanges_in served ++ exchanges) old log
+  all_turns [] exchanges old last log does follow = subst (λ (h : H). Follow exchanges h log) does follow
+  all_turns (one ∷ more) exchanges old last log does follow =
+      before_turn one more exchanges old does.0 log does.1 (all_turns more exchanges does.0 last log does.2 follow)
+
+  -- ---- the end
+
+  -- what is behind the last whole turn: nothing, or a datagram whose reply was lost
+  record Last (loses : Bool) (events : List InboxEvent) (host : H) (log : Log) : Type 0 where
+    mails : List Datagram
+    exchanges : List Exchange
+    are : heard events ≡ flat_map told_of mails
+    kept : MayLoseLast loses mails
+    sent : AreSent mails exchanges
+    answered : Follow exchanges host log
+
+  nothing_left : (loses : Bool) (events : List InboxEvent) (old new : H) (log : Log) → events ≡ [] → new ≡ old
+      → IsFront (known conduct new) log → Last loses events old log
+  nothing_left loses events old new log none same front = record {
+    mails = [];
+    exchanges = [];
+    are = ap heard none;
+    kept = tt;
+    sent = tt;
+    answered = subst (λ (h : H). IsFront (known conduct h) log) same front;
+  }
+
+  answer_lost : (loses : Bool) (events : List InboxEvent) (old new : H) (log : Log) → loses ≡ true
+      → LosesAnswer conduct counted events old new → IsFront (known conduct new) log → Last loses events old log
+  answer_lost loses events old new log lossy lost front = record {
+    mails = mail_of true lost.from lost.turn ∷ [];
+    exchanges = exchange_of lost.from lost.turn ∷ [];
+    are = ap heard lost.came;
+    kept = (λ is. (refl, lossy), tt);
+    sent = (refl, refl, refl, tt);
+    answered = before_answered lost.from lost.turn [] old new log lost.short lost.answers front;
+  }
+
+  last_of : (loses : Bool) (most count : ℕ) (end : Result Ended Failed) (events : List InboxEvent) (old new : H) (log : Log)
+      → (is_err end ≡ true → loses ≡ true) → EndsTurns conduct counted most count end events old new
+      → IsFront (known conduct new) log → Last loses events old log
+  last_of loses most count (Ok Spent) events old new log lossy ends front =
+      nothing_left loses events old new log ends.1 ends.2 front
+  last_of loses most count (Ok Done) events old new log lossy ends front = absurd ends
+  last_of loses most count (Err why) events old new log lossy ends front = ⊎_elim
+      (λ none. nothing_left loses events old new log none.0 none.1 front)
+      (λ lost. answer_lost loses events old new log (lossy refl) lost front) ends.1
+
+  -- ---- an inbox
+
+  gained : (events : List InboxEvent) (old new : Option (List InboxEvent)) (before more : List InboxEvent) → old ≡ Some before
+      → new ≡ Some (before ++ more) → GainsAll events old new → more ≡ events
+  gained events None new before more was is gains = absurd cc
+  gained events (Some old) None before more was is gains = absurd gains
+  gained events (Some old) (Some new) before more was is gains =
+      let same : old ≡ before = cc in
+      let same' : new ≡ before ++ more = cc in
+      append_cancel_left before more events (sym same' ∙ gains ∙ ap (λ (l : List InboxEvent). l ++ events) same)
+
+  -- the datagrams of one inbox
+  pub mail_served : (catalogue : Catalogue) (starts log : Log) (turns : ℕ) (fault loses : Bool) (before after : InboxTells)
+      → (fault ≡ true → loses ≡ true) → ServesDatagrams conduct counted catalogue starts log turns fault before after
+      → InboxIsServed catalogue starts log loses before.past after.past
+  mail_served catalogue starts log turns fault loses before after lossy serves old more was is =
+      let mail = serves.serves in
+      let posts = mail.serves in
+      let last = last_of loses turns (length posts.served) serves.end posts.rest posts.last serves.new log
+      (λ failed. lossy (serves.fault_is ∙ failed)) posts.ends serves.shown in
+      let follow = subst (λ (h : H). Follow (exchanges_in posts.served ++ last.exchanges) h log) posts.carried
+      (all_turns posts.served last.exchanges posts.ready posts.last log posts.does last.answered) in
+      record {
+        datagrams = mails_of posts.served ++ last.mails;
+        are = ap heard (gained mail.events before.past after.past old more was is mail.sees.past ∙ posts.all)
+            ∙ told_over posts.served posts.rest
+            ∙ ap (λ (l : List InboxEvent). flat_map told_of (mails_of posts.served) ++ l) last.are
+            ∙ sym (told_both (mails_of posts.served) last.mails);
+        kept = kept_over loses posts.served last.mails last.kept;
+        served = record {
+          exchanges = exchanges_in posts.served ++ last.exchanges;
+          sent = sent_over posts.served last.mails last.exchanges last.sent;
+          answered = subst (λ (l : Log). AnswersInTurn catalogue Mail (exchanges_in posts.served ++ last.exchanges) l log)
+              serves.start.known
+              (subst (λ (c : Catalogue). AnswersInTurn c Mail (exchanges_in posts.served ++ last.exchanges)
+              (known conduct serves.old) log) serves.start.catalogue_is follow);
+        };
+      }
