@@ -5,7 +5,7 @@
 . "$(dirname -- "$(readlink -f -- "$0")")/room.sh"
 rounds=${1:-7}
 
-"$top/yp" once lab/hosts.byname </dev/null # builds it
+built
 compiled build
 hosts 262144 >"$room/hosts"
 

@@ -5,7 +5,7 @@
 . "$(dirname -- "$(readlink -f -- "$0")")/room.sh"
 rounds=${1:-7}
 
-"$top/yp" once lab/hosts.byname </dev/null # builds it
+built
 compiled cat
 cd "$room"
 hosts 262144 | "$yp" build m1 lab/hosts.byname

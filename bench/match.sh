@@ -5,7 +5,7 @@
 rounds=${1:-7}
 words=(once lab/hosts.byname "alpha=10.0.0.1 alpha")
 
-"$top/yp" once lab/hosts.byname </dev/null # builds it
+built
 compiled plain
 
 # calls N: N times the call of examples/first_match, with the xids 1 to N.

@@ -6,7 +6,7 @@
 rounds=${1:-3}
 file=ypdata/lab/hosts.byname
 
-"$top/yp" once lab/hosts.byname </dev/null # builds it
+built
 compiled peak
 cd "$room"
 

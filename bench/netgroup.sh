@@ -9,7 +9,7 @@
 . "$(dirname -- "$(readlink -f -- "$0")")/room.sh"
 rounds=${1:-7}
 
-"$top/yp" once lab/netgroup </dev/null # builds it
+built
 compiled cat
 cd "$room"
 

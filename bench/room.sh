@@ -1,15 +1,20 @@
-# What the benchmarks share: top, the repository; yp, the built program; and room, a new folder in memory where that can
-# be written to, or in the folder that BENCH_ROOM names, which is removed at the end.
+# What the benchmarks share: top, the repository; yp, the built program, or that which YP names; and room, a new folder in
+# memory where that can be written to, or in the folder that BENCH_ROOM names, which is removed at the end.
 set -eu
 export LC_ALL=C
 top=$(dirname -- "$(dirname -- "$(readlink -f -- "$0")")")
-yp=$top/crates/yp/out/yp # as ./yp runs it, without the shell's own start
+yp=${YP:-$top/crates/yp/out/yp} # as ./yp runs it, without the shell's own start
 
 room=${BENCH_ROOM:-/dev/shm}
 [ -d "$room" ] && [ -w "$room" ] || room=${TMPDIR:-/tmp}
 room=$(mktemp -d "$room/yp-bench.XXXXXX")
 trap 'rm -rf -- "$room"' EXIT
 echo "files in $(df --output=fstype "$room" | tail -n 1): ${room%/*}"
+
+# built: builds the program, unless YP names one that is to be measured in its place.
+built() {
+    [ -n "${YP:-}" ] || "$top/yp" once lab/hosts.byname </dev/null
+}
 
 # compiled NAME: the C program bench/NAME.c in the room.
 compiled() {

@@ -4,7 +4,7 @@
 . "$(dirname -- "$(readlink -f -- "$0")")/room.sh"
 rounds=${1:-7}
 
-"$top/yp" sample 0 0 </dev/null # builds it
+built
 compiled sample
 
 echo "262144 rows"

@@ -11,7 +11,7 @@ ulimit -n "$(ulimit -Hn)"
 life=forever
 maps=(lab/hosts.byname lab/hosts.byaddr)
 
-"$top/yp" once lab/hosts.byname </dev/null # builds it
+built
 compiled serve
 cd "$room"
 mkdir ypsrc
@@ -95,6 +95,7 @@ memory "after a MAKE of the larger map"
 coproc "$room/serve" idle "$port" "$idle"
 read -r _ <&"${COPROC[0]}"
 resident() { awk '/^VmRSS/ { print $2 * 1024 }' "/proc/$server/status"; }
+sleep 3 # the old version is let go
 before=$(resident)
 echo >&"${COPROC[1]}"
 read -r _ <&"${COPROC[0]}"

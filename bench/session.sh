@@ -7,7 +7,7 @@
 rounds=${1:-7}
 words=(session m1 127.0.0.1:1023 lab/hosts.byname)
 
-"$top/yp" once lab/hosts.byname </dev/null # builds it
+built
 compiled session
 compiled pieces
 cd "$room"

@@ -6,7 +6,7 @@
 rounds=${1:-7}
 file=ypdata/lab/hosts.byname
 
-"$top/yp" once lab/hosts.byname </dev/null # builds it
+built
 compiled store
 hosts 262144 >"$room/hosts"
 cd "$room"

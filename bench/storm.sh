@@ -10,7 +10,7 @@ maps=(lab/passwd.byname lab/passwd.byuid lab/group.byname lab/hosts.byname lab/h
 slaves=(s1 s2)
 ulimit -n "$(ulimit -Hn)"
 
-"$top/yp" once lab/hosts.byname </dev/null # builds it
+built
 compiled storm
 cd "$room"
 declare -A port

@@ -6,7 +6,7 @@
 . "$(dirname -- "$(readlink -f -- "$0")")/room.sh"
 rounds=${1:-7}
 
-"$top/yp" once lab/hosts.byname </dev/null # builds it
+built
 compiled xfr
 mkdir "$room/master"
 cd "$room/master"

@@ -11,7 +11,7 @@ ghost use Rattle.yp_command.specs.inside.Words.{connections_of, port_of};
 use std::alloc::{AllocError, Global};
 use std::process::ExitCode;
 use yp_board::MapName;
-use yp_io::{Hall, NoMemory, Sink, Trail};
+use yp_io::{Failed, Hall, NoMemory, Sink, Trail};
 use yp_program::{
     Command, NamedDisk, Outside, ParseFault, Status, connections_of, named_disks, parse, port_of,
     run_command, stores_of, tell,
@@ -100,6 +100,27 @@ fn ports(
     (listen, inbox)
 }
 
+/// The turns of a server that is to serve for ever.
+const FOREVER: u64 = u64::MAX;
+
+/// Further ends of the port of an inbox. A server that serves for ever has as many ends as workers, so that datagrams are
+/// answered by as many as connections are. There are none for any other command, nor where they can't be opened.
+fn further_ends(
+    alloc: Global,
+    command: &Command,
+    inbox: &mut UdpInbox<HostRuntime>,
+) -> Vec<UdpInbox<HostRuntime>> {
+    match command {
+        Command::Serve(job) if job.turns == FOREVER && job.workers > 1 => {
+            match inbox.ends(alloc, job.workers - 1) {
+                Ok(ends) => ends,
+                Err(Failed) => Vec::new(alloc),
+            }
+        }
+        _ => Vec::new(alloc),
+    }
+}
+
 /// Ends before anything was done.
 fn end<K: Sink>(notes: &mut K, status: &Status) -> ExitCode
     requires { IsTellable status.now }
@@ -123,7 +144,8 @@ fn main(rt: HostRuntime) -> ExitCode {
     let Ok(disks) = disks(alloc, rt, &command) else {
         return end(&mut notes, &Status::NoMemory);
     };
-    let (listen, inbox) = ports(alloc, rt, &command);
+    let (listen, mut inbox) = ports(alloc, rt, &command);
+    let more = further_ends(alloc, &command, &mut inbox);
     let outside = Outside {
         input,
         output: DirectWriter::new(Patient::new(StandardStream::Output(rt.stdout()), rt)),
@@ -133,6 +155,7 @@ fn main(rt: HostRuntime) -> ExitCode {
         listen,
         dial: TcpDial::new(alloc, rt, local_ports_of(&command)),
         inbox,
+        more,
         texts: TextFolder::new(alloc, rt),
     };
     let (status, _outside) = run_command(alloc, &rt, command, outside, &mut Trail::new());

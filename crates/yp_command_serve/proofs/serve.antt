@@ -4,3 +4,5 @@ pub mod Starts
 pub mod Told
 pub mod Completed
 pub mod Served
+pub mod Boxes
+pub mod Failing

@@ -1,6 +1,6 @@
 -- The datagrams that came to an inbox are answered in turn.
-use Rattle.std.proofs.Common.{◌≡◌, ◌≤◌, ℕ, Bool, true, false, cond, List, [], ◌∷◌, ◌++◌, length, Option, Some, None, Result, Ok, Err, refl, sym, ap, ◌∙◌, subst, arith, ⊎_elim, append_assoc}
-use Rattle.std.specs.Prelude.{flat_map, is_err, nat_lt}
+use Rattle.std.proofs.Common.{◌≡◌, ◌≤◌, ℕ, Bool, true, false, cond, List, [], ◌∷◌, ◌++◌, length, map, Option, Some, None, Result, Ok, Err, refl, sym, ap, ◌∙◌, subst, arith, ⊎_elim, append_assoc}
+use Rattle.std.specs.Prelude.{◌||◌, flat_map, is_err, nat_lt}
 use Rattle.std.proofs.lemmas.List.{append_cancel_left}
 use Rattle.std.proofs.lemmas.Bool.Decides.{nat_tests}
 use Rattle.yp_io.specs.declared.stream.Failed.{Failed}
@@ -18,10 +18,10 @@ use Rattle.yp_rpc.specs.declared.turns.Ended.{Ended}
 use Rattle.yp_rpc.specs.declared.turns.Ended.TheVariants.{Done, Spent}
 use Rattle.yp_worker.specs.datagrams.Mailing.{AnswersMail}
 use Rattle.yp_worker.specs.datagrams.Serving.{MailTurn, Dropped, Rested, Answered, reply_posts, posts_over, DoesTurn, DoesTurns, LosesAnswer, EndsTurns}
-use Rattle.yp_server.specs.Serving.{ServesDatagrams}
+use Rattle.yp_server.specs.Serving.{ServesDatagrams, ServesInboxes}
 use Rattle.yp_headline.specs.World.{Datagram}
 use Rattle.yp_headline.specs.Serving.{Exchange, IsReply, AnswersInTurn, AreSent}
-use Rattle.yp_headline.specs.inside.Server.{heard, told_of, MayLoseLast, InboxIsServed}
+use Rattle.yp_headline.specs.inside.Server.{heard, told_of, MayLoseLast, InboxIsServed, InboxesAreServed}
 use Rattle.yp_headline.proofs.Runs.{exchange_of, front_self}
 use Rattle.yp_headline.proofs.Steps.{known, catalogue_of, linked, told_on, earlier}
 
@@ -222,3 +222,23 @@ module _ {H T : Type 0} (conduct : Conduct H) (counted : H → T) where
               (known conduct serves.old) log) serves.start.catalogue_is follow);
         };
       }
+
+  -- ---- several inboxes
+
+  or_true : (b : Bool) → b || true ≡ true
+  or_true true = refl
+  or_true false = refl
+
+  pub boxes_served : (catalogue : Catalogue) (starts log : Log) (turns : ℕ) (fault loses : Bool)
+      (before after : List InboxTells) → (fault ≡ true → loses ≡ true)
+      → ServesInboxes conduct counted catalogue starts log turns fault before after
+      → InboxesAreServed catalogue starts log loses (map (λ box. box.past) before) (map (λ box. box.past) after)
+  boxes_served catalogue starts log turns fault loses [] [] lossy serves = tt
+  boxes_served catalogue starts log turns fault loses [] (new ∷ after) lossy serves = absurd serves
+  boxes_served catalogue starts log turns fault loses (old ∷ before) [] lossy serves = absurd serves
+  boxes_served catalogue starts log turns fault loses (old ∷ before) (new ∷ after) lossy serves = (
+    mail_served catalogue starts log turns serves.0 loses old new
+        (λ failed. lossy (serves.2 ∙ ap (λ (b : Bool). b || serves.1) failed)) serves.3,
+    boxes_served catalogue starts log turns serves.1 loses before after
+        (λ failed. lossy (serves.2 ∙ ap (λ (b : Bool). serves.0 || b) failed ∙ or_true serves.0)) serves.4,
+  )

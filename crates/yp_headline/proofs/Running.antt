@@ -11,7 +11,7 @@ use Rattle.yp_texts.specs.declared.reading.Reading.{Reading}
 use Rattle.yp_texts.specs.declared.reading.Reading.TheVariants.{Text, Rows}
 use Rattle.yp_texts.specs.Readings.{reading_of}
 use Rattle.yp_answer.specs.session.Wires.{Wire}
-use Rattle.yp_worker.specs.Receptions.{ListenTells}
+use Rattle.yp_command_serve.specs.serve.Hosting.{DoorTells}
 use Rattle.yp_end_to_end.specs.inside.transfer.Laws.{FetchedIsShown}
 use Rattle.yp_end_to_end.specs.inside.transfer.Turns.{TurnsGiveFetch}
 use Rattle.yp_command.specs.Words.{Meaning, Once, Session, Serve, Build, Load, Xfr, Revnet}
@@ -64,7 +64,7 @@ module _ (own : List ℕ) (name : Name) (text : List ℕ → Option (List ℕ)) 
       (sym same) (subst (λ (b : Bool). Crashes (file_world own name text reading wires b h h) (file_log held) (file_log held)) (sym none) quiet)
 
 served_maps : {S K D C A I T : Type 0} (seen : Seeing S K D C A I T) (job : Job) (s : Status) (old new : Office S K D C A I T)
-    (door door' : ListenTells) (logged : List ℕ) → was_hosted s ≡ true → ServesOrRefuses seen job s old new door door' logged
+    (door door' : DoorTells) (logged : List ℕ) → was_hosted s ≡ true → ServesOrRefuses seen job s old new door door' logged
     → ServesMaps seen job s old new door door' logged
 served_maps seen job status.Done old new door door' logged hosted serves = serves
 served_maps seen job status.WriteFault old new door door' logged hosted serves = serves
@@ -74,7 +74,7 @@ served_maps seen job _ old new door door' logged hosted serves = absurd cc
 
 module _ {S K D C A I T : Type 0} (seen : Seeing S K D C A I T) (turns : TurnsGiveFetch) (shown : FetchedIsShown) where
   -- a command that was carried out
-  commanded : (meaning : Meaning) (s : Status) (old new : Office S K D C A I T) (door door' : ListenTells)
+  commanded : (meaning : Meaning) (s : Status) (old new : Office S K D C A I T) (door door' : DoorTells)
       (before after : List Wire) (logged : List ℕ) → CommandDoes seen meaning s old new door door' before after logged
       → CommandHolds seen meaning s old new door door'
   unfolding AloneDoes
@@ -118,7 +118,7 @@ module _ {S K D C A I T : Type 0} (seen : Seeing S K D C A I T) (turns : TurnsGi
       }
 
   -- one for which memory ran out before
-  forgone : (meaning : Meaning) (s : Status) (old new : Office S K D C A I T) (door door' : ListenTells) → s ≡ status.NoMemory → new ≡ old
+  forgone : (meaning : Meaning) (s : Status) (old new : Office S K D C A I T) (door door' : DoorTells) → s ≡ status.NoMemory → new ≡ old
       → CommandHolds seen meaning s old new door door'
   forgone (Once store rows) s old new door door' none stays = λ unrefused some came taken sent input output took. absurd (some none)
   forgone (Session own peer stores hosts) s old new door door' none stays =

@@ -25,11 +25,11 @@ use Rattle.yp_command.specs.office.Disks.{disks_of}
 use Rattle.yp_command.specs.office.Seeing.{Seeing, output}
 use Rattle.yp_command_serve.specs.declared.serve.tally.Hosted.{Hosted}
 use Rattle.yp_command_serve.specs.serve.Hosting.{conduct}
-use Rattle.yp_command_serve.specs.serve.Serve.{catalogue_of, setup, TellsServed}
+use Rattle.yp_command_serve.specs.serve.Serve.{catalogue_of, setup, place, TellsServed}
 use Rattle.yp_headline.specs.Storing.{stood_for}
 use Rattle.yp_headline.specs.inside.Server.{IsToldClosed, ConnectionsAreServed, StoodFor, LeavesShown, closed_in, may_lose, ServeHolds}
 use Rattle.yp_headline.proofs.Server.{all_served}
-use Rattle.yp_headline.proofs.Mail.{mail_served}
+use Rattle.yp_headline.proofs.Mail.{boxes_served}
 use Rattle.yp_headline.proofs.Stood.{stood}
 
 joined_map : {H : Type 0} (runs : List (WorkerRun H)) → closed_in (map (λ run. ends_of run.stays) runs) ≡ flat_map (λ run. ends_of run.stays) runs
@@ -104,10 +104,10 @@ serve_holds {S} {K} {D} {C} {A} {I} {T} seen job status old new door door' logge
     let begun = starts 0 (versions hosted.maps) in
     let closed_are : closed ≡ map (λ run. ends_of run.stays) sums.worker_runs =
     append_cancel_left calls.closed closed (map (λ run. ends_of run.stays) sums.worker_runs)
-    (sym more ∙ told_more door.past door'.past calls calls' (map (λ run. ends_of run.stays) sums.worker_runs) was is sums.closed) in
+    (sym more ∙ told_more door.listen.past door'.listen.past calls calls' (map (λ run. ends_of run.stays) sums.worker_runs) was is sums.closed) in
     let all : closed_in closed ≡ flat_map (λ run. ends_of run.stays) sums.worker_runs =
     ap closed_in closed_are ∙ joined_map sums.worker_runs in
-    let connections = all_served (conduct (setup seen job old)) count_totals (terms_of (catalogue_of job) begun CALLS_MAX) door.past
+    let connections = all_served (conduct (setup seen job old)) count_totals (terms_of (catalogue_of job) begun CALLS_MAX) door.listen.past
     served.log sums.worker_runs sums.work (subst (λ (l : List ClosedConnection). AllByRecursion IsToldClosed l) all told) in
     record {
       first = versions hosted.maps;
@@ -116,9 +116,8 @@ serve_holds {S} {K} {D} {C} {A} {I} {T} seen job status old new door door' logge
       grown = served.grown;
       rises = λ told_disks. served.rises (told_all seen.disk.history (disks_of new.disks.items) told_disks);
       connections = subst (λ (l : List ClosedConnection). ConnectionsAreServed (catalogue_of job) begun served.log l) (sym all) connections;
-      datagrams = mail_served (conduct (setup seen job old)) totals_of (catalogue_of job) begun served.log job.turns
-          serves.hosted.inbox_fault (may_lose status)
-          (inbox_tells seen.inbox.past seen.inbox.turns seen.inbox.quiets old.inbox)
-          (inbox_tells seen.inbox.past seen.inbox.turns seen.inbox.quiets new.inbox) lossy served.datagrams;
+      datagrams = boxes_served (conduct (setup seen job old)) totals_of (catalogue_of job) begun served.log job.turns
+          serves.hosted.inbox_fault (may_lose status) ((place seen old door).boxes) ((place seen new door').boxes) lossy
+          served.datagrams;
       at_end = left_at_end seen.disk.history (catalogue_of job) served.log (disks_of new.disks.items) served.leaves;
     }

@@ -4,8 +4,8 @@ ghost use Rattle.std.specs.Prelude.{◌≡◌, Ok};
 ghost use Rattle.yp_command.specs.Words.{Meaning, command_of, disk_names, texts};
 ghost use Rattle.yp_command.specs.office.Disks.{names_of};
 ghost use Rattle.yp_command.specs.office.Seeing.{seeing};
-ghost use Rattle.yp_worker.specs.Receptions.{opening_by};
-ghost use Rattle.yp_program.specs.Commands.{office_of};
+ghost use Rattle.yp_command_serve.specs.serve.Hosting.{doors_by};
+ghost use Rattle.yp_program.specs.Commands.{office_of, doors_of};
 ghost use Rattle.yp_headline.specs.inside.Running.{CommandHolds};
 
 use crate::laws::run_holds;
@@ -45,7 +45,7 @@ where
     ensures { (meaning : Meaning) → command_of (texts words.now) ≡ Ok meaning
         → CommandHolds (seeing S.Source K.Sink D.Disk C.Clock A.Dial I.Inbox T.Texts) meaning result.0
         (office_of outside) (office_of result.1)
-        (opening_by L.Hall outside.listen) (opening_by L.Hall result.1.listen) }
+        (doors_by L.Hall I.Inbox (doors_of outside)) (doors_by L.Hall I.Inbox (doors_of result.1)) }
 {
     run_holds::<S, K, D, C, A, I, T>();
     run(alloc, rt, words, outside)

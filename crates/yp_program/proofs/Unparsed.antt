@@ -6,7 +6,7 @@ use Rattle.yp_command.specs.Words.{Bind, Portmap, CallMapper, Ask, Orders, Revne
 use Rattle.yp_command.specs.inside.Words.{IsSentenceOfWords, IsUsage}
 use Rattle.yp_command.specs.declared.words.ParseFault.{ParseFault}
 use Rattle.yp_command.specs.declared.words.ParseFault.TheVariants as fault
-use Rattle.yp_worker.specs.Receptions.{ListenTells}
+use Rattle.yp_command_serve.specs.serve.Hosting.{DoorTells}
 use Rattle.yp_command.specs.declared.office.office.Office.{Office}
 use Rattle.yp_command.specs.declared.office.status.Status.TheVariants.{Usage, NoMemory}
 use Rattle.yp_command.specs.office.Seeing.{Seeing}
@@ -45,7 +45,7 @@ pub unparsed_may : (command : Result Meaning ℕ) (why : ParseFault) → IsUsage
 unparsed_may command (fault.Usage word) h = usage_may command word h
 unparsed_may command fault.NoMemory h = memory_may command h
 
-module _ {S K D C A I T : Type 0} (seen : Seeing S K D C A I T) (office : Office S K D C A I T) (door : ListenTells) (wires : List Wire) where
+module _ {S K D C A I T : Type 0} (seen : Seeing S K D C A I T) (office : Office S K D C A I T) (door : DoorTells) (wires : List Wire) where
   usage_does : (command : Result Meaning ℕ) (word : ℕ) → command ≡ Err word → Does seen command (Usage word) office office door door wires wires []
   usage_does (Ok meaning) word e = absurd cc
   usage_does (Err other) word e = let same : other ≡ word = cc in rw same (refl, refl, refl, refl, refl)

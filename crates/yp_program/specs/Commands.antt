@@ -13,7 +13,8 @@ use Rattle.yp_command.specs.office.Status.{note}
 use Rattle.yp_command_serve.specs.Once.{OnceDoes, once_may_end}
 use Rattle.yp_command_serve.specs.Sample.{SampleDoes, sample_may_end}
 use Rattle.yp_command_serve.specs.Session.{SessionDoes, session_may_end}
-use Rattle.yp_worker.specs.Receptions.{ListenTells}
+use Rattle.yp_command_serve.specs.serve.Hosting.{DoorTells}
+use Rattle.yp_command_serve.specs.declared.serve.serve.Doors.{Doors}
 use Rattle.yp_command_serve.specs.serve.Serve.{ServeDoes, serve_job_of, serve_may_end}
 use Rattle.yp_command_maps.specs.Build.{BuildDoes, LoadDoes, build_may_end}
 use Rattle.yp_command_maps.specs.Check.{CheckDoes, check_may_end}
@@ -65,10 +66,10 @@ AloneDoes seen (Ask peer question) status old new before after =
 AloneDoes seen (Orders first others domain) status old new before after =
     OrdersDoes seen first others domain status old new × (after ≡ before)
 
--- what a command does, to what a listener tells, too, and what it logs: any but `serve` leaves the first as it is, and
--- logs nothing
+-- what a command does, to what a listener and further inboxes tell, too, and what it logs: any but `serve` leaves the
+-- first as they are, and logs nothing
 abbrev pub CommandDoes : {S K D C A I T : Type 0} → Seeing S K D C A I T → Meaning → Status
-    → (old new : Office S K D C A I T) → (door door' : ListenTells) → (before after : List Wire) → (logged : List ℕ)
+    → (old new : Office S K D C A I T) → (door door' : DoorTells) → (before after : List Wire) → (logged : List ℕ)
     → Type 0
 CommandDoes seen (Serve own port workers connections turns stores hosts log) status old new door door' before after
     logged =
@@ -79,7 +80,7 @@ CommandDoes seen meaning status old new door door' before after logged =
 
 -- memory ran out for what is copied of the words, and nothing has changed
 pub record IsForgone {S K D C A I T : Type 0} (meaning : Meaning) (status : Status) (old new : Office S K D C A I T)
-    (door door' : ListenTells) (before after : List Wire) (logged : List ℕ) : Type 0 where
+    (door door' : DoorTells) (before after : List Wire) (logged : List ℕ) : Type 0 where
   pub takes_memory : TakesMemory meaning
   pub told : status ≡ NoMemory
   pub stays : new ≡ old
@@ -89,7 +90,7 @@ pub record IsForgone {S K D C A I T : Type 0} (meaning : Meaning) (status : Stat
 
 -- what is done for the command that the words are; words that are none are told, and nothing is done
 abbrev pub Does : {S K D C A I T : Type 0} → Seeing S K D C A I T → Result Meaning ℕ → Status
-    → (old new : Office S K D C A I T) → (door door' : ListenTells) → (before after : List Wire) → (logged : List ℕ)
+    → (old new : Office S K D C A I T) → (door door' : DoorTells) → (before after : List Wire) → (logged : List ℕ)
     → Type 0
 Does seen (Ok meaning) status old new door door' before after logged =
     CommandDoes seen meaning status old new door door' before after logged
@@ -136,3 +137,7 @@ office_of outside = record {
   inbox = outside.inbox;
   texts = outside.texts;
 }
+
+-- by what callers come to it
+abbrev pub doors_of : {S K D C L A I T : Type 0} → Outside S K D C L A I T → Doors L I
+doors_of outside = record { listen = outside.listen; more = outside.more }

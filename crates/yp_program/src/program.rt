@@ -10,11 +10,11 @@ ghost use Rattle.yp_command.specs.office.Disks.{names_of};
 ghost use Rattle.yp_command.specs.office.Seeing.{seeing, IsPassedOn};
 ghost use Rattle.yp_command.specs.office.Status.{note};
 ghost use Rattle.yp_command.specs.inside.office.Status.{IsTellable};
-ghost use Rattle.yp_worker.specs.Receptions.{opening_by};
+ghost use Rattle.yp_command_serve.specs.serve.Hosting.{doors_by};
 ghost use Rattle.yp_command_serve.specs.serve.Serve.{ServeDoes, serve_may_end};
 ghost use Rattle.yp_command_serve.specs.inside.serve.Serve.{serve_job_view};
 ghost use Rattle.yp_program.specs.Commands.{AloneDoes, CommandDoes, Does, IsNoted, MayEnd, may_end};
-ghost use Rattle.yp_program.specs.Commands.{office_of};
+ghost use Rattle.yp_program.specs.Commands.{office_of, doors_of};
 ghost use Rattle.yp_program.specs.inside.Commands.{IsAlone};
 ghost use Rattle.yp_program.specs.inside.Commands.{parse_status};
 
@@ -32,7 +32,7 @@ use yp_command::office::{NamedDisk, Office, Status};
 use yp_command::{Command, ParseFault, ServeJob, parse};
 use yp_command_mail::{ask_mapper, bind_domain, push_map, serve_ports};
 use yp_command_maps::{build_map, check_map, dump_map, load_map, reverse_map};
-use yp_command_serve::serve::serve_maps;
+use yp_command_serve::serve::{Doors, serve_maps};
 use yp_command_serve::{serve_once, serve_session, tell_sample};
 use yp_io::{Clock, Dial, Disk, Hall, Inbox, Pair, Sink, Source, Texts, Trail, write_all};
 
@@ -55,17 +55,19 @@ pub struct Outside<S, K, D, C, L, A, I, T> {
     pub dial: A,
     /// What receives datagrams at the port that its words name.
     pub inbox: I,
+    /// Further ends of that port, which receive its datagrams beside it while maps are served. There may be none.
+    pub more: Vec<I>,
     /// The texts that maps are made of.
     pub texts: T,
 }
 
-/// What a command reaches, and beside it where it tells how it ended, and what accepts connections.
+/// What a command reaches, and beside it where it tells how it ended, and what callers come by.
 fn unpack<S, K, D, C, L, A, I, T>(
     outside: Outside<S, K, D, C, L, A, I, T>,
-) -> (Office<S, K, D, C, A, I, T>, K, L)
+) -> (Office<S, K, D, C, A, I, T>, K, Doors<L, I>)
     ensures office { result.0 ≡ office_of outside }
     ensures notes { result.1 ≡ outside.notes }
-    ensures listen { result.2 ≡ outside.listen }
+    ensures doors { result.2 ≡ doors_of outside }
 {
     let wire = Pair {
         source: outside.input,
@@ -79,7 +81,11 @@ fn unpack<S, K, D, C, L, A, I, T>(
         inbox: outside.inbox,
         texts: outside.texts,
     };
-    (office, outside.notes, outside.listen)
+    let doors = Doors {
+        listen: outside.listen,
+        more: outside.more,
+    };
+    (office, outside.notes, doors)
 }
 
 /// The outside of these, where it is told how the command ended.
@@ -87,11 +93,11 @@ fn finish<S, K: Sink, D, C, L, A, I, T>(
     status: &Status,
     office: Office<S, K, D, C, A, I, T>,
     notes: K,
-    listen: L,
+    doors: Doors<L, I>,
 ) -> Outside<S, K, D, C, L, A, I, T>
     requires { IsTellable status.now }
     ensures office { office_of result ≡ office }
-    ensures listen { result.listen ≡ listen }
+    ensures doors { doors_of result ≡ doors }
     ensures note { ¬ HasRisen (K.faults notes) (K.faults result.notes)
         → Appends (K.output notes) (K.output result.notes) (note status.now) }
     ensures never_falls { K.faults notes ≤ K.faults result.notes }
@@ -104,9 +110,10 @@ fn finish<S, K: Sink, D, C, L, A, I, T>(
         notes,
         disks: office.disks,
         clock: office.clock,
-        listen,
+        listen: doors.listen,
         dial: office.dial,
         inbox: office.inbox,
+        more: doors.more,
         texts: office.texts,
     }
 }
@@ -213,7 +220,7 @@ pub fn run_alone<
     requires disks { names_of outside.disks.items ≡ stores_of (meaning command) }
     ensures does { AloneDoes (seeing S.Source K.Sink D.Disk C.Clock A.Dial I.Inbox T.Texts) (meaning command) result.0
         (office_of outside) (office_of result.1) (W.wires witness.old) (W.wires witness.new) }
-    ensures listen { result.1.listen ≡ outside.listen }
+    ensures doors { doors_of result.1 ≡ doors_of outside }
     ensures may_end { IsTrue (may_end (meaning command) result.0) }
     ensures disks { names_of result.1.disks.items ≡ names_of outside.disks.items }
     ensures clock { C.moment result.1.clock ≡ C.moment outside.clock }
@@ -222,9 +229,9 @@ pub fn run_alone<
     ensures note { ¬ HasRisen (K.faults outside.notes) (K.faults result.1.notes)
         → Appends (K.output outside.notes) (K.output result.1.notes) (note result.0) }
 {
-    let (office, notes, listen) = unpack(outside);
+    let (office, notes, doors) = unpack(outside);
     let (status, office) = obey(alloc, rt, command, office, witness);
-    let outside = finish(&status, office, notes, listen);
+    let outside = finish(&status, office, notes, doors);
     (status, outside)
 }
 
@@ -256,16 +263,16 @@ where
     requires disks { names_of outside.disks.items ≡ stores_of (meaning (Command.Serve job)) }
     ensures does { (logged : List ℕ) × ServeDoes (seeing S.Source K.Sink D.Disk C.Clock A.Dial I.Inbox T.Texts)
         (serve_job_view job) result.0 (office_of outside) (office_of result.1)
-        (opening_by L.Hall outside.listen) (opening_by L.Hall result.1.listen) logged
+        (doors_by L.Hall I.Inbox (doors_of outside)) (doors_by L.Hall I.Inbox (doors_of result.1)) logged
         × IsNoted (K.faults outside.notes) (K.faults result.1.notes) (K.output outside.notes)
         (K.output result.1.notes) logged result.0 }
     ensures may_end { IsTrue (serve_may_end result.0) }
     ensures passed_on { IsPassedOn (seeing S.Source K.Sink D.Disk C.Clock A.Dial I.Inbox T.Texts) result.0
         (office_of outside) (office_of result.1) }
 {
-    let (office, notes, listen) = unpack(outside);
-    let (status, office, listen, notes) = serve_maps(alloc, rt, job, office, listen, notes);
-    let outside = finish(&status, office, notes, listen);
+    let (office, notes, doors) = unpack(outside);
+    let (status, office, doors, notes) = serve_maps(alloc, rt, job, office, doors, notes);
+    let outside = finish(&status, office, notes, doors);
     (status, outside)
 }
 
@@ -300,7 +307,7 @@ where
     requires disks { names_of outside.disks.items ≡ stores_of (meaning command) }
     ensures does { (logged : List ℕ) × CommandDoes (seeing S.Source K.Sink D.Disk C.Clock A.Dial I.Inbox T.Texts)
         (meaning command) result.0 (office_of outside) (office_of result.1)
-        (opening_by L.Hall outside.listen) (opening_by L.Hall result.1.listen)
+        (doors_by L.Hall I.Inbox (doors_of outside)) (doors_by L.Hall I.Inbox (doors_of result.1))
         (W.wires witness.old) (W.wires witness.new) logged
         × IsNoted (K.faults outside.notes) (K.faults result.1.notes) (K.output outside.notes)
         (K.output result.1.notes) logged result.0 }
@@ -345,7 +352,7 @@ where
     requires disks { names_of outside.disks.items ≡ disk_names (texts words.now) }
     ensures does { (logged : List ℕ) × Does (seeing S.Source K.Sink D.Disk C.Clock A.Dial I.Inbox T.Texts)
         (command_of (texts words.now)) result.0 (office_of outside) (office_of result.1)
-        (opening_by L.Hall outside.listen) (opening_by L.Hall result.1.listen)
+        (doors_by L.Hall I.Inbox (doors_of outside)) (doors_by L.Hall I.Inbox (doors_of result.1))
         (W.wires witness.old) (W.wires witness.new) logged
         × IsNoted (K.faults outside.notes) (K.faults result.1.notes) (K.output outside.notes)
         (K.output result.1.notes) logged result.0 }
@@ -409,7 +416,7 @@ where
     ensures does { (wires : List Wire) × (logged : List ℕ)
         × Does (seeing S.Source K.Sink D.Disk C.Clock A.Dial I.Inbox T.Texts)
         (command_of (texts words.now)) result.0 (office_of outside) (office_of result.1)
-        (opening_by L.Hall outside.listen) (opening_by L.Hall result.1.listen) [] wires logged
+        (doors_by L.Hall I.Inbox (doors_of outside)) (doors_by L.Hall I.Inbox (doors_of result.1)) [] wires logged
         × IsNoted (K.faults outside.notes) (K.faults result.1.notes) (K.output outside.notes)
         (K.output result.1.notes) logged result.0 }
 

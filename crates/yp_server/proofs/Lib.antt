@@ -1,6 +1,8 @@
 mod Crossing
 mod Rows
 mod Fronts
+mod Handing
+mod Adding
 mod Posted
 mod Covering
 mod Stemming

@@ -1,148 +1,174 @@
--- Posts that are manned, and what work leaves of them.
-use Rattle.std.proofs.Common.{◌≡◌, ℕ, suc, ◌<◌, ◌⊎◌, inl, inr, get_or, List, [], ◌∷◌, ◌++◌, length, refl, sym, ap, ◌∙◌, subst, append_assoc, arith}
-use Rattle.std.specs.List.{AllZip, AllByRecursion}
-use Rattle.std.proofs.lemmas.List.Elements.{recursion_from_All, All-from_recursion, All-push}
-use Rattle.std.proofs.lemmas.List.{append-nil}
+-- Workers at their places, and what work leaves of them.
+use Rattle.std.proofs.Common.{◌≡◌, ℕ, zero, suc, ◌+◌, ◌<◌, get_or, List, [], ◌∷◌, ◌++◌, length, map, reverse, refl, sym, ap, ◌∙◌, subst, append_assoc, arith}
+use Rattle.std.specs.List.{AllZip}
+use Rattle.std.proofs.lemmas.List.{append-nil, map-append, length_push, replicate_more, reverse-append, same_from_push}
 use Rattle.yp_worker.specs.inside.Receptions.{Passed}
 use Rattle.yp_server.specs.declared.datagrams.DatagramWorker.{DatagramWorker}
 use Rattle.yp_server.specs.declared.workers.ServerWorker.{ServerWorker}
 use Rattle.yp_server.specs.declared.workers.ServerWorker.TheVariants.{Connections, Datagrams}
 use Rattle.yp_server.specs.inside.Serving.{before_work, after_work}
-use Rattle.yp_server.proofs.Rows.{all_before, all_last}
-use Rattle.yp_server.specs.inside.Workers.{Works, AllWork, AreWorkers, AddsWorkers}
+use Rattle.yp_server.specs.inside.Workers.{Works, AllWork, connections_of, workers_of, IsManned, mails_in, held_in}
 
 -- what holds at each place holds of both lists
-zipped : {X : Type 0} (R : X → X → Type 0) (old new : List X) → length new ≡ length old
+pub zipped : {X : Type 0} (R : X → X → Type 0) (old new : List X) → length new ≡ length old
     → ((i : ℕ) (d : X) → i < length old → R (get_or old i d) (get_or new i d)) → AllZip R old new
 zipped R [] [] len at = tt
 zipped R [] (y ∷ ys) len at = absurd (omega (arith, len))
 zipped R (x ∷ xs) [] len at = absurd (omega (arith, len))
 zipped R (x ∷ xs) (y ∷ ys) len at = (at 0 x (omega arith), zipped R xs ys (omega (arith, len)) (λ i d low. at (suc i) d (omega (arith, low))))
 
-abbrev tail_of : {X : Type 0} → List X → List X
-tail_of [] = []
-tail_of (x ∷ xs) = xs
-
 module _ {J E H G I M F N : Type 0} where
-  abbrev mail_in : DatagramWorker I H N → ServerWorker J E H G I M F N → DatagramWorker I H N
-  mail_in d (Datagrams m) = m
-  mail_in d (Connections held) = d
+  -- one worker of connections more
+  pub one_connection : (count : ℕ) (held : Passed) → connections_of {J = J} {E = E} {H = H} {G = G} {I = I} {M = M} {F = F} {N = N} (count + 1) held ≡ connections_of count held ++ Connections held ∷ []
+  one_connection count held = sym (replicate_more count (Connections held))
 
-  abbrev held_in : Passed → ServerWorker J E H G I M F N → Passed
-  held_in d (Connections held) = held
-  held_in d (Datagrams m) = d
+  pub one_other : (datagram_workers : List (DatagramWorker I H N)) (others : ℕ) (held : Passed)
+      → workers_of {J = J} {E = E} {H = H} {G = G} {I = I} {M = M} {F = F} {N = N} datagram_workers (others + 1) held ≡ workers_of datagram_workers others held ++ Connections held ∷ []
+  one_other datagram_workers others held =
+      ap (λ (l : List (ServerWorker J E H G I M F N)). map (λ m. Datagrams m) datagram_workers ++ l) (one_connection others held)
+      ∙ sym (append_assoc (map (λ m. Datagrams m) datagram_workers) (connections_of others held) (Connections held ∷ []))
 
-  apart : (m : DatagramWorker I H N) (held : Passed) (server_worker : ServerWorker J E H G I M F N) → server_worker ≡ Datagrams m → server_worker ≡ Connections held → ⊥
-  apart m held (Connections h) is other = absurd cc
-  apart m held (Datagrams x) is other = absurd cc
+  -- one worker of datagrams more
+  pub one_mail : (datagram_workers : List (DatagramWorker I H N)) (datagram_worker : DatagramWorker I H N) (held : Passed)
+      → workers_of {J = J} {E = E} {H = H} {G = G} {I = I} {M = M} {F = F} {N = N} (datagram_workers ++ datagram_worker ∷ []) 0 held ≡ workers_of datagram_workers 0 held ++ Datagrams datagram_worker ∷ []
+  one_mail datagram_workers datagram_worker held =
+      append-nil (map (λ m. Datagrams m) (datagram_workers ++ datagram_worker ∷ []))
+      ∙ map-append (λ m. Datagrams m) datagram_workers (datagram_worker ∷ [])
+      ∙ ap (λ (l : List (ServerWorker J E H G I M F N)). l ++ Datagrams datagram_worker ∷ []) (sym (append-nil (map (λ m. Datagrams m) datagram_workers)))
 
-  -- the first worker, and behind it those of workers of connections
-  pub manned : (datagram_worker : DatagramWorker I H N) (held : Passed) (old new : List (ServerWorker J E H G I M F N)) → old ≡ Datagrams datagram_worker ∷ []
-      → AddsWorkers held old new → AreWorkers datagram_worker held new
-  manned datagram_worker held old new one seated = record {
-    others = seated.more;
-    posts_are = seated.posts_are ∙ ap (λ (l : List (ServerWorker J E H G I M F N)). l ++ seated.more) one;
-    all = seated.all;
-  }
+  -- behind workers of datagrams alone came those of connections
+  pub others_behind : (datagram_workers : List (DatagramWorker I H N)) (others : ℕ) (held : Passed) (old new : List (ServerWorker J E H G I M F N))
+      → old ≡ workers_of datagram_workers 0 held → new ≡ old ++ connections_of others held → new ≡ workers_of datagram_workers others held
+  others_behind datagram_workers others held old new was is =
+      is ∙ ap (λ (l : List (ServerWorker J E H G I M F N)). l ++ connections_of others held) (was ∙ append-nil (map (λ m. Datagrams m) datagram_workers))
 
-  module _ (mails : DatagramWorker I H N → DatagramWorker I H N → Type 0) where
-    ended : (others new : List (ServerWorker J E H G I M F N)) → AllZip (Works mails) others new
-        → AllByRecursion (λ server_worker. server_worker ≡ Connections before_work) others → AllByRecursion (λ server_worker. server_worker ≡ Connections after_work) new
-    ended [] [] zip all = tt
-    ended [] (y ∷ ys) zip all = absurd zip
-    ended (x ∷ xs) [] zip all = absurd zip
-    ended (x ∷ xs) (y ∷ ys) zip all = (one y (subst (λ (p : ServerWorker J E H G I M F N). Works mails p y) all.0 zip.0), ended xs ys zip.1 all.1)
-      where
-        one : (y : ServerWorker J E H G I M F N) → Works mails (Connections before_work) y → y ≡ Connections after_work
-        one (Connections held) is = ap (λ (h : Passed). Connections h) is
-        one (Datagrams m) is = absurd is
+  -- the last of workers is one of connections
+  pub last_connection : (datagram_workers : List (DatagramWorker I H N)) (others : ℕ) (held : Passed) (all front : List (ServerWorker J E H G I M F N))
+      (last : ServerWorker J E H G I M F N) → all ≡ workers_of datagram_workers (others + 1) held → all ≡ front ++ last ∷ []
+      → (front ≡ workers_of datagram_workers others held) × (last ≡ Connections held)
+  last_connection datagram_workers others held all front last was is =
+      same_from_push front (workers_of datagram_workers others held) last (Connections held) (sym is ∙ was ∙ one_other datagram_workers others held)
 
-    -- all have ended, and the worker of datagrams has made this of them
-    pub worked : (datagram_worker : DatagramWorker I H N) (old new : List (ServerWorker J E H G I M F N)) → AreWorkers datagram_worker before_work old
-        → length new ≡ length old → AllWork (Works mails) old new
-        → (last : DatagramWorker I H N) × mails datagram_worker last × AreWorkers last after_work new
-    worked datagram_worker old new was len works =
-        let zip = zipped (Works mails) old new len works in
-        by new (subst (λ (l : List (ServerWorker J E H G I M F N)). AllZip (Works mails) l new) was.posts_are zip)
-      where
-        by : (new : List (ServerWorker J E H G I M F N)) → AllZip (Works mails) (Datagrams datagram_worker ∷ was.others) new
-            → (last : DatagramWorker I H N) × mails datagram_worker last × AreWorkers last after_work new
-        by [] zip = absurd zip
-        by (Connections held ∷ ys) zip = absurd zip.0
-        by (Datagrams last ∷ ys) zip = (
-          last,
-          zip.0,
-          record {
-            others = ys;
-            posts_are = refl;
-            all = All-from_recursion (λ (p : ServerWorker J E H G I M F N). p ≡ Connections after_work) ys
-                (ended was.others ys zip.1 (recursion_from_All (λ (p : ServerWorker J E H G I M F N). p ≡ Connections before_work) was.others was.all));
-          },
-        )
+  abbrev held_by : Passed → ServerWorker J E H G I M F N → Passed
+  held_by d (Connections held) = held
+  held_by d (Datagrams m) = d
 
-    -- the one that was found then has made that of them
-    pub came_of : (datagram_worker found : DatagramWorker I H N) (old new : List (ServerWorker J E H G I M F N)) → AreWorkers datagram_worker before_work old
-        → length new ≡ length old → AllWork (Works mails) old new
-        → ((last : DatagramWorker I H N) → AreWorkers last after_work new → found ≡ last) → mails datagram_worker found
-    came_of datagram_worker found old new was len works is =
-        let all = worked datagram_worker old new was len works in
-        subst (mails datagram_worker) (sym (is all.0 all.2)) all.1
+  pub same_held : (one other : Passed) (server_worker : ServerWorker J E H G I M F N) → server_worker ≡ Connections one
+      → server_worker ≡ Connections other → one ≡ other
+  same_held one other server_worker e f = ap (held_by one) (sym e ∙ f)
 
-  -- the last of manned workers is that of the worker of datagrams, or of one of connections, behind manned workers
-  pub popped : (datagram_worker : DatagramWorker I H N) (held : Passed) (all front : List (ServerWorker J E H G I M F N)) (last : ServerWorker J E H G I M F N)
-      → AreWorkers datagram_worker held all → all ≡ front ++ last ∷ []
-      → ((last ≡ Datagrams datagram_worker) × (front ≡ [])) ⊎ ((last ≡ Connections held) × AreWorkers datagram_worker held front)
-  popped datagram_worker held all [] last was is =
-      inl (ap (λ (l : List (ServerWorker J E H G I M F N)). get_or l 0 last) (sym is ∙ was.posts_are), refl)
-  popped datagram_worker held all (p ∷ ps) last was is =
-      let both : Datagrams datagram_worker ∷ was.others ≡ p ∷ (ps ++ last ∷ []) = sym was.posts_are ∙ is in
-      let first : Datagrams datagram_worker ≡ p = ap (λ (l : List (ServerWorker J E H G I M F N)). get_or l 0 last) both in
-      let rest : was.others ≡ ps ++ last ∷ [] = ap tail_of both in
-      inr (
-        all_last (λ server_worker. server_worker ≡ Connections held) was.others ps last rest was.all,
-        record {
-          others = ps;
-          posts_are = ap (λ (x : ServerWorker J E H G I M F N). x ∷ ps) (sym first);
-          all = all_before (λ server_worker. server_worker ≡ Connections held) was.others ps last rest was.all;
-        },
+  -- ---- who is among workers
+
+  pub mails_more : (front : List (ServerWorker J E H G I M F N)) (last : ServerWorker J E H G I M F N) → mails_in (front ++ last ∷ []) ≡ mails_in front ++ mails_in (last ∷ [])
+  mails_more [] (Connections held) = refl
+  mails_more [] (Datagrams m) = refl
+  mails_more (Connections held ∷ front) last = mails_more front last
+  mails_more (Datagrams m ∷ front) last = ap (λ (l : List (DatagramWorker I H N)). m ∷ l) (mails_more front last)
+
+  turned_mails : (last : ServerWorker J E H G I M F N) → reverse (mails_in (last ∷ [])) ≡ mails_in (last ∷ [])
+  turned_mails (Connections held) = refl
+  turned_mails (Datagrams m) = refl
+
+  -- the workers of datagrams that were gathered, the last one first, behind those that are still among workers
+  pub gathered : (all front : List (ServerWorker J E H G I M F N)) (last : ServerWorker J E H G I M F N) → all ≡ front ++ last ∷ []
+      → (old new whole : List (DatagramWorker I H N)) → new ≡ old ++ mails_in (last ∷ []) → mails_in all ++ reverse old ≡ whole
+      → mails_in front ++ reverse new ≡ whole
+  gathered all front last is old new whole is_new before =
+      ap (λ (l : List (DatagramWorker I H N)). mails_in front ++ l) (ap reverse is_new ∙ reverse-append old (mails_in (last ∷ []))
+      ∙ ap (λ (l : List (DatagramWorker I H N)). l ++ reverse old) (turned_mails last))
+      ∙ sym (append_assoc (mails_in front) (mails_in (last ∷ [])) (reverse old))
+      ∙ ap (λ (l : List (DatagramWorker I H N)). l ++ reverse old) (sym (mails_more front last))
+      ∙ ap (λ (l : List (ServerWorker J E H G I M F N)). mails_in l ++ reverse old) (sym is)
+      ∙ before
+
+  pub held_more : (front : List (ServerWorker J E H G I M F N)) (last : ServerWorker J E H G I M F N)
+      → ((held_in (front ++ last ∷ [])).parts ≡ (held_in front).parts + (held_in (last ∷ [])).parts)
+      × ((held_in (front ++ last ∷ [])).out ≡ (held_in front).out + (held_in (last ∷ [])).out)
+      × ((held_in (front ++ last ∷ [])).ended ≡ (held_in front).ended + (held_in (last ∷ [])).ended)
+  held_more [] last = (omega arith, omega arith, omega arith)
+  held_more (Connections held ∷ front) last =
+      let more = held_more front last in
+      let a = more.0 in
+      let b = more.1 in
+      let c = more.2 in
+      (omega (arith, a), omega (arith, b), omega (arith, c))
+  held_more (Datagrams m ∷ front) last = held_more front last
+
+  mails_none : (others : ℕ) (held : Passed) (all : List (ServerWorker J E H G I M F N)) → all ≡ connections_of others held → mails_in all ≡ []
+  mails_none zero held all is = ap mails_in is
+  mails_none (suc n) held all is = ap mails_in is ∙ mails_none n held (connections_of n held) refl
+
+  pub mails_of : (datagram_workers : List (DatagramWorker I H N)) (others : ℕ) (held : Passed) (all : List (ServerWorker J E H G I M F N))
+      → all ≡ workers_of datagram_workers others held → mails_in all ≡ datagram_workers
+  mails_of [] others held all is = mails_none others held all is
+  mails_of (m ∷ ms) others held all is =
+      ap mails_in is ∙ ap (λ (l : List (DatagramWorker I H N)). m ∷ l) (mails_of ms others held (workers_of ms others held) refl)
+
+  -- so many hold this together, once they have ended
+  held_none : (others : ℕ) (all : List (ServerWorker J E H G I M F N)) → all ≡ connections_of others after_work
+      → ((held_in all).parts ≡ others) × ((held_in all).out ≡ 0) × ((held_in all).ended ≡ others)
+  held_none zero all is = (
+    ap (λ (l : List (ServerWorker J E H G I M F N)). (held_in l).parts) is,
+    ap (λ (l : List (ServerWorker J E H G I M F N)). (held_in l).out) is,
+    ap (λ (l : List (ServerWorker J E H G I M F N)). (held_in l).ended) is,
+  )
+  held_none (suc n) all is =
+      let more = held_none n (connections_of n after_work) refl in
+      let a = more.0 in
+      let b = more.1 in
+      let c = more.2 in
+      let x = ap (λ (l : List (ServerWorker J E H G I M F N)). (held_in l).parts) is in
+      let y = ap (λ (l : List (ServerWorker J E H G I M F N)). (held_in l).out) is in
+      let z = ap (λ (l : List (ServerWorker J E H G I M F N)). (held_in l).ended) is in
+      (omega (arith, a, x), omega (arith, b, y), omega (arith, c, z))
+
+  pub held_of : (datagram_workers : List (DatagramWorker I H N)) (others : ℕ) (all : List (ServerWorker J E H G I M F N))
+      → all ≡ workers_of datagram_workers others after_work
+      → ((held_in all).parts ≡ others) × ((held_in all).out ≡ 0) × ((held_in all).ended ≡ others)
+  held_of [] others all is = held_none others all is
+  held_of (m ∷ ms) others all is =
+      let more = held_of ms others (workers_of ms others after_work) refl in (
+        ap (λ (l : List (ServerWorker J E H G I M F N)). (held_in l).parts) is ∙ more.0,
+        ap (λ (l : List (ServerWorker J E H G I M F N)). (held_in l).out) is ∙ more.1,
+        ap (λ (l : List (ServerWorker J E H G I M F N)). (held_in l).ended) is ∙ more.2,
       )
 
-  -- where the last is that of datagrams, it is the one, and the only worker
-  pub last_mail : (datagram_worker found : DatagramWorker I H N) (held : Passed) (all front : List (ServerWorker J E H G I M F N)) (last : ServerWorker J E H G I M F N)
-      → AreWorkers datagram_worker held all → all ≡ front ++ last ∷ [] → last ≡ Datagrams found
-      → (found ≡ datagram_worker) × (length all ≡ 1)
-  last_mail datagram_worker found held all front last was is mail = elim (popped datagram_worker held all front last was is) [
-    | inl (same, none) ↦ (
-      ap (mail_in found) (sym mail ∙ same),
-      ap length is ∙ ap (λ (l : List (ServerWorker J E H G I M F N)). length (l ++ last ∷ [])) none,
-    )
-    | inr (other, rest) ↦ absurd (apart found held last mail other)
-  ]
+  -- ---- what work leaves
 
-  -- where it is one of connections, those before it are manned
-  pub last_seat : (datagram_worker : DatagramWorker I H N) (held found : Passed) (all front : List (ServerWorker J E H G I M F N)) (last : ServerWorker J E H G I M F N)
-      → AreWorkers datagram_worker held all → all ≡ front ++ last ∷ [] → last ≡ Connections found
-      → (found ≡ held) × AreWorkers datagram_worker held front
-  last_seat datagram_worker held found all front last was is connection_worker = elim (popped datagram_worker held all front last was is) [
-    | inl (same, none) ↦ absurd (apart datagram_worker found last same connection_worker)
-    | inr (other, rest) ↦ (ap (held_in found) (sym connection_worker ∙ other), rest)
-  ]
+  module _ (mails : DatagramWorker I H N → DatagramWorker I H N → Type 0) where
+    connections_worked : (count : ℕ) (new : List (ServerWorker J E H G I M F N)) → AllZip (Works mails) (connections_of count before_work) new → new ≡ connections_of count after_work
+    connections_worked zero [] zip = refl
+    connections_worked zero (y ∷ ys) zip = absurd zip
+    connections_worked (suc n) [] zip = absurd zip
+    connections_worked (suc n) (Connections held ∷ ys) zip =
+        ap (λ (h : Passed). Connections h ∷ ys) zip.0 ∙ ap (λ (l : List (ServerWorker J E H G I M F N)). Connections after_work ∷ l) (connections_worked n ys zip.1)
+    connections_worked (suc n) (Datagrams m ∷ ys) zip = absurd zip.0
 
-  -- there are some
-  pub some_manned : (datagram_worker : DatagramWorker I H N) (held : Passed) (all : List (ServerWorker J E H G I M F N)) → AreWorkers datagram_worker held all → 0 < length all
-  some_manned datagram_worker held all was = omega (arith, ap length was.posts_are)
+    all_worked : (datagram_workers : List (DatagramWorker I H N)) (others : ℕ) (new : List (ServerWorker J E H G I M F N)) → AllZip (Works mails) (workers_of datagram_workers others before_work) new
+        → (ended : List (DatagramWorker I H N)) × AllZip mails datagram_workers ended × (new ≡ workers_of ended others after_work)
+    all_worked [] others new zip = ([], tt, connections_worked others new zip)
+    all_worked (m ∷ ms) others [] zip = absurd zip
+    all_worked (m ∷ ms) others (Connections held ∷ ys) zip = absurd zip.0
+    all_worked (m ∷ ms) others (Datagrams last ∷ ys) zip =
+        let rest = all_worked ms others ys zip.1 in
+        (last ∷ rest.0, (zip.0, rest.1), ap (λ (l : List (ServerWorker J E H G I M F N)). Datagrams last ∷ l) rest.2)
 
-  -- nobody came yet
-  pub none_seated : (held : Passed) (old : List (ServerWorker J E H G I M F N)) → AddsWorkers held old old
-  none_seated held old = record { more = []; posts_are = sym (append-nil old); all = λ k d low. absurd (omega (arith, low)) }
+    -- all have ended, and the workers of datagrams have made this of them
+    pub worked : (datagram_workers : List (DatagramWorker I H N)) (others : ℕ) (old new : List (ServerWorker J E H G I M F N)) → old ≡ workers_of datagram_workers others before_work
+        → length new ≡ length old → AllWork (Works mails) old new
+        → (ended : List (DatagramWorker I H N)) × AllZip mails datagram_workers ended × (new ≡ workers_of ended others after_work)
+    worked datagram_workers others old new was len works =
+        all_worked datagram_workers others new
+        (subst (λ (l : List (ServerWorker J E H G I M F N)). AllZip (Works mails) l new) was (zipped (Works mails) old new len works))
 
-  -- one more came
-  pub one_seated : (held : Passed) (old now new : List (ServerWorker J E H G I M F N)) (connection_worker : Passed) → AddsWorkers held old now
-      → new ≡ now ++ Connections connection_worker ∷ [] → connection_worker ≡ held → AddsWorkers held old new
-  one_seated held old now new connection_worker was is same = record {
-    more = was.more ++ Connections connection_worker ∷ [];
-    posts_are = is ∙ ap (λ (l : List (ServerWorker J E H G I M F N)). l ++ Connections connection_worker ∷ []) was.posts_are
-        ∙ append_assoc old was.more (Connections connection_worker ∷ []);
-    all = All-push (λ (p : ServerWorker J E H G I M F N). p ≡ Connections held) was.more (Connections connection_worker) was.all
-        (ap (λ (h : Passed). Connections h) same);
+  -- so many workers of connections, where there is one
+  pub manned : (datagram_workers : List (DatagramWorker I H N)) (held : Passed) (count parts : ℕ) (all : List (ServerWorker J E H G I M F N))
+      → 0 < count → parts ≡ count + 2 → all ≡ workers_of datagram_workers count held → IsManned datagram_workers held parts all
+  manned datagram_workers held zero parts all some ledger is = absurd (omega (arith, some))
+  manned datagram_workers held (suc n) parts all some ledger is = record {
+    others = n;
+    parts_are = omega (arith, ledger);
+    workers_are =
+        let more : suc n ≡ n + 1 = omega arith in
+        is ∙ ap (λ (count : ℕ). workers_of datagram_workers count held) more;
   }

@@ -1,5 +1,5 @@
 -- What the workers of a server counted together, and what covers it.
-use Rattle.std.specs.Prelude.{◌≡◌, ◌+◌, ◌<◌, ◌≤◌, ℕ, Bool, List, Option, IsSome}
+use Rattle.std.specs.Prelude.{◌≡◌, ◌+◌, ◌<◌, ◌≤◌, ◌||◌, ℕ, Bool, false, List, [], ◌∷◌, fold, Option, IsSome}
 use Rattle.std.specs.List.{All}
 use Rattle.yp_io.specs.Counts.{last_count}
 use Rattle.yp_io.specs.Disk.{History}
@@ -28,17 +28,26 @@ pub record CountsDatagrams {H T : Type 0} (conduct : Conduct H) (counting : Coun
   pub from_none : counting.counted served.old ≡ counting.none
   pub counted : counting.counted served.new ≡ count
 
+-- Inboxes were served, each so, by a host that has counted this then. One of them has failed exactly where that is said.
+abbrev pub CountsInboxes : {H T : Type 0} → Conduct H → Counting H T → Catalogue → (starts log : Log) → (turns : ℕ)
+    → (fault : Bool) → (before after : List InboxTells) → (counts : List T) → Type 0
+CountsInboxes conduct counting catalogue starts log turns fault [] [] [] = fault ≡ false
+CountsInboxes conduct counting catalogue starts log turns fault (old ∷ before) (new ∷ after) (count ∷ counts) =
+    (failed : Bool) × (others : Bool) × (fault ≡ failed || others)
+    × CountsDatagrams conduct counting catalogue starts log turns failed old new count
+    × CountsInboxes conduct counting catalogue starts log turns others before after counts
+CountsInboxes conduct counting catalogue starts log turns fault before after counts = ⊥
+
 -- What all hosts did and counted: in the connections that workers served, of which so many records were read, and in
--- the turns of the datagrams. What was known at the end of each is a front of this log.
+-- the turns of the datagrams of each inbox. What was known at the end of each is a front of this log.
 pub record CountsAll {H T : Type 0} (conduct : Conduct H) (counting : Counting H T) (terms : Terms)
-    (door door' : ListenTells) (calls : ℕ) (log : Log) (turns : ℕ) (fault : Bool) (before after : InboxTells) (all : T)
-    : Type 0 where
+    (door door' : ListenTells) (calls : ℕ) (log : Log) (turns : ℕ) (fault : Bool) (before after : List InboxTells)
+    (all : T) : Type 0 where
   pub connections : T
-  pub datagrams : T
+  pub datagrams : List T
   pub of_connections : SumsUp conduct counting terms door door' calls connections log
-  pub of_datagrams : CountsDatagrams conduct counting terms.catalogue terms.starts log turns fault before after
-      datagrams
-  pub all_is : all ≡ counting.plus connections datagrams
+  pub of_datagrams : CountsInboxes conduct counting terms.catalogue terms.starts log turns fault before after datagrams
+  pub all_is : all ≡ fold counting.plus connections datagrams
 
 -- A disk tells what a crash may leave, its count of faults doesn't stand at its last value, and the last generation of
 -- its file isn't reached.

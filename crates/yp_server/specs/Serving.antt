@@ -1,5 +1,6 @@
 -- What is served, and how the maps stand then.
-use Rattle.std.specs.Prelude.{◌≡◌, ℕ, Bool, List, map, length, Option, None, Result, is_err}
+use Rattle.std.specs.Prelude.{◌≡◌, ◌⊎◌, ◌||◌, ℕ, Bool, false, List, [], ◌∷◌, map, length, Option, None, Result, is_err}
+use Rattle.yp_io.specs.Counts.{HasRisen}
 use Rattle.yp_io.specs.Disk.{History}
 use Rattle.yp_io.specs.declared.stream.Failed.{Failed}
 use Rattle.yp_board.specs.Catalogues.{Catalogue}
@@ -50,6 +51,24 @@ pub record ServesDatagrams {H T : Type 0} (conduct : Conduct H) (counted : H →
   pub fault_is : fault ≡ is_err end
   pub serves : ServesMail conduct counted turns end (at_rest old) (at_rest new) before after
   pub shown : IsFront (conduct.seen new).known log
+
+-- Inboxes were served, each so by a host of its own. One of them has failed exactly where that is said.
+abbrev pub ServesInboxes : {H T : Type 0} → Conduct H → (H → T) → Catalogue → (starts log : Log) → (turns : ℕ)
+    → (fault : Bool) → (before after : List InboxTells) → Type 0
+ServesInboxes conduct counted catalogue starts log turns fault [] [] = fault ≡ false
+ServesInboxes conduct counted catalogue starts log turns fault [] (new ∷ after) = ⊥
+ServesInboxes conduct counted catalogue starts log turns fault (old ∷ before) [] = ⊥
+ServesInboxes conduct counted catalogue starts log turns fault (old ∷ before) (new ∷ after) =
+    (failed : Bool) × (others : Bool) × (fault ≡ failed || others)
+    × ServesDatagrams conduct counted catalogue starts log turns failed old new
+    × ServesInboxes conduct counted catalogue starts log turns others before after
+
+-- One of these counts has risen.
+abbrev pub SomeHasRisen : (before after : List ℕ) → Type 0
+SomeHasRisen [] [] = ⊥
+SomeHasRisen [] (new ∷ after) = ⊥
+SomeHasRisen (old ∷ before) [] = ⊥
+SomeHasRisen (old ∷ before) (new ∷ after) = HasRisen old new ⊎ SomeHasRisen before after
 
 -- Disks of maps, in their order. Whatever a crash may leave of one stands for what the log shows of its map, or, where
 -- that is behind, for that or for the version whose install failed. The versions that are kept are those that the log

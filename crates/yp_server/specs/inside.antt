@@ -1,3 +1,4 @@
 pub mod Serving
 pub mod Workers
 pub mod Counting
+pub mod Shares

@@ -1,6 +1,8 @@
-//! The datagrams of an inbox, answered beside the connections.
+//! The datagrams of inboxes, answered beside the connections.
 
-ghost use Rattle.std.specs.Prelude.{◌≡◌, false};
+ghost use Rattle.std.specs.Prelude.{◌≡◌, ◌≤◌, ◌<◌, ◌||◌, ◌∷◌, ◌++◌, [], false, map, reverse, length, fold};
+ghost use Rattle.std.specs.Prelude.{vec_len, vec_capacity};
+ghost use Rattle.std.specs.List.{AllByRecursion, list_any};
 ghost use Rattle.yp_board.specs.Views.{IsFront};
 ghost use Rattle.yp_answer.specs.inside.session.Hosts.{conduct_by};
 ghost use Rattle.yp_rpc.specs.inside.Turns.{box_by};
@@ -27,6 +29,26 @@ pub(crate) struct DatagramResources<I, V> {
 pub(crate) struct EndedInbox<I> {
     pub(crate) inbox: I,
     pub(crate) fault: bool,
+}
+
+/// The inboxes that come back of all workers of datagrams, and whether one of them has failed.
+#[derive(Drop)]
+pub(crate) struct EndedInboxes<I> {
+    pub(crate) inboxes: Vec<I>,
+    pub(crate) fault: bool,
+}
+
+impl<I: Drop> EndedInboxes<I> {
+    /// Takes in what came of one more, which has room here.
+    fn add(&mut self, ended: EndedInbox<I>)
+        requires { vec_len self.old.inboxes < vec_capacity self.old.inboxes }
+        ensures inboxes { self.new.inboxes.items ≡ self.old.inboxes.items ++ ended.inbox ∷ [] }
+        ensures room { vec_capacity self.new.inboxes ≡ vec_capacity self.old.inboxes }
+        ensures fault { self.new.fault ≡ (self.old.fault || ended.fault) }
+    {
+        self.inboxes.push_reserved(ended.inbox);
+        self.fault = self.fault || ended.fault;
+    }
 }
 
 /// A worker that answers the datagrams of an inbox, and whether that has failed.
@@ -92,4 +114,33 @@ impl<I, H: HandsOver + Drop> DatagramWorker<I, H> {
         host.hand_over(sum);
         EndedInbox { inbox, fault }
     }
+}
+
+/// Adds what the hosts of all workers of datagrams have counted to a sum, the last one's first, and hands back what
+/// came of their inboxes, which have room here.
+pub(crate) fn hand_over_all<I: Drop, H: HandsOver + Drop>(
+    mut datagram_workers: Vec<DatagramWorker<I, H>>,
+    sum: &mut H::Sum,
+    inboxes: Vec<I>,
+) -> EndedInboxes<I>
+    requires none { inboxes.items ≡ [] }
+    requires room { length datagram_workers.items ≤ vec_capacity inboxes }
+    ensures inboxes { result.inboxes.items
+        ≡ map (λ datagram_worker. datagram_worker.inbox) (reverse datagram_workers.items) }
+    ensures fault { result.fault
+        ≡ list_any (λ datagram_worker. datagram_worker.fault) (reverse datagram_workers.items) }
+    ensures added { H.summed sum.new ≡ fold H.plus (H.summed sum.old)
+        (map (λ datagram_worker. H.counted datagram_worker.server.host) (reverse datagram_workers.items)) }
+    ensures covered { AllByRecursion (λ datagram_worker.
+        IsFront (H.seen datagram_worker.server.host).known (H.reached sum.new)) (reverse datagram_workers.items) }
+    ensures kept { IsFront (H.reached sum.old) (H.reached sum.new) }
+{
+    let mut ended = EndedInboxes {
+        inboxes,
+        fault: false,
+    };
+    while let Some(datagram_worker) = datagram_workers.pop() {
+        ended.add(datagram_worker.hand_over(sum));
+    }
+    ended
 }

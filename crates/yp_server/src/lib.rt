@@ -1,11 +1,11 @@
-//! Serving: the connections of a listener and the datagrams of an inbox, by workers in threads of their own, over maps
+//! Serving: the connections of a listener and the datagrams of inboxes, by workers in threads of their own, over maps
 //! that they share.
 //!
 //! [`serve`] lends a publisher, a desk and a listener to its workers, each under a lock, and takes them apart again
 //! once all workers have ended. Each worker serves many connections at once, and waits for none of them. Beside them
-//! one worker answers the datagrams of the inbox, which it has for itself. What each worker did, step by step, how each
-//! connection stood as it was closed, that all were closed, what was counted, what went out for each datagram, and how
-//! each map stands then are its clauses.
+//! is a worker for each inbox, which it has for itself and whose datagrams it answers. What each worker did, step by
+//! step, how each connection stood as it was closed, that all were closed, what was counted, what went out for each
+//! datagram, and how each map stands then are its clauses.
 #![tactic(auto)]
 
 mod datagrams;
@@ -17,4 +17,4 @@ mod spec;
 mod workers;
 
 pub use serving::serve;
-pub use spec::{ServeRefused, ServeSpec, Served};
+pub use spec::{ServeRefused, ServeSpec, Served, ServerResources};

@@ -33,9 +33,46 @@ use yp_publisher::sharing::{
     Accounts, BuiltVersions, Debits, FailedFiles, FetchedVersions, Locked, Site,
 };
 
-/// Ledgers that nothing stands for yet, of what is counted under the locks.
+/// Ledgers that nothing stands for yet: those of a listener, and those of what is counted under the locks.
 #[derive(Drop)]
 pub(crate) struct Blanks {
+    pub(crate) listener: ListenerBlanks,
+    pub(crate) charges: ChargeBlanks,
+}
+
+impl Blanks {
+    /// Ledgers for so many workers of connections, the one that does what takes long among them, and so many of
+    /// datagrams.
+    pub(crate) fn new(workers: u64, inboxes: u64) -> Blanks
+        requires { workers + inboxes + 3 < 2 ^ 64 }
+        ensures listener { (result.listener.out.parts ≡ workers + 2) × (result.listener.ended.parts ≡ workers + 1) }
+        ensures unread { result.charges.unread.parts ≡ workers + inboxes + 2 }
+        ensures orders { result.charges.orders.parts ≡ workers + inboxes + 2 }
+        ensures sources { result.charges.sources.parts ≡ workers + inboxes + 2 }
+        ensures failures { result.charges.failures.parts ≡ workers + inboxes + 2 }
+        ensures made { result.charges.made.parts ≡ workers + inboxes + 2 }
+        ensures versions { result.charges.versions.parts ≡ workers + inboxes + 3 }
+    {
+        Blanks {
+            listener: ListenerBlanks {
+                out: Blank::new(workers + 2),
+                ended: Blank::new(workers + 1),
+            },
+            charges: ChargeBlanks::new(workers + inboxes + 2),
+        }
+    }
+}
+
+/// Ledgers that nothing stands for yet, of the connections of a listener and of the workers that have ended.
+#[derive(Drop)]
+pub(crate) struct ListenerBlanks {
+    pub(crate) out: Blank,
+    pub(crate) ended: Blank,
+}
+
+/// Ledgers that nothing stands for yet, of what is counted under the locks.
+#[derive(Drop)]
+pub(crate) struct ChargeBlanks {
     pub(crate) unread: Blank,
     pub(crate) orders: Blank,
     pub(crate) sources: Blank,
@@ -44,9 +81,9 @@ pub(crate) struct Blanks {
     pub(crate) versions: Blank,
 }
 
-impl Blanks {
+impl ChargeBlanks {
     /// Ledgers in so many parts, but for one part more of fetched versions, which lies with the publisher.
-    pub(crate) fn new(parts: u64) -> Blanks
+    fn new(parts: u64) -> ChargeBlanks
         requires { parts < 2 ^ 64 - 1 }
         ensures unread { result.unread.parts ≡ parts }
         ensures orders { result.orders.parts ≡ parts }
@@ -55,7 +92,7 @@ impl Blanks {
         ensures made { result.made.parts ≡ parts }
         ensures versions { result.versions.parts ≡ parts + 1 }
     {
-        Blanks {
+        ChargeBlanks {
             unread: Blank::new(parts),
             orders: Blank::new(parts),
             sources: Blank::new(parts),
@@ -70,7 +107,7 @@ impl Blanks {
 pub(crate) fn lock_up<S, D, B, A, T, C>(
     publisher: Publisher<D, B>,
     desk: Desk<A, T, C>,
-    blanks: Blanks,
+    blanks: ChargeBlanks,
 ) -> (
     Mutex<Locked<S, D, B>>,
     Mutex<SharedDesk<S, A, T, C>>,

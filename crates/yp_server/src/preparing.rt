@@ -1,8 +1,7 @@
 //! Where workers work.
 
-ghost use Rattle.std.specs.Prelude.{◌≡◌, ◌≤◌, ◌<◌, ◌+◌, [], length, true, vec_capacity};
-ghost use Rattle.std.specs.List.{All};
-ghost use Rattle.yp_io.specs.Counts.{HasRisen};
+ghost use Rattle.std.specs.Prelude.{◌≡◌, ◌≤◌, ◌<◌, ◌+◌, ℕ, [], ◌++◌, List, length, map, true, vec_capacity};
+ghost use Rattle.std.specs.List.{All, AllZip};
 ghost use Rattle.yp_board.specs.Logs.{Log};
 ghost use Rattle.yp_board.specs.Views.{IsFront};
 ghost use Rattle.yp_board.specs.readers.Boards.{workers_max};
@@ -10,17 +9,24 @@ ghost use Rattle.yp_worker.specs.Receptions.{IsListenerState, IsUnder, opening_b
 ghost use Rattle.yp_worker.specs.inside.Receptions.{terms_by};
 ghost use Rattle.yp_host.specs.inside.workers.Makings.{SiteBuilds};
 ghost use Rattle.yp_host.specs.workers.Charges.{no_totals, totals_of};
+ghost use Rattle.yp_host.specs.workers.Workers.{WorkerState};
+ghost use Rattle.yp_host.specs.declared.workers.outcome.Totals.{Totals};
 ghost use Rattle.yp_rpc.specs.inside.Turns.{box_by};
-ghost use Rattle.yp_server.specs.Serving.{conduct_at, IsAtStart};
+ghost use Rattle.yp_server.specs.Serving.{conduct_at, IsAtStart, SomeHasRisen};
+ghost use Rattle.yp_server.specs.declared.datagrams.DatagramWorker.{DatagramWorker};
+ghost use Rattle.yp_server.specs.inside.Counting.{BeginsMail};
 ghost use Rattle.yp_server.specs.inside.Serving.{before_work};
-ghost use Rattle.yp_server.specs.inside.Workers.{AreWorkers, AddsWorkers, datagram_worker_of};
+ghost use Rattle.yp_server.specs.inside.Shares.{SharesFor};
+ghost use Rattle.yp_server.specs.inside.Workers.{workers_of, connections_of, datagram_worker_of};
 ghost use Rattle.yp_server.specs.Counting.{CountsAll, count_totals};
 
-use crate::datagrams::{DatagramResources, DatagramWorker, EndedInbox};
-use crate::workers::{ConnectionWorker, ServerWorker, run_workers};
+use crate::datagrams::{DatagramResources, DatagramWorker, EndedInboxes};
+use crate::locks::ListenerBlanks;
+use crate::resources::WorkerMemory;
+use crate::workers::{ConnectionWorker, ServerWorker, Staff, run_workers};
 use std::alloc::Global;
 use std::random::RandomSource;
-use std::sync::ledger::{Blank, Ledger, Share};
+use std::sync::ledger::{Ledger, Share};
 use std::sync::{Mutex, Wait};
 use std::thread::Threads;
 use yp_answer::session::{Buffers, CALLS_MAX};
@@ -28,7 +34,26 @@ use yp_board::Tell;
 use yp_host::workers::{Account, Charges, Journal, SharedDesk, Supplies, WorkerHost};
 use yp_io::{Clock, Dial, Disk, Hall, Inbox, Texts};
 use yp_publisher::sharing::{Accounts, Locked};
+use yp_rpc::Room;
 use yp_worker::{Gate, Listening, Pass, Reception, Tally, Worker};
+
+/// What workers work with: their memory, a reader for each, and the inboxes of those of datagrams, with the most turns
+/// of each.
+#[derive(Drop)]
+pub(crate) struct WorkerResources<I, V> {
+    pub(crate) memory: WorkerMemory,
+    pub(crate) readers: Vec<V>,
+    pub(crate) inboxes: Vec<I>,
+    pub(crate) turns: u64,
+}
+
+/// What is left for workers that aren't made yet: of what they are charged by, and of what they hold of a listener.
+#[derive(Drop)]
+pub(crate) struct WorkerShares<J: Reception + Accounts + Supplies, E: Ledger> {
+    charges: Charges<J>,
+    out: Share<J>,
+    ended: Share<E>,
+}
 
 /// What each worker is lent: the locks of the publisher and of the desk, the journal, where there is one, the gate, and
 /// the most records of a connection.
@@ -98,30 +123,106 @@ impl<
         reader: B::Reader,
         buffers: Buffers,
         carries: bool,
-        charges: &mut Charges<J>,
-        out: &mut Share<J>,
-        ended: &mut Share<E>,
+        shares: &mut WorkerShares<J, E>,
     ) -> ConnectionWorker<J, E, WorkerHost<'a, J, D, B, A, T, C, &'a R>, &'a G>
         requires most { (self.now.most ≡ J.most) × (self.now.most ≤ CALLS_MAX) }
         requires knows { IsAtStart J.catalogue J.starts (B.Reader.seen reader) }
         requires builds { SiteBuilds J.text J.catalogue J.built }
-        requires out { (1 < out.old.parts) × (out.old.amount ≡ 0) }
-        requires ended { (1 < ended.old.parts) × (ended.old.amount ≡ 0) }
-        requires charges { 1 < charges.old.parts }
+        requires out { (1 < shares.old.out.parts) × (shares.old.out.amount ≡ 0) }
+        requires ended { (1 < shares.old.ended.parts) × (shares.old.ended.amount ≡ 0) }
+        requires charges { 1 < shares.old.charges.parts }
         ensures connection_worker { result ≡ before_work }
-        ensures out { (out.new.parts + 1 ≡ out.old.parts) × (out.new.amount ≡ 0) }
-        ensures ended { (ended.new.parts + 1 ≡ ended.old.parts) × (ended.new.amount ≡ 0) }
-        ensures charges { charges.new.parts + 1 ≡ charges.old.parts }
+        ensures out { (shares.new.out.parts + 1 ≡ shares.old.out.parts) × (shares.new.out.amount ≡ 0) }
+        ensures ended { (shares.new.ended.parts + 1 ≡ shares.old.ended.parts) × (shares.new.ended.amount ≡ 0) }
+        ensures charges { shares.new.charges.parts + 1 ≡ shares.old.charges.parts }
     {
-        let worker = self.worker(reader, buffers, charges.split_off(), carries);
+        let worker = self.worker(reader, buffers, shares.charges.split_off(), carries);
         ConnectionWorker::new(
             worker,
-            Pass::new(out.split_off(1, 0), ended.split_off(1, 0)),
+            Pass::new(shares.out.split_off(1, 0), shares.ended.split_off(1, 0)),
         )
     }
 
-    /// Makes a worker of each reader, behind that of the datagrams. The last one does what takes long for all others,
-    /// so where there are too few threads it works behind them.
+    /// A worker of datagrams with these resources, and a part of the charges.
+    fn datagram_worker<I: Inbox>(
+        &self,
+        datagram_resources: DatagramResources<I, B::Reader>,
+        charges: Charges<J>,
+    ) -> DatagramWorker<I, WorkerHost<'a, J, D, B, A, T, C, &'a R>>
+        requires knows { IsAtStart J.catalogue J.starts (B.Reader.seen datagram_resources.reader) }
+        requires builds { SiteBuilds J.text J.catalogue J.built }
+        ensures { result ≡ datagram_worker_of datagram_resources }
+    {
+        let DatagramResources {
+            inbox,
+            turns,
+            reader,
+            room,
+        } = datagram_resources;
+        let host = WorkerHost::new(
+            self.alloc,
+            self.rt,
+            reader,
+            self.publisher,
+            self.desk,
+            charges,
+            self.journal,
+        );
+        DatagramWorker::new(inbox, host, room, turns)
+    }
+
+    /// Makes a worker of each inbox, in their order.
+    fn add_datagram_workers<E: Ledger, I: Inbox + Drop>(
+        &self,
+        all_workers: &mut Vec<
+            ServerWorker<J, E, WorkerHost<'a, J, D, B, A, T, C, &'a R>, &'a G, I>,
+        >,
+        mut rooms: Vec<Room>,
+        mut inboxes: Vec<I>,
+        turns: u64,
+        readers: &mut Vec<B::Reader>,
+        charges: &mut Charges<J>,
+    )
+    where
+        B::Reader: Drop,
+        requires none { all_workers.old.items ≡ [] }
+        requires room { length inboxes.items ≤ vec_capacity all_workers.old }
+        requires rooms { length rooms.items ≡ length inboxes.items }
+        requires readers { length inboxes.items ≤ length readers.old.items }
+        requires knows { All (λ reader. IsAtStart J.catalogue J.starts (B.Reader.seen reader)) readers.old.items }
+        requires builds { SiteBuilds J.text J.catalogue J.built }
+        requires charges { length inboxes.items < charges.old.parts }
+        ensures workers { (datagram_workers : List (DatagramWorker I (WorkerState B.Reader) Totals))
+            × (all_workers.new.items ≡ workers_of datagram_workers 0 before_work)
+            × AllZip (BeginsMail (conduct_at B.Reader.seen B.Reader.stepped J.text J.hosts) count_totals J.catalogue
+            J.starts turns) inboxes.items datagram_workers }
+        ensures count { length all_workers.new.items ≡ length inboxes.items }
+        ensures room { vec_capacity all_workers.new ≡ vec_capacity all_workers.old }
+        ensures readers { length readers.new.items + length inboxes.items ≡ length readers.old.items }
+        ensures knows { All (λ reader. IsAtStart J.catalogue J.starts (B.Reader.seen reader)) readers.new.items }
+        ensures charges { charges.new.parts + length inboxes.items ≡ charges.old.parts }
+    {
+        inboxes.reverse();
+        while let Some(inbox) = inboxes.pop() {
+            let Some(room) = rooms.pop() else {
+                unreachable!();
+            };
+            let Some(reader) = readers.pop() else {
+                unreachable!();
+            };
+            let datagram_resources = DatagramResources {
+                inbox,
+                turns,
+                reader,
+                room,
+            };
+            let datagram_worker = self.datagram_worker(datagram_resources, charges.split_off());
+            all_workers.push_reserved(ServerWorker::Datagrams(datagram_worker));
+        }
+    }
+
+    /// Makes a worker of each reader, behind those of datagrams. The last one does what takes long for all others, so
+    /// where there are too few threads it works behind them.
     fn add_connection_workers<E: Ledger, I>(
         &self,
         all_workers: &mut Vec<
@@ -129,9 +230,7 @@ impl<
         >,
         mut all_buffers: Vec<Buffers>,
         mut readers: Vec<B::Reader>,
-        charges: &mut Charges<J>,
-        out: &mut Share<J>,
-        ended: &mut Share<E>,
+        shares: &mut WorkerShares<J, E>,
     )
     where
         B::Reader: Drop,
@@ -139,77 +238,68 @@ impl<
         requires readers { length readers.items ≡ length all_buffers.items }
         requires knows { All (λ reader. IsAtStart J.catalogue J.starts (B.Reader.seen reader)) readers.items }
         requires builds { SiteBuilds J.text J.catalogue J.built }
-        requires one { length all_workers.old.items ≡ 1 }
-        requires room { length all_buffers.items + 1 ≤ vec_capacity all_workers.old }
-        requires out { (out.old.parts ≡ length all_buffers.items + 2) × (out.old.amount ≡ 0) }
-        requires ended { (ended.old.parts ≡ length all_buffers.items + 1) × (ended.old.amount ≡ 0) }
-        requires charges { length all_buffers.items + 2 ≡ charges.old.parts }
-        ensures all_workers { AddsWorkers before_work all_workers.old.items all_workers.new.items }
-        ensures count { length all_workers.new.items ≡ length all_buffers.items + 1 }
-        ensures out { (out.new.parts ≡ 2) × (out.new.amount ≡ 0) }
-        ensures ended { (ended.new.parts ≡ 1) × (ended.new.amount ≡ 0) }
-        ensures charges { charges.new.parts ≡ 2 }
+        requires room { length all_workers.old.items + length all_buffers.items ≤ vec_capacity all_workers.old }
+        requires shares { SharesFor (length all_buffers.items) 0 shares.old }
+        ensures all_workers { all_workers.new.items
+            ≡ all_workers.old.items ++ connections_of (length all_buffers.items) before_work }
+        ensures shares { SharesFor 0 0 shares.new }
     {
         while let Some(buffers) = all_buffers.pop() {
             let Some(reader) = readers.pop() else {
                 unreachable!();
             };
             let carries = all_buffers.is_empty();
-            let connection_worker = self.connection_worker(
-                reader, buffers, carries, charges, out, ended,
-            );
+            let connection_worker = self.connection_worker(reader, buffers, carries, shares);
             all_workers.push_reserved(ServerWorker::Connections(connection_worker));
         }
     }
 
-    /// Makes the worker of the datagrams, and behind it a worker of each reader.
-    fn add_workers<E: Ledger, I: Inbox>(
+    /// Makes a worker of each inbox, and behind them a worker of each reader that is left.
+    fn add_workers<E: Ledger, I: Inbox + Drop>(
         &self,
         all_workers: &mut Vec<
             ServerWorker<J, E, WorkerHost<'a, J, D, B, A, T, C, &'a R>, &'a G, I>,
         >,
-        all_buffers: Vec<Buffers>,
-        readers: Vec<B::Reader>,
-        datagram_resources: DatagramResources<I, B::Reader>,
-        charges: &mut Charges<J>,
-        out: &mut Share<J>,
-        ended: &mut Share<E>,
+        worker_resources: WorkerResources<I, B::Reader>,
+        shares: &mut WorkerShares<J, E>,
     )
     where
         B::Reader: Drop,
         requires most { (self.now.most ≡ J.most) × (self.now.most ≤ CALLS_MAX) }
-        requires readers { length readers.items ≡ length all_buffers.items }
-        requires knows { All (λ reader. IsAtStart J.catalogue J.starts (B.Reader.seen reader)) readers.items }
-        requires datagram_resources { IsAtStart J.catalogue J.starts (B.Reader.seen datagram_resources.reader) }
+        requires rooms { length worker_resources.memory.rooms.items ≡ length worker_resources.inboxes.items }
+        requires readers { length worker_resources.readers.items
+            ≡ length worker_resources.memory.all_buffers.items + length worker_resources.inboxes.items }
+        requires knows { All (λ reader. IsAtStart J.catalogue J.starts (B.Reader.seen reader))
+            worker_resources.readers.items }
         requires builds { SiteBuilds J.text J.catalogue J.built }
         requires none { all_workers.old.items ≡ [] }
-        requires room { length all_buffers.items + 1 ≤ vec_capacity all_workers.old }
-        requires out { (out.old.parts ≡ length all_buffers.items + 2) × (out.old.amount ≡ 0) }
-        requires ended { (ended.old.parts ≡ length all_buffers.items + 1) × (ended.old.amount ≡ 0) }
-        requires charges { length all_buffers.items + 3 ≡ charges.old.parts }
-        ensures manned { AreWorkers (datagram_worker_of datagram_resources) before_work all_workers.new.items }
-        ensures count { length all_workers.new.items ≡ length all_buffers.items + 1 }
-        ensures out { (out.new.parts ≡ 2) × (out.new.amount ≡ 0) }
-        ensures ended { (ended.new.parts ≡ 1) × (ended.new.amount ≡ 0) }
-        ensures charges { charges.new.parts ≡ 2 }
+        requires room { length worker_resources.memory.all_buffers.items + length worker_resources.inboxes.items
+            ≤ vec_capacity all_workers.old }
+        requires shares { SharesFor (length worker_resources.memory.all_buffers.items)
+            (length worker_resources.inboxes.items) shares.old }
+        ensures workers { (datagram_workers : List (DatagramWorker I (WorkerState B.Reader) Totals))
+            × (all_workers.new.items ≡ workers_of datagram_workers
+            (length worker_resources.memory.all_buffers.items) before_work)
+            × AllZip (BeginsMail (conduct_at B.Reader.seen B.Reader.stepped J.text J.hosts) count_totals J.catalogue
+            J.starts worker_resources.turns) worker_resources.inboxes.items datagram_workers }
+        ensures shares { SharesFor 0 0 shares.new }
     {
-        let host = WorkerHost::new(
-            self.alloc,
-            self.rt,
-            datagram_resources.reader,
-            self.publisher,
-            self.desk,
-            charges.split_off(),
-            self.journal,
+        let WorkerResources {
+            memory,
+            mut readers,
+            inboxes,
+            turns,
+        } = worker_resources;
+        let WorkerMemory { all_buffers, rooms } = memory;
+        self.add_datagram_workers(
+            all_workers,
+            rooms,
+            inboxes,
+            turns,
+            &mut readers,
+            &mut shares.charges,
         );
-        let datagram_worker = DatagramWorker::new(
-            datagram_resources.inbox,
-            host,
-            datagram_resources.room,
-            datagram_resources.turns,
-        );
-        all_workers.push_reserved(ServerWorker::Datagrams(datagram_worker));
-        self.add_connection_workers(all_workers, all_buffers, readers, charges, out, ended);
+        self.add_connection_workers(all_workers, all_buffers, readers, shares);
     }
 }
 
@@ -224,20 +314,16 @@ impl<
     G: Gate + Sync,
     R: Threads + Wait + RandomSource + Sync,
 > WorkerMaker<'a, J, D, B, A, T, C, G, R> {
-    /// Serves the connections of a listener by workers in threads, one for each of these buffers, which have room in
-    /// `all_workers`, and the datagrams of an inbox beside them. One of the workers does what takes long for the
-    /// others.
+    /// Serves the connections of a listener and the datagrams of inboxes by workers in threads, which have room here.
+    /// One of the workers does what takes long for the others.
     pub(crate) fn serve<E: Ledger + Send + Sync, L: Hall + Send, I: Inbox + Send + Drop>(
         &self,
-        mut all_workers: Vec<ServerWorker<J, E, WorkerHost<'a, J, D, B, A, T, C, &'a R>, &'a G, I>>,
-        all_buffers: Vec<Buffers>,
-        readers: Vec<B::Reader>,
+        mut staff: Staff<J, E, WorkerHost<'a, J, D, B, A, T, C, &'a R>, &'a G, I>,
+        worker_resources: WorkerResources<I, B::Reader>,
         listen: L,
-        out: Blank,
-        ended: Blank,
-        mut charges: Charges<J>,
-        datagram_resources: DatagramResources<I, B::Reader>,
-    ) -> (L, Tally, EndedInbox<I>, Account<J, B>)
+        blanks: ListenerBlanks,
+        charges: Charges<J>,
+    ) -> (L, Tally, EndedInboxes<I>, Account<J, B>)
     where
         B::Reader: Send + Drop,
         B::Front: Send,
@@ -250,43 +336,55 @@ impl<
         A::In: Send,
         A::Out: Send,
         requires most { (self.now.most ≡ J.most) × (self.now.most ≤ CALLS_MAX) }
-        requires readers { length readers.items ≡ length all_buffers.items }
-        requires knows { All (λ reader. IsAtStart J.catalogue J.starts (B.Reader.seen reader)) readers.items }
+        requires rooms { length worker_resources.memory.rooms.items ≡ length worker_resources.inboxes.items }
+        requires readers { length worker_resources.readers.items
+            ≡ length worker_resources.memory.all_buffers.items + length worker_resources.inboxes.items }
+        requires knows { All (λ reader. IsAtStart J.catalogue J.starts (B.Reader.seen reader))
+            worker_resources.readers.items }
         requires builds { SiteBuilds J.text J.catalogue J.built }
-        requires none { all_workers.items ≡ [] }
-        requires some { (0 < length all_buffers.items) × (length all_buffers.items ≤ workers_max + 1) }
-        requires room { length all_buffers.items + 1 ≤ vec_capacity all_workers }
+        requires none { (staff.all_workers.items ≡ []) × (staff.datagram_workers.items ≡ [])
+            × (staff.inboxes.items ≡ []) }
+        requires some { (0 < length worker_resources.memory.all_buffers.items)
+            × (length worker_resources.memory.all_buffers.items ≤ workers_max + 1) }
+        requires room { (length worker_resources.memory.all_buffers.items + length worker_resources.inboxes.items
+            ≤ vec_capacity staff.all_workers)
+            × (length worker_resources.inboxes.items ≤ vec_capacity staff.datagram_workers)
+            × (length worker_resources.inboxes.items ≤ vec_capacity staff.inboxes) }
         requires opening { opening_by L.Hall listen ≡ J.opening }
-        requires out { (out.name ≡ J.name) × (out.parts ≡ J.parts) × (out.parts ≡ length all_buffers.items + 2) }
-        requires ended { (ended.name ≡ E.name) × (ended.parts ≡ E.parts)
-            × (ended.parts ≡ length all_buffers.items + 1) }
-        requires charges { charges.parts ≡ length all_buffers.items + 3 }
-        requires datagram_resources { IsAtStart J.catalogue J.starts (B.Reader.seen datagram_resources.reader) }
+        requires out { (blanks.out.name ≡ J.name) × (blanks.out.parts ≡ J.parts)
+            × (blanks.out.parts ≡ length worker_resources.memory.all_buffers.items + 2) }
+        requires ended { (blanks.ended.name ≡ E.name) × (blanks.ended.parts ≡ E.parts)
+            × (blanks.ended.parts ≡ length worker_resources.memory.all_buffers.items + 1) }
+        requires charges { charges.parts ≡ length worker_resources.memory.all_buffers.items
+            + length worker_resources.inboxes.items + 2 }
         ensures kept { IsListenerState J.opening (opening_by L.Hall result.0) result.1.connections
             result.1.listen_fault 0 1 }
         ensures counted { (log : Log) → IsFront result.3.reached log
             → CountsAll (conduct_at B.Reader.seen B.Reader.stepped J.text J.hosts) count_totals
             (terms_by J.Reception) J.opening (opening_by L.Hall result.0) result.1.calls log
-            datagram_resources.turns result.2.fault
-            (box_by I.Inbox datagram_resources.inbox) (box_by I.Inbox result.2.inbox) result.3.totals }
-        ensures cause { result.2.fault ≡ true → HasRisen (I.faults datagram_resources.inbox) (I.faults result.2.inbox) }
+            worker_resources.turns result.2.fault (map (box_by I.Inbox) worker_resources.inboxes.items)
+            (map (box_by I.Inbox) result.2.inboxes.items) result.3.totals }
+        ensures cause { result.2.fault ≡ true
+            → SomeHasRisen (map I.faults worker_resources.inboxes.items) (map I.faults result.2.inboxes.items) }
     {
-        let (book, mut share) = out.open::<J>();
-        let (ends, mut mine) = ended.open::<E>();
-        let workers = all_buffers.len() as u32 - 1;
-        let front = B::known(&datagram_resources.reader);
-        self.add_workers(
-            &mut all_workers,
-            all_buffers,
-            readers,
-            datagram_resources,
-            &mut charges,
-            &mut share,
-            &mut mine,
-        );
-        let held = share.split_off(1, 0);
+        let (book, out) = blanks.out.open::<J>();
+        let (ends, ended) = blanks.ended.open::<E>();
+        let workers = worker_resources.memory.all_buffers.len() as u32 - 1;
+        let front = B::known(&worker_resources.readers[0]);
+        let mut shares = WorkerShares {
+            charges,
+            out,
+            ended,
+        };
+        self.add_workers(&mut staff.all_workers, worker_resources, &mut shares);
+        let WorkerShares {
+            charges,
+            mut out,
+            ended,
+        } = shares;
+        let held = out.split_off(1, 0);
         let account = Account::new(charges, front);
         let listening = Listening::new(self.alloc, listen, book, ends, account, held, workers);
-        run_workers(self.rt, listening, all_workers, Pass::new(share, mine))
+        run_workers(self.rt, listening, staff, Pass::new(out, ended))
     }
 }

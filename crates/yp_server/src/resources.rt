@@ -1,6 +1,6 @@
 //! What workers are lent, and how it comes back.
 
-ghost use Rattle.std.specs.Prelude.{◌≡◌, ℕ, ◌+◌, ◌≤◌, [], ◌∷◌, ◌++◌, length, vec_len, IfOk};
+ghost use Rattle.std.specs.Prelude.{◌≡◌, ℕ, ◌+◌, ◌≤◌, length, IfOk};
 ghost use Rattle.yp_board.specs.Views.{IsFront};
 ghost use Rattle.yp_board.specs.readers.Boards.{workers_max};
 ghost use Rattle.yp_server.specs.Serving.{DisksStand};
@@ -13,7 +13,7 @@ ghost use Rattle.yp_publisher.specs.Grown.{AreTold};
 ghost use Rattle.yp_publisher.specs.sharing.Failures.{disks_of, faults_over};
 ghost use Rattle.yp_server.specs.Origins.{Stems};
 
-use crate::spec::ServeRefused;
+use crate::spec::{ServeRefused, ServerResources};
 use std::alloc::Global;
 use std::sync::ledger::Share;
 use yp_answer::session::Buffers;
@@ -24,36 +24,30 @@ use yp_publisher::Publisher;
 use yp_publisher::sharing::{Accounts, Debits, FetchedVersions, Locked, Site};
 use yp_rpc::Room;
 
-/// What all workers share.
-#[derive(Drop)]
-pub(crate) struct ServerResources<D: Disk, B: Show, A, T, C, L, I> {
-    pub(crate) publisher: Publisher<D, B>,
-    pub(crate) desk: Desk<A, T, C>,
-    pub(crate) listen: L,
-    pub(crate) inbox: I,
-}
-
 /// What is handed back where memory has run out.
-pub(crate) fn refuse<D: Disk, B: Show + Drop, A, T, C, L, I>(
+pub(crate) fn refuse<D: Disk, B: Tell + Drop, A, T, C, L, I>(
     resources: ServerResources<D, B, A, T, C, L, I>,
 ) -> ServeRefused<D, A, T, C, L, I>
+where
+    B::Reader: Drop,
     ensures desk { result.desk ≡ resources.desk }
     ensures listen { result.listen ≡ resources.listen }
-    ensures inbox { result.inbox ≡ resources.inbox }
+    ensures inboxes { result.inboxes ≡ resources.inboxes }
     ensures disks { result.disks.items ≡ disks_of resources.publisher.maps }
 {
     let ServerResources {
         publisher,
+        readers: _,
         desk,
         listen,
-        inbox,
+        inboxes,
     } = resources;
     let (disks, _) = disassemble(publisher);
     ServeRefused {
         disks,
         desk,
         listen,
-        inbox,
+        inboxes,
     }
 }
 
@@ -91,53 +85,48 @@ pub(crate) fn take_apart<S: Site + Accounts, D: Disk, B: Tell>(
     (disks, board, versions)
 }
 
-/// What workers work with: the memory for records and replies and a reader for each, and what the worker of datagrams
-/// works with.
+/// The memory of workers: for the records and replies of each worker of connections, and for a datagram and its reply
+/// of each worker of datagrams.
 #[derive(Drop)]
-pub(crate) struct WorkerResources<V> {
+pub(crate) struct WorkerMemory {
     pub(crate) all_buffers: Vec<Buffers>,
-    pub(crate) readers: Vec<V>,
-    pub(crate) spare: V,
-    pub(crate) room: Room,
+    pub(crate) rooms: Vec<Room>,
 }
 
-impl<V: Drop> WorkerResources<V> {
-    /// The resources of this many workers of connections and of the one that does what takes long for them, and one
-    /// reader more for the worker of datagrams.
-    pub(crate) fn of(
+impl WorkerMemory {
+    /// The memory of so many workers of connections, and of so many of datagrams.
+    pub(crate) fn new(
         alloc: Global,
-        mut readers: Vec<V>,
-        workers: u32,
-    ) -> Result<WorkerResources<V>, NoMemory>
-        requires readers { vec_len readers ≡ workers + 2 }
-        requires workers { workers ≤ workers_max }
-        ensures all_buffers { IfOk result (λ worker_resources.
-            length worker_resources.all_buffers.items ≡ workers + 1) }
-        ensures readers { IfOk result (λ worker_resources. length worker_resources.readers.items ≡ workers + 1) }
-        ensures all { IfOk result (λ worker_resources. readers.items
-            ≡ worker_resources.readers.items ++ worker_resources.spare ∷ []) }
+        workers: usize,
+        inboxes: usize,
+    ) -> Result<WorkerMemory, NoMemory>
+        ensures all_buffers { IfOk result (λ memory. length memory.all_buffers.items ≡ workers) }
+        ensures rooms { IfOk result (λ memory. length memory.rooms.items ≡ inboxes) }
     {
-        let Some(spare) = readers.pop() else {
-            unreachable!();
-        };
-        let all_buffers = buffers_of(alloc, workers + 1)?;
-        let room = Room::new(alloc)?;
-        Ok(WorkerResources {
-            all_buffers,
-            readers,
-            spare,
-            room,
-        })
+        let all_buffers = buffers_of(alloc, workers)?;
+        let rooms = rooms_of(alloc, inboxes)?;
+        Ok(WorkerMemory { all_buffers, rooms })
     }
 }
 
-/// The memory of so many workers.
-fn buffers_of(alloc: Global, count: u32) -> Result<Vec<Buffers>, NoMemory>
+/// The memory of so many workers of connections.
+fn buffers_of(alloc: Global, count: usize) -> Result<Vec<Buffers>, NoMemory>
     ensures { IfOk result (λ all_buffers. length all_buffers.items ≡ count) }
 {
-    let mut all_buffers = Vec::with_capacity(alloc, count as usize).map_err(|_| NoMemory)?;
+    let mut all_buffers = Vec::with_capacity(alloc, count).map_err(|_| NoMemory)?;
     for _ in 0..count {
         all_buffers.push_reserved(Buffers::new(alloc)?);
     }
     Ok(all_buffers)
+}
+
+/// The memory of so many workers of datagrams.
+fn rooms_of(alloc: Global, count: usize) -> Result<Vec<Room>, NoMemory>
+    ensures { IfOk result (λ rooms. length rooms.items ≡ count) }
+{
+    let mut rooms = Vec::with_capacity(alloc, count).map_err(|_| NoMemory)?;
+    for _ in 0..count {
+        rooms.push_reserved(Room::new(alloc)?);
+    }
+    Ok(rooms)
 }

@@ -1,8 +1,7 @@
 //! Serving, from what is lent to workers to what comes back.
 
-ghost use Rattle.std.specs.Prelude.{◌≡◌, ◌≤◌, ◌<◌, ◌+◌, true, false, length, vec_len, IfOk, IfErr};
+ghost use Rattle.std.specs.Prelude.{◌≡◌, ◌≤◌, ◌<◌, ◌+◌, ◌^◌, true, false, length, map, vec_len, IfOk, IfErr};
 ghost use Rattle.std.specs.List.{All};
-ghost use Rattle.yp_io.specs.Counts.{HasRisen};
 ghost use Rattle.yp_board.specs.Views.{IsFront};
 ghost use Rattle.yp_board.specs.readers.Boards.{workers_max};
 ghost use Rattle.yp_host.specs.inside.workers.Desks.{IsSupplied};
@@ -13,7 +12,7 @@ ghost use Rattle.yp_publisher.specs.Grown.{AreTold};
 ghost use Rattle.yp_publisher.specs.Rising.{publisher_state, IsRisingLog};
 ghost use Rattle.yp_publisher.specs.inside.Rising.{IsStart};
 ghost use Rattle.yp_publisher.specs.sharing.Failures.{disks_of, faults_over};
-ghost use Rattle.yp_server.specs.Serving.{conduct_at, IsAtStart, DisksStand, ServesDatagrams};
+ghost use Rattle.yp_server.specs.Serving.{conduct_at, IsAtStart, DisksStand, ServesInboxes, SomeHasRisen};
 ghost use Rattle.yp_host.specs.workers.Charges.{totals_of};
 ghost use Rattle.yp_host.specs.workers.Makings.{IsBuiltAsNamed};
 ghost use Rattle.yp_host.specs.inside.workers.Makings.{SiteBuilds};
@@ -24,41 +23,35 @@ ghost use Rattle.yp_host.specs.inside.workers.Uses.{dial_told};
 ghost use Rattle.yp_server.specs.Counting.{count_totals, CountsAll, FilesAreCovered};
 ghost use Rattle.yp_server.specs.Origins.{ComesFrom};
 
-use crate::datagrams::DatagramResources;
 use crate::locks::{Blanks, lock_up, unlock};
-use crate::preparing::WorkerMaker;
-use crate::resources::{ServerResources, WorkerResources, refuse};
-use crate::spec::{ServeRefused, ServeSpec, Served};
+use crate::preparing::{WorkerMaker, WorkerResources};
+use crate::resources::{WorkerMemory, refuse};
+use crate::spec::{ServeRefused, ServeSpec, Served, ServerResources};
+use crate::workers::Staff;
 use std::alloc::Global;
 use std::marker::Brand;
 use std::random::RandomSource;
-use std::sync::ledger::{Blank, Ledger};
+use std::sync::ledger::Ledger;
 use std::sync::{Mutex, Wait};
 use std::thread::Threads;
 use yp_answer::session::CALLS_MAX;
 use yp_board::Tell;
-use yp_host::Desk;
 use yp_host::workers::{Journal, Supplies};
 use yp_io::{Clock, Dial, Disk, Hall, Inbox, Texts};
-use yp_publisher::Publisher;
 use yp_publisher::sharing::Accounts;
 use yp_worker::{Gate, Reception};
 
-/// Serves the connections of a listener and the datagrams of an inbox, over maps and a desk that all workers share:
-/// connections until as many were accepted as are to be or the listener has failed, datagrams until all turns are taken
-/// or the inbox has failed. Each worker has a thread of its own, and the datagrams have one more. One worker more, in a
-/// thread of its own, too, does for the others what takes long: makes and transfers, in the connections that they leave
-/// to it. Where a thread can't be started, its work is done in another's.
+/// Serves the connections of a listener and the datagrams of inboxes, over maps and a desk that all workers share:
+/// connections until as many were accepted as are to be or the listener has failed, the datagrams of an inbox until all
+/// its turns are taken or it has failed. Each worker has a thread of its own, and each inbox has one more. One worker
+/// more, in a thread of its own, too, does for those of connections what takes long: makes and transfers, in the
+/// connections that they leave to it. Where a thread can't be started, its work is done in another's.
 ///
-/// There are two readers more than workers of connections. Where there is a journal, the workers tell it what they do.
+/// Where there is a journal, the workers tell it what they do.
 pub fn serve<D, B, A, T, C, L, I, G, R>(
     alloc: Global,
     rt: &R,
-    publisher: Publisher<D, B>,
-    readers: Vec<B::Reader>,
-    desk: Desk<A, T, C>,
-    listen: L,
-    inbox: I,
+    resources: ServerResources<D, B, A, T, C, L, I>,
     spec: &ServeSpec,
     journal: Option<&Mutex<Journal>>,
     gate: &G,
@@ -84,104 +77,105 @@ where
     G: Gate + Sync,
     R: Threads + Wait + RandomSource + Sync,
     requires workers { (1 ≤ spec.now.workers) × (spec.now.workers ≤ workers_max) }
-    requires readers { vec_len readers ≡ spec.now.workers + 2 }
-    requires starts { All (λ reader. IsAtStart publisher.catalogue (B.log publisher.board) (B.Reader.seen reader))
-        readers.items }
+    requires inboxes { (1 ≤ vec_len resources.inboxes) × (vec_len resources.inboxes < 2 ^ 32) }
+    requires readers { vec_len resources.readers ≡ spec.now.workers + 1 + vec_len resources.inboxes }
+    requires starts { All (λ reader. IsAtStart resources.publisher.catalogue (B.log resources.publisher.board)
+        (B.Reader.seen reader)) resources.readers.items }
     requires most { spec.now.most ≤ CALLS_MAX }
 
     // All connections were closed that came.
-    ensures gone { IfOk result (λ served. IsListenerState (opening_by L.Hall listen)
+    ensures gone { IfOk result (λ served. IsListenerState (opening_by L.Hall resources.listen)
         (opening_by L.Hall served.listen)
         served.tally.connections served.tally.listen_fault 0 1) }
 
     // Where the listener hasn't failed, as many were accepted as were to be.
     ensures all { IfOk result (λ served. served.tally.listen_fault ≡ false
-        → L.accepted served.listen ≡ L.most listen) }
+        → L.accepted served.listen ≡ L.most resources.listen) }
 
-    // What was sent of the inbox for what came, on what a worker knew that began with the start.
-    ensures datagrams { IfOk result (λ served. ServesDatagrams
-        (conduct_at B.Reader.seen B.Reader.stepped (T.text desk.texts) desk.hosts) totals_of
-        publisher.catalogue (B.log publisher.board) (B.log served.writer) spec.now.turns served.inbox_fault
-        (box_by I.Inbox inbox) (box_by I.Inbox served.inbox)) }
+    // What was sent of each inbox for what came, on what a worker knew that began with the start.
+    ensures datagrams { IfOk result (λ served. ServesInboxes
+        (conduct_at B.Reader.seen B.Reader.stepped (T.text resources.desk.texts) resources.desk.hosts) totals_of
+        resources.publisher.catalogue (B.log resources.publisher.board) (B.log served.writer)
+        spec.now.turns served.inbox_fault
+        (map (box_by I.Inbox) resources.inboxes.items) (map (box_by I.Inbox) served.inboxes.items)) }
     ensures inbox_fault { IfOk result (λ served. served.inbox_fault ≡ true
-        → HasRisen (I.faults inbox) (I.faults served.inbox)) }
+        → SomeHasRisen (map I.faults resources.inboxes.items) (map I.faults served.inboxes.items)) }
 
     // How each map stands then. From a start the orders of each map rise, where the disks tell what a crash may leave.
-    ensures maps { IfOk result (λ served. DisksStand D.history publisher.catalogue (B.log served.writer)
+    ensures maps { IfOk result (λ served. DisksStand D.history resources.publisher.catalogue (B.log served.writer)
         served.disks.items) }
-    ensures grown { IfOk result (λ served. IsFront (B.log publisher.board) (B.log served.writer)) }
-    ensures rises { IfOk result (λ served. IsStart (publisher_state B.log publisher)
+    ensures grown { IfOk result (λ served. IsFront (B.log resources.publisher.board) (B.log served.writer)) }
+    ensures rises { IfOk result (λ served. IsStart (publisher_state B.log resources.publisher)
         → AreTold D.history served.disks.items → IsRisingLog (B.log served.writer)) }
-    ensures desk { IfOk result (λ served. IsSupplied T.Texts (T.text desk.texts) desk.hosts served.desk) }
+    ensures desk { IfOk result (λ served. IsSupplied T.Texts (T.text resources.desk.texts) resources.desk.hosts
+        served.desk) }
 
     // What each worker did, step by step, and how each of its connections stood as it was closed; each datagram; what
     // all workers counted; and what bounds it: FILEs are at most as many as the faults of the texts and of the disks,
     // orders that were reached as the wires that begin with one, and failed sources as the faults of the dial and the
     // wires that give no version.
     ensures counted { IfOk result (λ served. CountsAll
-        (conduct_at B.Reader.seen B.Reader.stepped (T.text desk.texts) desk.hosts) count_totals
-        (terms_of publisher.catalogue (B.log publisher.board) spec.now.most)
-        (opening_by L.Hall listen) (opening_by L.Hall served.listen)
+        (conduct_at B.Reader.seen B.Reader.stepped (T.text resources.desk.texts) resources.desk.hosts) count_totals
+        (terms_of resources.publisher.catalogue (B.log resources.publisher.board) spec.now.most)
+        (opening_by L.Hall resources.listen) (opening_by L.Hall served.listen)
         served.tally.calls (B.log served.writer) spec.now.turns served.inbox_fault
-        (box_by I.Inbox inbox) (box_by I.Inbox served.inbox) served.totals) }
+        (map (box_by I.Inbox) resources.inboxes.items) (map (box_by I.Inbox) served.inboxes.items) served.totals) }
     ensures files { IfOk result (λ served. FilesAreCovered D.history D.faults
-        (T.faults desk.texts) (T.faults served.desk.texts)
-        (disks_of publisher.maps) served.disks.items served.totals) }
-    ensures orders { IfOk result (λ served. CoversOrders (A.past desk.dial) (A.past served.desk.dial)
+        (T.faults resources.desk.texts) (T.faults served.desk.texts)
+        (disks_of resources.publisher.maps) served.disks.items served.totals) }
+    ensures orders { IfOk result (λ served. CoversOrders (A.past resources.desk.dial) (A.past served.desk.dial)
         served.totals.outcomes.reached) }
-    ensures sources { IfOk result (λ served. CoversSources (A.past desk.dial) (A.past served.desk.dial)
-        (A.faults desk.dial) (A.faults served.desk.dial) served.totals.outcomes.source) }
+    ensures sources { IfOk result (λ served. CoversSources (A.past resources.desk.dial) (A.past served.desk.dial)
+        (A.faults resources.desk.dial) (A.faults served.desk.dial) served.totals.outcomes.source) }
 
     // Where what was shown came from: so many makes were answered SUCC, and all else was fetched.
-    ensures origins { IfOk result (λ served. IsStart (publisher_state B.log publisher)
+    ensures origins { IfOk result (λ served. IsStart (publisher_state B.log resources.publisher)
         → AreTold D.history served.disks.items → ComesFrom D.history
-        (IsBuiltAsNamed (T.text desk.texts) publisher.catalogue) (publisher_state B.log publisher) publisher.catalogue
-        (B.log served.writer) served.disks.items served.totals.made (A.past desk.dial) (A.past served.desk.dial)) }
+        (IsBuiltAsNamed (T.text resources.desk.texts) resources.publisher.catalogue)
+        (publisher_state B.log resources.publisher) resources.publisher.catalogue
+        (B.log served.writer) served.disks.items served.totals.made
+        (A.past resources.desk.dial) (A.past served.desk.dial)) }
 
     // Whom the dial asked, what for, and whom it told what: it was used for transfers of the maps alone.
-    ensures dialed { IfOk result (λ served. IsUsedForTransfers desk.hosts publisher.catalogue.maps
-        (dial_by A.Dial desk.dial) (dial_by A.Dial served.desk.dial)) }
+    ensures dialed { IfOk result (λ served. IsUsedForTransfers resources.desk.hosts resources.publisher.catalogue.maps
+        (dial_by A.Dial resources.desk.dial) (dial_by A.Dial served.desk.dial)) }
 
     // Want of memory, before a connection was accepted or a turn was taken. Nothing has changed.
-    ensures refused { IfErr result (λ refused. (refused.desk ≡ desk) × (refused.listen ≡ listen)
-        × (refused.inbox ≡ inbox)) }
-    ensures disks { IfErr result (λ refused. refused.disks.items ≡ disks_of publisher.maps) }
+    ensures refused { IfErr result (λ refused. (refused.desk ≡ resources.desk) × (refused.listen ≡ resources.listen)
+        × (refused.inboxes ≡ resources.inboxes)) }
+    ensures disks { IfErr result (λ refused. refused.disks.items ≡ disks_of resources.publisher.maps) }
 {
-    let resources = ServerResources {
-        publisher,
-        desk,
-        listen,
-        inbox,
-    };
-    let Ok(worker_resources) = WorkerResources::of(alloc, readers, spec.workers) else {
+    let workers = spec.workers as usize + 1;
+    let inboxes = resources.inboxes.len();
+    let Ok(memory) = WorkerMemory::new(alloc, workers, inboxes) else {
         return Err(refuse(resources));
     };
-    let parts = spec.workers as u64 + 2;
-    under_locks::<Brand, Brand, D, B, A, T, C, L, I, G, R>(
+    let setting = Setting {
         alloc,
         rt,
-        resources,
-        worker_resources,
-        spec,
+        spec: *spec,
         journal,
         gate,
-        Blank::new(parts + 1),
-        Blank::new(parts),
-        Blanks::new(parts + 2),
-    )
+    };
+    let blanks = Blanks::new(workers as u64, inboxes as u64);
+    under_locks::<Brand, Brand, D, B, A, T, C, L, I, G, R>(setting, resources, memory, blanks)
+}
+
+/// What a server has all the time that it serves: what it is to do, the journal, where there is one, and the gate.
+#[derive(Drop)]
+struct Setting<'a, G, R> {
+    alloc: Global,
+    rt: &'a R,
+    spec: ServeSpec,
+    journal: Option<&'a Mutex<Journal>>,
+    gate: &'a G,
 }
 
 /// Lends all to workers, under two locks, and takes it apart again.
 fn under_locks<J, E, D, B, A, T, C, L, I, G, R>(
-    alloc: Global,
-    rt: &R,
+    setting: Setting<'_, G, R>,
     resources: ServerResources<D, B, A, T, C, L, I>,
-    worker_resources: WorkerResources<B::Reader>,
-    spec: &ServeSpec,
-    journal: Option<&Mutex<Journal>>,
-    gate: &G,
-    out: Blank,
-    ended: Blank,
+    memory: WorkerMemory,
     blanks: Blanks,
 ) -> Result<Served<D, B, A, T, C, L, I>, ServeRefused<D, A, T, C, L, I>>
 where
@@ -210,25 +204,26 @@ where
     requires starts { B.log resources.publisher.board ≡ J.starts }
     requires supplied { IsSupplied T.Texts J.text J.hosts resources.desk }
     requires opening { opening_by L.Hall resources.listen ≡ J.opening }
-    requires most { (spec.now.most ≡ J.most) × (spec.now.most ≤ CALLS_MAX) }
-    requires some { (0 < length worker_resources.all_buffers.items)
-        × (length worker_resources.all_buffers.items ≤ workers_max + 1) }
-    requires readers { length worker_resources.readers.items ≡ length worker_resources.all_buffers.items }
-    requires know { All (λ reader. IsAtStart J.catalogue J.starts (B.Reader.seen reader))
-        worker_resources.readers.items }
-    requires spare { IsAtStart J.catalogue J.starts (B.Reader.seen worker_resources.spare) }
-    requires out { (out.name ≡ J.name) × (out.parts ≡ J.parts)
-        × (out.parts ≡ length worker_resources.all_buffers.items + 2) }
-    requires ended { (ended.name ≡ E.name) × (ended.parts ≡ E.parts)
-        × (ended.parts ≡ length worker_resources.all_buffers.items + 1) }
+    requires most { (setting.spec.most ≡ J.most) × (setting.spec.most ≤ CALLS_MAX) }
+    requires some { (0 < length memory.all_buffers.items)
+        × (length memory.all_buffers.items ≤ workers_max + 1) }
+    requires inboxes { (0 < length resources.inboxes.items) × (length resources.inboxes.items < 2 ^ 32) }
+    requires rooms { length memory.rooms.items ≡ length resources.inboxes.items }
+    requires readers { length resources.readers.items
+        ≡ length memory.all_buffers.items + length resources.inboxes.items }
+    requires know { All (λ reader. IsAtStart J.catalogue J.starts (B.Reader.seen reader)) resources.readers.items }
+    requires out { (blanks.listener.out.name ≡ J.name) × (blanks.listener.out.parts ≡ J.parts)
+        × (J.parts ≡ length memory.all_buffers.items + 2) }
+    requires ended { (blanks.listener.ended.name ≡ E.name) × (blanks.listener.ended.parts ≡ E.parts)
+        × (E.parts ≡ length memory.all_buffers.items + 1) }
     requires builds { SiteBuilds J.text J.catalogue J.built }
-    requires unread { (blanks.unread.name ≡ J.unread) × (blanks.unread.parts ≡ J.shares)
-        × (J.shares ≡ length worker_resources.all_buffers.items + 3) }
-    requires orders { (blanks.orders.name ≡ J.orders) × (blanks.orders.parts ≡ J.shares) }
-    requires sources { (blanks.sources.name ≡ J.sources) × (blanks.sources.parts ≡ J.shares) }
-    requires failures { (blanks.failures.name ≡ J.failures) × (blanks.failures.parts ≡ J.shares) }
-    requires made { (blanks.made.name ≡ J.made) × (blanks.made.parts ≡ J.shares) }
-    requires versions { (blanks.versions.name ≡ J.versions) × (blanks.versions.parts ≡ J.shares + 1) }
+    requires unread { (blanks.charges.unread.name ≡ J.unread) × (blanks.charges.unread.parts ≡ J.shares)
+        × (J.shares ≡ length memory.all_buffers.items + length resources.inboxes.items + 2) }
+    requires orders { (blanks.charges.orders.name ≡ J.orders) × (blanks.charges.orders.parts ≡ J.shares) }
+    requires sources { (blanks.charges.sources.name ≡ J.sources) × (blanks.charges.sources.parts ≡ J.shares) }
+    requires failures { (blanks.charges.failures.name ≡ J.failures) × (blanks.charges.failures.parts ≡ J.shares) }
+    requires made { (blanks.charges.made.name ≡ J.made) × (blanks.charges.made.parts ≡ J.shares) }
+    requires versions { (blanks.charges.versions.name ≡ J.versions) × (blanks.charges.versions.parts ≡ J.shares + 1) }
     requires texts { T.faults resources.desk.texts ≡ J.text_faults }
     requires dial { (A.past resources.desk.dial ≡ J.wires) × (A.faults resources.desk.dial ≡ J.dial_faults)
         × (A.letters resources.desk.dial ≡ J.letters) }
@@ -236,12 +231,12 @@ where
     requires first { publisher_state B.log resources.publisher ≡ J.first }
     ensures gone { IfOk result (λ served. IsListenerState J.opening (opening_by L.Hall served.listen)
         served.tally.connections served.tally.listen_fault 0 1) }
-    ensures datagrams { IfOk result (λ served. ServesDatagrams
+    ensures datagrams { IfOk result (λ served. ServesInboxes
         (conduct_at B.Reader.seen B.Reader.stepped J.text J.hosts) totals_of
-        J.catalogue J.starts (B.log served.writer) spec.now.turns served.inbox_fault
-        (box_by I.Inbox resources.inbox) (box_by I.Inbox served.inbox)) }
+        J.catalogue J.starts (B.log served.writer) setting.entry.spec.turns served.inbox_fault
+        (map (box_by I.Inbox) resources.inboxes.items) (map (box_by I.Inbox) served.inboxes.items)) }
     ensures inbox_fault { IfOk result (λ served. served.inbox_fault ≡ true
-        → HasRisen (I.faults resources.inbox) (I.faults served.inbox)) }
+        → SomeHasRisen (map I.faults resources.inboxes.items) (map I.faults served.inboxes.items)) }
     ensures maps { IfOk result (λ served. DisksStand D.history J.catalogue (B.log served.writer) served.disks.items) }
     ensures grown { IfOk result (λ served. IsFront J.starts (B.log served.writer)) }
     ensures rises { IfOk result (λ served. IsStart J.first → AreTold D.history served.disks.items
@@ -249,8 +244,9 @@ where
     ensures desk { IfOk result (λ served. IsSupplied T.Texts J.text J.hosts served.desk) }
     ensures counted { IfOk result (λ served. CountsAll
         (conduct_at B.Reader.seen B.Reader.stepped J.text J.hosts) count_totals (terms_by J.Reception) J.opening
-        (opening_by L.Hall served.listen) served.tally.calls (B.log served.writer) spec.now.turns served.inbox_fault
-        (box_by I.Inbox resources.inbox) (box_by I.Inbox served.inbox) served.totals) }
+        (opening_by L.Hall served.listen) served.tally.calls (B.log served.writer)
+        setting.entry.spec.turns served.inbox_fault
+        (map (box_by I.Inbox) resources.inboxes.items) (map (box_by I.Inbox) served.inboxes.items) served.totals) }
     ensures files { IfOk result (λ served. FilesAreCovered D.history D.faults
         (T.faults resources.desk.texts) (T.faults served.desk.texts)
         (disks_of resources.publisher.maps) served.disks.items served.totals) }
@@ -264,54 +260,48 @@ where
     ensures dialed { IfOk result (λ served. IsUsedForTransfers J.hosts J.catalogue.maps
         (dial_told J.wires J.letters J.dial_faults) (dial_by A.Dial served.desk.dial)) }
     ensures refused { IfErr result (λ refused. (refused.desk ≡ resources.desk) × (refused.listen ≡ resources.listen)
-        × (refused.inbox ≡ resources.inbox)) }
+        × (refused.inboxes ≡ resources.inboxes)) }
     ensures disks { IfErr result (λ refused. refused.disks.items ≡ disks_of resources.publisher.maps) }
 {
-    let Ok(all_workers) = Vec::with_capacity(alloc, worker_resources.all_buffers.len() + 1) else {
+    let Ok(staff) = Staff::new(setting.alloc, memory.all_buffers.len(), memory.rooms.len()) else {
         return Err(refuse(resources));
     };
-    let WorkerResources {
-        all_buffers,
+    let ServerResources {
+        publisher,
         readers,
-        spare,
-        room,
-    } = worker_resources;
-    let (publisher, desk, charges) = lock_up::<J, D, B, A, T, C>(
-        resources.publisher,
-        resources.desk,
-        blanks,
-    );
+        desk,
+        listen,
+        inboxes,
+    } = resources;
+    let (publisher, desk, charges) = lock_up::<J, D, B, A, T, C>(publisher, desk, blanks.charges);
     let place = WorkerMaker {
-        alloc,
-        rt,
+        alloc: setting.alloc,
+        rt: setting.rt,
         publisher: &publisher,
         desk: &desk,
-        journal,
-        gate,
-        most: spec.most,
+        journal: setting.journal,
+        gate: setting.gate,
+        most: setting.spec.most,
     };
-    let datagram_resources = DatagramResources {
-        inbox: resources.inbox,
-        turns: spec.turns,
-        reader: spare,
-        room,
+    let worker_resources = WorkerResources {
+        memory,
+        readers,
+        inboxes,
+        turns: setting.spec.turns,
     };
     let (listen, tally, mailed, account) = place.serve::<E, L, I>(
-        all_workers,
-        all_buffers,
-        readers,
-        resources.listen,
-        out,
-        ended,
+        staff,
+        worker_resources,
+        listen,
+        blanks.listener,
         charges,
-        datagram_resources,
     );
     let (disks, writer, desk, totals) = unlock(publisher, desk, account);
     Ok(Served {
         disks,
         desk,
         listen,
-        inbox: mailed.inbox,
+        inboxes: mailed.inboxes,
         writer,
         tally,
         totals,

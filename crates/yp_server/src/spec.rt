@@ -1,7 +1,10 @@
-//! What is served, and what comes back.
+//! What is served, what of, and what comes back.
 
+use yp_board::Tell;
 use yp_host::Desk;
 use yp_host::workers::Totals;
+use yp_io::Disk;
+use yp_publisher::Publisher;
 use yp_worker::Tally;
 
 /// How connections and datagrams are served.
@@ -11,8 +14,22 @@ pub struct ServeSpec {
     pub workers: u32,
     /// The most records that are answered on one connection.
     pub most: u64,
-    /// The most turns of the inbox.
+    /// The most turns of each inbox.
     pub turns: u64,
+}
+
+/// What workers are lent.
+#[derive(Drop)]
+pub struct ServerResources<D: Disk, B: Tell, A, T, C, L, I> {
+    /// The maps, and the writer of the board that shows them.
+    pub publisher: Publisher<D, B>,
+    /// Readers of that board: one for each worker of connections, one for the worker that does for them what takes
+    /// long, and one for each inbox.
+    pub readers: Vec<B::Reader>,
+    pub desk: Desk<A, T, C>,
+    pub listen: L,
+    /// Ends of one port, at least one. Each has a worker for itself.
+    pub inboxes: Vec<I>,
 }
 
 /// What comes back once all workers have ended.
@@ -22,14 +39,15 @@ pub struct Served<D, B, A, T, C, L, I> {
     pub disks: Vec<D>,
     pub desk: Desk<A, T, C>,
     pub listen: L,
-    pub inbox: I,
+    /// The inboxes, in their order.
+    pub inboxes: Vec<I>,
     /// The writer of the board.
     pub writer: B,
     /// What was served by all workers of connections together.
     pub tally: Tally,
     /// What all workers counted of maps that were made and of transfers.
     pub totals: Totals,
-    /// Whether the inbox failed before all its turns were taken.
+    /// Whether an inbox failed before all its turns were taken.
     pub inbox_fault: bool,
 }
 
@@ -40,5 +58,6 @@ pub struct ServeRefused<D, A, T, C, L, I> {
     pub disks: Vec<D>,
     pub desk: Desk<A, T, C>,
     pub listen: L,
-    pub inbox: I,
+    /// The inboxes, in their order.
+    pub inboxes: Vec<I>,
 }

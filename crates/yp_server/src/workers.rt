@@ -1,7 +1,7 @@
 //! Workers that run side by side.
 
-ghost use Rattle.std.specs.Prelude.{◌≡◌, ◌<◌, ◌≤◌, ◌+◌, length, true};
-ghost use Rattle.yp_io.specs.Counts.{HasRisen};
+ghost use Rattle.std.specs.Prelude.{◌≡◌, ◌<◌, ◌≤◌, ◌+◌, ◌^◌, ◌∷◌, ◌++◌, ℕ, [], List, length, map, reverse, true, vec_capacity, IfOk};
+ghost use Rattle.std.specs.List.{AllZip};
 ghost use Rattle.yp_board.specs.Logs.{Log};
 ghost use Rattle.yp_board.specs.Views.{IsFront};
 ghost use Rattle.yp_answer.specs.inside.session.Hosts.{conduct_by};
@@ -10,17 +10,19 @@ ghost use Rattle.yp_worker.specs.inside.Receptions.{terms_by};
 ghost use Rattle.yp_worker.specs.Summing.{counting_of};
 ghost use Rattle.yp_rpc.specs.inside.Turns.{box_by};
 ghost use Rattle.yp_server.specs.Counting.{CountsAll};
+ghost use Rattle.yp_server.specs.Serving.{SomeHasRisen};
 ghost use Rattle.yp_server.specs.inside.Counting.{BeginsMail};
 ghost use Rattle.yp_server.specs.inside.Serving.{before_work, after_work};
-ghost use Rattle.yp_server.specs.inside.Workers.{AnswersDatagrams, Works, AllWork, AreWorkers};
+ghost use Rattle.yp_server.specs.inside.Workers.{AnswersDatagrams, Works, AllWork, workers_of, IsManned};
+ghost use Rattle.yp_server.specs.inside.Workers.{mails_in, held_in};
 
-use crate::datagrams::{DatagramWorker, EndedInbox};
+use crate::datagrams::{DatagramWorker, EndedInboxes, hand_over_all};
+use std::alloc::Global;
 use std::marker::Model;
 use std::sync::ledger::Ledger;
 use std::sync::{Mutex, Wait};
 use std::thread::{Threads, for_each_mut};
-use yp_board::readers::WORKERS_MAX;
-use yp_io::{Hall, Inbox};
+use yp_io::{Hall, Inbox, NoMemory};
 use yp_worker::laws::sums_reach_further;
 use yp_worker::{Gate, HandsOver, Listening, Pass, Reception, Tally, Worker};
 
@@ -100,11 +102,55 @@ impl<J: Reception, E: Ledger, H: HandsOver + Drop, G: Gate + Copy + Drop> Connec
     }
 }
 
-/// A place at which a server works: one of its connections, or that of its datagrams.
+/// A place at which a server works: one of its connections, or one of its datagrams.
 #[derive(Drop)]
 pub(crate) enum ServerWorker<J: Reception, E: Ledger, H: HandsOver, G: Gate + Copy, I> {
     Connections(ConnectionWorker<J, E, H, G>),
     Datagrams(DatagramWorker<I, H>),
+}
+
+/// The workers of a server, with room for all of them, and room for what comes back of those of datagrams.
+#[derive(Drop)]
+pub(crate) struct Staff<J: Reception, E: Ledger, H: HandsOver, G: Gate + Copy, I> {
+    pub(crate) all_workers: Vec<ServerWorker<J, E, H, G, I>>,
+    pub(crate) datagram_workers: Vec<DatagramWorker<I, H>>,
+    pub(crate) inboxes: Vec<I>,
+}
+
+impl<J: Reception, E: Ledger, H: HandsOver + Drop, G: Gate + Copy + Drop, I: Drop> Staff<
+    J,
+    E,
+    H,
+    G,
+    I,
+> {
+    /// No workers yet, with room for so many of connections and so many of datagrams.
+    pub(crate) fn new(
+        alloc: Global,
+        workers: usize,
+        inboxes: usize,
+    ) -> Result<Staff<J, E, H, G, I>, NoMemory>
+        requires { workers + inboxes < 2 ^ 64 }
+        ensures none { IfOk result (λ staff. (staff.all_workers.items ≡ []) × (staff.datagram_workers.items ≡ [])
+            × (staff.inboxes.items ≡ [])) }
+        ensures all_workers { IfOk result (λ staff. workers + inboxes ≤ vec_capacity staff.all_workers) }
+        ensures datagram_workers { IfOk result (λ staff. inboxes ≤ vec_capacity staff.datagram_workers) }
+        ensures inboxes { IfOk result (λ staff. inboxes ≤ vec_capacity staff.inboxes) }
+    {
+        Ok(Staff {
+            all_workers: room_for(alloc, workers + inboxes)?,
+            datagram_workers: room_for(alloc, inboxes)?,
+            inboxes: room_for(alloc, inboxes)?,
+        })
+    }
+}
+
+/// Room for so many.
+fn room_for<T>(alloc: Global, count: usize) -> Result<Vec<T>, NoMemory>
+    ensures none { IfOk result (λ all. all.items ≡ []) }
+    ensures room { IfOk result (λ all. count ≤ vec_capacity all) }
+{
+    Vec::with_capacity(alloc, count).map_err(|_| NoMemory)
 }
 
 /// Works at places of a kind, at several at once.
@@ -146,15 +192,15 @@ impl<
     }
 }
 
-/// Serves the connections of a listener at all workers but the first, and the datagrams of an inbox at the first, side
-/// by side, until all have ended. The last one does for all others what takes long. What came of the connections and of
-/// the datagrams, and the sum of what was counted.
+/// Serves the datagrams of inboxes at the first workers, one for each inbox, and the connections of a listener at all
+/// others, side by side, until all have ended. The last one does for the others what takes long. What came of the
+/// connections and of the datagrams, and the sum of what was counted.
 pub(crate) fn run_workers<J, E, H, G, L, I, R: Threads + Wait + Sync>(
     rt: &R,
     listening: Listening<J, E, H, L, G>,
-    mut all_workers: Vec<ServerWorker<J, E, H, G, I>>,
+    staff: Staff<J, E, H, G, I>,
     mut pass: Pass<J, E>,
-) -> (L, Tally, EndedInbox<I>, H::Sum)
+) -> (L, Tally, EndedInboxes<I>, H::Sum)
 where
     J: Reception + Send + Sync,
     E: Ledger + Send + Sync,
@@ -169,32 +215,41 @@ where
     L::Closer: Send,
     L::Watch: Send,
     L::Waker: Send,
-    requires manned { (datagram_worker : DatagramWorker I H H.Count)
-        × AreWorkers datagram_worker before_work all_workers.items }
-    requires some { 1 < length all_workers.items }
-    requires parts { length all_workers.items + 1 ≡ J.parts }
+    requires manned { (datagram_workers : List (DatagramWorker I H H.Count))
+        × IsManned datagram_workers before_work J.parts staff.all_workers.items
+        × (length datagram_workers ≤ vec_capacity staff.datagram_workers)
+        × (length datagram_workers ≤ vec_capacity staff.inboxes) }
+    requires none { (staff.datagram_workers.items ≡ []) × (staff.inboxes.items ≡ []) }
     requires pass { pass ≡ before_work }
     ensures kept { IsListenerState J.opening (opening_by L.Hall result.0) result.1.connections result.1.listen_fault
         0 1 }
-    ensures counted { (datagram_worker : DatagramWorker I H H.Count)
-        → AreWorkers datagram_worker before_work all_workers.items
-        → BeginsMail (conduct_by H.Host) (counting_of H.counted H.none H.plus) J.catalogue J.starts datagram_worker
+    ensures counted { (inboxes : List I) → (datagram_workers : List (DatagramWorker I H H.Count))
+        → IsManned datagram_workers before_work J.parts staff.all_workers.items → (turns : ℕ)
+        → AllZip (BeginsMail (conduct_by H.Host) (counting_of H.counted H.none H.plus) J.catalogue J.starts turns)
+        inboxes datagram_workers
         → (log : Log) → IsFront (H.reached result.3) log
         → CountsAll (conduct_by H.Host) (counting_of H.counted H.none H.plus) (terms_by J.Reception)
-        J.opening (opening_by L.Hall result.0) result.1.calls log datagram_worker.turns result.2.fault
-        (box_by I.Inbox datagram_worker.inbox) (box_by I.Inbox result.2.inbox) (H.summed result.3) }
-    ensures cause { (datagram_worker : DatagramWorker I H H.Count)
-        → AreWorkers datagram_worker before_work all_workers.items
-        → result.2.fault ≡ true → HasRisen (I.faults datagram_worker.inbox) (I.faults result.2.inbox) }
+        J.opening (opening_by L.Hall result.0) result.1.calls log turns result.2.fault
+        (map (box_by I.Inbox) inboxes) (map (box_by I.Inbox) result.2.inboxes.items) (H.summed result.3) }
+    ensures cause { (inboxes : List I) → (datagram_workers : List (DatagramWorker I H H.Count))
+        → IsManned datagram_workers before_work J.parts staff.all_workers.items → (turns : ℕ)
+        → AllZip (BeginsMail (conduct_by H.Host) (counting_of H.counted H.none H.plus) J.catalogue J.starts turns)
+        inboxes datagram_workers
+        → result.2.fault ≡ true → SomeHasRisen (map I.faults inboxes) (map I.faults result.2.inboxes.items) }
 {
+    let Staff {
+        mut all_workers,
+        datagram_workers,
+        inboxes,
+    } = staff;
     let listening = Mutex::new(listening);
     work_beside(rt, &listening, &mut all_workers);
     let mut maker = last_of(&mut all_workers);
     let listening = maker.drain(rt, listening.into_inner());
     pass.merge(maker.into_pass());
-    let datagram_worker = gather(&mut pass, all_workers);
+    let datagram_workers = gather(&mut pass, all_workers, datagram_workers);
     let (listen, tally, mut sum) = listening.close(&mut pass);
-    let mailed = datagram_worker.hand_over(&mut sum);
+    let mailed = hand_over_all(datagram_workers, &mut sum, inboxes);
     sums_reach_further::<H>();
     (listen, tally, mailed, sum)
 }
@@ -233,12 +288,8 @@ fn work_all<P: Send, W: Work<P> + Sync, R: Threads + Sync>(rt: &R, work: &W, pla
     ensures count { length places.new ≡ length places.old }
     ensures works { AllWork W.works places.old places.new }
 {
-    for_each_mut(
-        rt,
-        places,
-        WORKERS_MAX as usize + 2,
-        &|_, place| work.work(place),
-    );
+    let threads = places.len().max(1);
+    for_each_mut(rt, places, threads, &|_, place| work.work(place));
 }
 
 /// Takes the last worker of connections away.
@@ -251,14 +302,12 @@ where
     H: HandsOver + Drop,
     G: Gate + Copy + Drop,
     I: Drop,
-    requires manned { (datagram_worker : DatagramWorker I H H.Count)
-        × AreWorkers datagram_worker after_work all_workers.old.items }
-    requires some { 1 < length all_workers.old.items }
+    requires manned { (datagram_workers : List (DatagramWorker I H H.Count)) × (others : ℕ)
+        × (all_workers.old.items ≡ workers_of datagram_workers (others + 1) after_work) }
     ensures last { result ≡ after_work }
-    ensures others { (datagram_worker : DatagramWorker I H H.Count)
-        → AreWorkers datagram_worker after_work all_workers.old.items
-        → AreWorkers datagram_worker after_work all_workers.new.items }
-    ensures count { length all_workers.new.items + 1 ≡ length all_workers.old.items }
+    ensures others { (datagram_workers : List (DatagramWorker I H H.Count)) → (others : ℕ)
+        → all_workers.old.items ≡ workers_of datagram_workers (others + 1) after_work
+        → all_workers.new.items ≡ workers_of datagram_workers others after_work }
 {
     let Some(server_worker) = all_workers.pop() else {
         unreachable!()
@@ -269,32 +318,55 @@ where
     last
 }
 
-/// Takes in what each worker of connections holds, and answers the worker of datagrams, once all have ended.
+/// Takes in what each worker of connections holds, and answers the workers of datagrams, which have room here, the last
+/// one first, once all have ended.
 fn gather<J, E, H, G, I>(
     pass: &mut Pass<J, E>,
     mut all_workers: Vec<ServerWorker<J, E, H, G, I>>,
-) -> DatagramWorker<I, H>
+    mut datagram_workers: Vec<DatagramWorker<I, H>>,
+) -> Vec<DatagramWorker<I, H>>
 where
     J: Reception,
     E: Ledger,
     H: HandsOver + Drop,
     G: Gate + Copy + Drop,
     I: Drop,
-    requires { (datagram_worker : DatagramWorker I H H.Count)
-        × AreWorkers datagram_worker after_work all_workers.items }
-    ensures datagram_worker { (datagram_worker : DatagramWorker I H H.Count)
-        → AreWorkers datagram_worker after_work all_workers.items → result ≡ datagram_worker }
-    ensures parts { pass.new.parts + 1 ≡ pass.old.parts + length all_workers.items }
-    ensures out { pass.new.out ≡ pass.old.out }
-    ensures ended { pass.new.ended + 1 ≡ pass.old.ended + length all_workers.items }
+    requires none { datagram_workers.items ≡ [] }
+    requires room { length (mails_in all_workers.items) ≤ vec_capacity datagram_workers }
+    ensures datagram_workers { reverse result.items ≡ mails_in all_workers.items }
+    ensures parts { pass.new.parts ≡ pass.old.parts + (held_in all_workers.items).parts }
+    ensures out { pass.new.out ≡ pass.old.out + (held_in all_workers.items).out }
+    ensures ended { pass.new.ended ≡ pass.old.ended + (held_in all_workers.items).ended }
 {
     while let Some(server_worker) = all_workers.pop() {
-        match server_worker {
-            ServerWorker::Connections(connection_worker) => pass.merge(
-                connection_worker.into_pass(),
-            ),
-            ServerWorker::Datagrams(datagram_worker) => return datagram_worker,
-        }
+        take_in(pass, &mut datagram_workers, server_worker);
     }
-    unreachable!()
+    datagram_workers
+}
+
+/// Takes in what a worker of connections holds, or keeps one of datagrams, which has room here.
+fn take_in<J, E, H, G, I>(
+    pass: &mut Pass<J, E>,
+    datagram_workers: &mut Vec<DatagramWorker<I, H>>,
+    server_worker: ServerWorker<J, E, H, G, I>,
+)
+where
+    J: Reception,
+    E: Ledger,
+    H: HandsOver + Drop,
+    G: Gate + Copy + Drop,
+    I: Drop,
+    requires room { length datagram_workers.old.items + length (mails_in (server_worker ∷ []))
+        ≤ vec_capacity datagram_workers.old }
+    ensures datagram_workers { datagram_workers.new.items
+        ≡ datagram_workers.old.items ++ mails_in (server_worker ∷ []) }
+    ensures capacity { vec_capacity datagram_workers.new ≡ vec_capacity datagram_workers.old }
+    ensures parts { pass.new.parts ≡ pass.old.parts + (held_in (server_worker ∷ [])).parts }
+    ensures out { pass.new.out ≡ pass.old.out + (held_in (server_worker ∷ [])).out }
+    ensures ended { pass.new.ended ≡ pass.old.ended + (held_in (server_worker ∷ [])).ended }
+{
+    match server_worker {
+        ServerWorker::Connections(connection_worker) => pass.merge(connection_worker.into_pass()),
+        ServerWorker::Datagrams(datagram_worker) => datagram_workers.push_reserved(datagram_worker),
+    }
 }

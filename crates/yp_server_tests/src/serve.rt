@@ -1,4 +1,4 @@
-//! Workers in threads over stored maps, a listener and an inbox.
+//! Workers in threads over stored maps, a listener and inboxes.
 
 mod gate;
 mod inbox;

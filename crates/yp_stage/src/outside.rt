@@ -275,6 +275,7 @@ pub fn memory_of(
         listen: network.listen,
         dial: network.dial,
         inbox: network.inbox,
+        more: Vec::new(alloc),
         texts,
     })
 }

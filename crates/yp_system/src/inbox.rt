@@ -1,6 +1,7 @@
 //! Letters of the system at a port: datagrams, and records of connections.
 
-ghost use Rattle.std.specs.Prelude.{◌≡◌, None};
+ghost use Rattle.std.specs.Prelude.{◌≡◌, None, All, IfOk, length};
+ghost use Rattle.yp_io.specs.Counts.{CountsFaults};
 ghost use Rattle.std.specs.Net.Addr.{ipv4_octets};
 ghost use Rattle.std.specs.Net.Socket.{v4_ip, v4_port};
 
@@ -25,6 +26,8 @@ use yp_io::{Failed, Inbox, Mail, Peer, count_fault};
 /// waits for. All else that is sent is a datagram. One to the sender of the last datagram leaves from the address to
 /// which that came. What one caller does ends nothing for another: it is let go alone where its record is too long or
 /// over its time, where it takes no reply, and where it was idle longest and there is no room for one more.
+///
+/// Where one thread isn't enough for a port it may have further [`ends`](UdpInbox::ends).
 #[derive(Drop)]
 pub struct UdpInbox<R> {
     alloc: Global,
@@ -40,6 +43,8 @@ pub struct UdpInbox<R> {
 impl<R: Net + Clock + Files> UdpInbox<R> {
     /// The inbox of a port of UDP. Nothing is opened yet.
     pub fn new(alloc: Global, system: R, port: u16) -> UdpInbox<R>
+        ensures turns { ⟦<UdpInbox<R> as Inbox>⟧.turns result ≡ 0 }
+        ensures quiets { ⟦<UdpInbox<R> as Inbox>⟧.quiets result ≡ 0 }
         ensures faults { ⟦<UdpInbox<R> as Inbox>⟧.faults result ≡ 0 }
         ensures port { result.port ≡ port }
     {
@@ -48,6 +53,8 @@ impl<R: Net + Clock + Files> UdpInbox<R> {
 
     /// The inbox of a port of UDP and of TCP. Nothing is opened yet.
     pub fn with_calls(alloc: Global, system: R, port: u16) -> UdpInbox<R>
+        ensures turns { ⟦<UdpInbox<R> as Inbox>⟧.turns result ≡ 0 }
+        ensures quiets { ⟦<UdpInbox<R> as Inbox>⟧.quiets result ≡ 0 }
         ensures faults { ⟦<UdpInbox<R> as Inbox>⟧.faults result ≡ 0 }
         ensures port { result.port ≡ port }
     {
@@ -56,6 +63,8 @@ impl<R: Net + Clock + Files> UdpInbox<R> {
 
     /// The inbox of a port of UDP, and of TCP where there are limits for its callers.
     pub fn with(alloc: Global, system: R, port: u16, limits: Option<Limits>) -> UdpInbox<R>
+        ensures turns { ⟦<UdpInbox<R> as Inbox>⟧.turns result ≡ 0 }
+        ensures quiets { ⟦<UdpInbox<R> as Inbox>⟧.quiets result ≡ 0 }
         ensures faults { ⟦<UdpInbox<R> as Inbox>⟧.faults result ≡ 0 }
         ensures port { result.port ≡ port }
     {
@@ -84,6 +93,73 @@ impl<R: Net + Clock + Files> UdpInbox<R> {
             self.limits,
             &mut self.post,
         );
+    }
+}
+
+impl<R: Net + Clock + Files + Copy> UdpInbox<R> {
+    /// Opens so many further ends of the port, for threads of their own. Each is an inbox by itself, of datagrams alone:
+    /// the system deals out their senders, so that one sender always comes to the same end, for as long as no end is
+    /// opened or dropped. One that isn't received from any more is therefore to be dropped. This inbox keeps the callers
+    /// by TCP, and what comes to all hosts of a network. A datagram leaves as from here.
+    ///
+    /// From then on other programs of the same user can take part in the port, where they ask for that (SO_REUSEPORT).
+    ///
+    /// `Failed` where the port isn't open and can't be opened now, or the system has no descriptor or no memory for
+    /// them. Then there is none.
+    pub fn ends(&mut self, alloc: Global, count: u32) -> Result<Vec<UdpInbox<R>>, Failed>
+        ensures count { IfOk result (λ ends. length ends.items ≡ count) }
+        ensures past { IfOk result (λ ends. All (λ end. ⟦<UdpInbox<R> as Inbox>⟧.past end ≡ None) ends.items) }
+        ensures turns { IfOk result (λ ends. All (λ end. ⟦<UdpInbox<R> as Inbox>⟧.turns end ≡ 0) ends.items) }
+        ensures quiets { IfOk result (λ ends. All (λ end. ⟦<UdpInbox<R> as Inbox>⟧.quiets end ≡ 0) ends.items) }
+        ensures faults { IfOk result (λ ends. All (λ end. ⟦<UdpInbox<R> as Inbox>⟧.faults end ≡ 0) ends.items) }
+        ensures port { self.new.port ≡ self.old.port }
+        ensures own_turns { ⟦<UdpInbox<R> as Inbox>⟧.turns self.new ≡ ⟦<UdpInbox<R> as Inbox>⟧.turns self.old }
+        ensures own_quiets { ⟦<UdpInbox<R> as Inbox>⟧.quiets self.new ≡ ⟦<UdpInbox<R> as Inbox>⟧.quiets self.old }
+        ensures cause { CountsFaults
+            (⟦<UdpInbox<R> as Inbox>⟧.faults self.old)
+            (⟦<UdpInbox<R> as Inbox>⟧.faults self.new)
+            result }
+    {
+        match self.further(alloc, count) {
+            Ok(ends) => Ok(ends),
+            Err(_) => Err(count_fault(&mut self.faults)),
+        }
+    }
+
+    // So many further ends of the port.
+    #[tactic(auto, using(crate::proofs::Ends::and_one_more))]
+    fn further(&mut self, alloc: Global, count: u32) -> io::Result<Vec<UdpInbox<R>>>
+        ensures count { IfOk result (λ ends. length ends.items ≡ count) }
+        ensures turns { IfOk result (λ ends. All (λ end. end.turns ≡ 0) ends.items) }
+        ensures quiets { IfOk result (λ ends. All (λ end. end.quiets ≡ 0) ends.items) }
+        ensures faults { IfOk result (λ ends. All (λ end. end.faults ≡ 0) ends.items) }
+        ensures own { (self.new.port ≡ self.old.port) × (self.new.turns ≡ self.old.turns)
+            × (self.new.quiets ≡ self.old.quiets) × (self.new.faults ≡ self.old.faults) }
+    {
+        let mut ends = Vec::new(alloc);
+        for _ in 0..count {
+            ends.push(self.further_end(alloc)?)?;
+        }
+        Ok(ends)
+    }
+
+    // One further end of the port.
+    fn further_end(&mut self, alloc: Global) -> io::Result<UdpInbox<R>>
+        ensures fresh { IfOk result (λ end. (end.turns ≡ 0) × (end.quiets ≡ 0) × (end.faults ≡ 0)) }
+        ensures own { (self.new.port ≡ self.old.port) × (self.new.turns ≡ self.old.turns)
+            × (self.new.quiets ≡ self.old.quiets) × (self.new.faults ≡ self.old.faults) }
+    {
+        let post = opened(
+            self.alloc,
+            &self.system,
+            self.port,
+            self.limits,
+            &mut self.post,
+        )?;
+        let post = post.further(alloc, &self.system)?;
+        let mut end = UdpInbox::new(alloc, self.system, self.port);
+        end.post = Some(post);
+        Ok(end)
     }
 }
 

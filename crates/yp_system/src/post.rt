@@ -35,8 +35,11 @@ const PAUSE_MILLIS: u64 = 10;
 // How many turns of those that are ready again are begun without asking the system who else is.
 const UNASKED_MAX: u32 = 4;
 
-// How many datagrams are taken one at a time, each where the system tells of it, behind one that came alone.
-const ALONE_MAX: u32 = 16;
+// How many datagrams come by one socket in a row before it alone is waited for.
+const STREAK_MIN: u32 = 16;
+
+// How many of its datagrams are then taken before the system is asked who else is ready.
+const UNTOLD_MAX: u32 = 8;
 
 // The numbers by which the system tells of sockets: this one for the first, and lower ones for the next.
 const SOCKETS: usize = usize::MAX - 1;
@@ -68,9 +71,10 @@ pub(crate) struct Post {
     calls: Option<Calls>,
     is_callers_turn: bool,
     unasked: u32,
-    // how many datagrams came since the system was asked, and how many more are taken one at a time
-    came: u32,
-    alone: u32,
+    // the socket that the last datagrams came by, how many that were, and how many since the system was asked
+    busy: u32,
+    streak: u32,
+    untold: u32,
     last: Option<Letter>,
     now: Instant,
     looked: Instant,
@@ -84,35 +88,53 @@ impl Post {
         port: u16,
         limits: Option<Limits>,
     ) -> io::Result<Post> {
-        let poll = Poll::new(system)?;
         let datagrams = Datagrams::open(alloc, system, port)?;
-        let calls = match limits {
-            Some(limits) => Some(Calls::open(alloc, system, datagrams.port(), limits, &poll)?),
-            None => None,
-        };
+        let port = datagrams.port();
+        let mut post = Post::of(alloc, system, datagrams)?;
+        if let Some(limits) = limits {
+            post.calls = Some(Calls::open(alloc, system, port, limits, &post.poll)?);
+        }
+        post.watch_socket(FOR_ALL)?;
+        post.look(system);
+        Ok(post)
+    }
+
+    /// Opens a further end of the port, for datagrams alone.
+    pub(crate) fn further<R: Net + Clock + Files>(
+        &mut self,
+        alloc: Global,
+        system: &R,
+    ) -> io::Result<Post> {
+        self.datagrams.share()?;
+        let mut post = Post::of(alloc, system, self.datagrams.further(alloc)?)?;
+        post.look(system);
+        Ok(post)
+    }
+
+    // What comes to these sockets, of which the system tells nothing yet.
+    fn of<R: Net + Clock>(alloc: Global, system: &R, datagrams: Datagrams) -> io::Result<Post> {
+        let poll = Poll::new(system)?;
         let Ok(events) = Events::with_capacity(alloc, EVENTS) else {
             return Err(ErrorKind::OutOfMemory.into());
         };
         let now = Instant::now(system)?;
-        let mut post = Post {
+        Ok(Post {
             alloc,
             poll,
             events,
             datagrams,
             ready: Chain::new(alloc),
             again: Chain::new(alloc),
-            calls,
+            calls: None,
             is_callers_turn: false,
             unasked: 0,
-            came: 0,
-            alone: 0,
+            busy: FOR_ALL,
+            streak: 0,
+            untold: 0,
             last: None,
             now,
             looked: now,
-        };
-        post.watch_socket(FOR_ALL)?;
-        post.look(system);
-        Ok(post)
+        })
     }
 
     // Has the system tell of the socket at a place.
@@ -161,6 +183,10 @@ impl Post {
         let turn = Duration::from_secs(TURN_SECONDS);
         for _ in 0..u64::MAX {
             let mail = self.take_letter(buf)?;
+            if mail != Mail::Quiet {
+                return Ok(mail);
+            }
+            let mail = self.linger(buf)?;
             if mail != Mail::Quiet {
                 return Ok(mail);
             }
@@ -225,24 +251,60 @@ impl Post {
         }
     }
 
-    // Takes a datagram of the socket at a place, which is ready again until there is none. Where one came alone, as those
-    // of one caller do, the next ones are taken without a look for more.
+    // Takes a datagram of the socket at a place, which is ready again until there is none, or it alone is waited for.
     fn receive(&mut self, place: u32, buf: &mut [u8]) -> io::Result<Mail>
         ensures { IfOk result (λ mail. MailIsWithin mail buf.new) }
     {
         let Some(socket) = self.datagrams.at(place) else {
             return Ok(Mail::Quiet);
         };
-        let mail = receive(socket, buf)?;
-        if mail == Mail::Quiet {
-            if self.came == 1 {
-                self.alone = ALONE_MAX;
+        let mail = receive(socket, false, buf)?;
+        if mail != Mail::Quiet {
+            self.count(place);
+            if !self.is_streak() {
+                self.again.append(place);
             }
-        } else if self.alone > 0 {
-            self.alone -= 1;
+        }
+        Ok(mail)
+    }
+
+    // Counts a datagram that came by the socket at a place.
+    fn count(&mut self, place: u32) {
+        self.streak = if place == self.busy {
+            self.streak.saturating_add(1)
         } else {
-            self.came = self.came.saturating_add(1);
-            self.again.append(place);
+            1
+        };
+        self.busy = place;
+    }
+
+    // Whether so many datagrams came by one socket that it alone is waited for, where there is nobody else to serve.
+    fn is_streak(&self) -> bool {
+        self.streak >= STREAK_MIN && self.calls.is_none()
+    }
+
+    // Waits for a moment for a datagram by the socket alone that the last ones came by, which takes one call of the system
+    // in place of two. Where none comes, all are waited for.
+    fn linger(&mut self, buf: &mut [u8]) -> io::Result<Mail>
+        ensures { IfOk result (λ mail. MailIsWithin mail buf.new) }
+    {
+        if !self.is_streak() || self.untold >= UNTOLD_MAX {
+            return Ok(Mail::Quiet);
+        }
+        let place = self.busy;
+        let Some(socket) = self.datagrams.at(place) else {
+            return Ok(Mail::Quiet);
+        };
+        let mail = receive(socket, true, buf)?;
+        match mail {
+            Mail::Came { from, .. } => {
+                self.untold = self.untold.saturating_add(1);
+                self.last = Some(Letter {
+                    from,
+                    way: Way::Socket(place),
+                });
+            }
+            Mail::Quiet => self.streak = 0,
         }
         Ok(mail)
     }
@@ -266,7 +328,7 @@ impl Post {
     // Asks the system who is ready, and waits so long at most until anybody is.
     fn ask<R: Clock>(&mut self, system: &R, patience: Duration) {
         self.unasked = 0;
-        self.came = 0;
+        self.untold = 0;
         if let Some(calls) = &mut self.calls {
             calls.tell_turned(&self.poll);
         }

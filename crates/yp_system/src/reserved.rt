@@ -3,8 +3,12 @@
 //! A server gives the rows of a secure map to such ports alone, since only who has a right to them gets one. std
 //! connects from a port that the system picks, so the calls of the system are made here.
 
+ghost use Rattle.std.specs.Prelude.{◌≤◌, length, IfOk};
+ghost use Rattle.libc.specs.Net.{RecvFlags};
+
 use libc::net::{
-    _SS_SIZE, AF_INET, SOCK_CLOEXEC, SOCK_NONBLOCK, SOCK_STREAM, accept4, bind, connect, socket,
+    _SS_SIZE, AF_INET, MSG_DONTWAIT, SOCK_CLOEXEC, SOCK_NONBLOCK, SOCK_STREAM, accept4, bind,
+    connect, recvfrom, socket,
 };
 use os::{FromRawFd, errno};
 use std::io;
@@ -131,6 +135,31 @@ pub(crate) fn accept_socket(listener: RawFd) -> io::Result<(mio::net::TcpStream,
         Some(from) => Ok((stream, from)),
         None => Err(ErrorKind::Unsupported.into()),
     }
+}
+
+// How a receive is asked for.
+fn receive_flags(waits: bool) -> i32
+    ensures { RecvFlags result }
+{
+    if waits { 0 } else { MSG_DONTWAIT }
+}
+
+/// Receives a datagram, and answers how many bytes of it are in the buffer, and its sender, where that is one of IPv4.
+/// Where there is none now that is `WouldBlock`, at once or behind the socket's limit of time.
+pub(crate) fn receive_from(
+    socket: RawFd,
+    waits: bool,
+    buf: &mut [u8],
+) -> io::Result<(usize, Option<SocketAddrV4>)>
+    ensures { IfOk result (λ came. came.0 ≤ length buf.new) }
+{
+    let mut bytes = [0; _SS_SIZE];
+    let mut len = _SS_SIZE as u32;
+    let count = unsafe { recvfrom(socket, buf, receive_flags(waits), &mut bytes, &mut len) };
+    if count < 0 {
+        return Err(last_error());
+    }
+    Ok((count as usize, decoded(&bytes)))
 }
 
 pub(crate) fn bind_socket(socket: RawFd, address: SocketAddrV4) -> io::Result<()> {

@@ -116,6 +116,54 @@ fn port_that_another_has(rt: HostRuntime) {
     assert_same(&rt, &came, &(Err(Failed), Err(Failed)), "no port");
 }
 
+// How many peers write to the ends of a port.
+const PEERS: u32 = 16;
+
+// Sends each letter back that waits at an end, and answers how many those were.
+fn echo_all<R: Net + Clock + Files>(end: &mut UdpInbox<R>) -> u32 {
+    let mut buf = [0; 8];
+    let mut letters = 0u32;
+    for _ in 0..PEERS {
+        let Ok(Mail::Came { len, from }) = end.next(&mut buf) else {
+            break;
+        };
+        if end.send(from, &buf[..len]).is_ok() {
+            letters = letters.saturating_add(1);
+        }
+    }
+    letters
+}
+
+// Whoever writes has an answer from the port, at whichever end its letter comes.
+#[test]
+fn further_ends_of_a_port(rt: HostRuntime) {
+    let port = free_port(&rt);
+    let mut first = UdpInbox::new(rt.alloc(), rt, port);
+    let mut ends = first.ends(rt.alloc(), 3).expect(&rt, "further ends");
+    ends.push(first).expect(&rt, "memory for an end");
+    let mut peers = Vec::new(rt.alloc());
+    for _ in 0..PEERS {
+        let (peer, _) = mailbox(&rt);
+        let is_sent = peer.set_read_timeout(Some(long())).is_ok()
+            && peer.send_to(b"datagram", address_of(local(port))).is_ok();
+        assert_same(&rt, &is_sent, &true, "a letter");
+        peers.push(peer).expect(&rt, "memory for a peer");
+    }
+    let mut letters = 0u32;
+    for end in ends.iter_mut() {
+        letters = letters.saturating_add(echo_all(end));
+    }
+    assert_same(&rt, &letters, &PEERS, "letters");
+    for peer in peers.iter() {
+        assert_same(
+            &rt,
+            &heard(peer, port),
+            &Some((8, *b"datagram", true)),
+            "an answer",
+        );
+    }
+}
+
 // The port of TCP is another's.
 #[test]
 fn port_of_which_another_has_half(rt: HostRuntime) {

@@ -6,14 +6,14 @@ use Rattle.yp_io.specs.Disk.{History}
 use Rattle.yp_map_file.specs.Slots.{IsSound}
 use Rattle.yp_map_file.specs.Stands.{stands}
 use Rattle.yp_map_file.specs.Stands as stood
-use Rattle.yp_worker.specs.Receptions.{ListenTells}
 use Rattle.yp_command.specs.declared.office.office.Office.{Office}
 use Rattle.yp_command.specs.declared.office.status.Status.{Status}
 use Rattle.yp_command.specs.declared.office.status.Status.TheVariants.{Done, WriteFault, NoMemory, Damaged, DiskFault}
 use Rattle.yp_command.specs.declared.office.status.Status.TheVariants.{ListenFault, InboxFault}
 use Rattle.yp_command.specs.office.Disks.{disks_of}
-use Rattle.yp_command.specs.office.Seeing.{Seeing, WriteFails, DiskFails, InboxFails}
-use Rattle.yp_command_serve.specs.serve.Serve.{Job, ServesOrRefuses, HasServeCauses, IsUndamaged}
+use Rattle.yp_command.specs.office.Seeing.{Seeing, WriteFails, DiskFails}
+use Rattle.yp_command_serve.specs.serve.Hosting.{DoorTells}
+use Rattle.yp_command_serve.specs.serve.Serve.{Job, SomeInboxFails, ServesOrRefuses, HasServeCauses, IsUndamaged}
 
 module _ {D : Type 0} (history : D → Option History) where
   -- a file of which this is told isn't damaged
@@ -38,10 +38,10 @@ module _ {D : Type 0} (history : D → Option History) where
       undamaged disks front disk rest at rule tail (λ k d lt. all (suc k) d (omega (arith, lt))) damaged
 
 module _ {S K D C A I T : Type 0} (seen : Seeing S K D C A I T) (job : Job) (old new : Office S K D C A I T)
-    (door door' : ListenTells) (logged : List ℕ) where
+    (door door' : DoorTells) (logged : List ℕ) where
   pub completes : (status : Status) → ServesOrRefuses seen job status old new door door' logged
       → HasServeCauses seen status old new door door' → All (IsUndamaged seen.disk.history) (disks_of old.disks.items)
-      → (HasRisen door.faults door'.faults → ⊥) → (InboxFails seen old new → ⊥) → (DiskFails seen old new → ⊥)
+      → (HasRisen door.listen.faults door'.listen.faults → ⊥) → (SomeInboxFails seen old new door door' → ⊥) → (DiskFails seen old new → ⊥)
       → (WriteFails seen old new → ⊥) → (status ≡ Done) ⊎ (status ≡ NoMemory)
   completes Done serves causes sound listen inbox disk write = inl refl
   completes NoMemory serves causes sound listen inbox disk write = inr refl

@@ -1,7 +1,8 @@
 -- What was done, by what is told of it.
-use Rattle.std.proofs.Common.{◌≡◌, inl, inr, ⊎_elim, ℕ, List, [], length, map, Bool, true, false, Option, Some, None, Result, Ok, Err, refl, sym, ap, ◌∙◌, subst, arith}
+use Rattle.std.proofs.Common.{◌≡◌, inl, inr, ⊎_elim, ℕ, List, [], ◌∷◌, ◌++◌, length, map, Bool, true, false, Option, Some, None, Result, Ok, Err, refl, sym, ap, ◌∙◌, subst, arith}
 use Rattle.std.specs.Prelude.{IfOk, IfErr, OnErr}
 use Rattle.std.specs.List.{AllZip}
+use Rattle.std.proofs.lemmas.List.{same_from_push}
 use Rattle.yp_io.specs.Counts.{HasRisen, capped}
 use Rattle.yp_io.specs.Disk.{History}
 use Rattle.yp_map_file.specs.declared.fault.SlotFault.{SlotFault}
@@ -19,14 +20,14 @@ use Rattle.yp_command.specs.declared.office.status.Status.TheVariants.{ListenFau
 use Rattle.yp_command.specs.office.Disks.{names_of, disks_of}
 use Rattle.yp_command.specs.office.Files.{Fails}
 use Rattle.yp_command.specs.inside.office.Files.{TellsOf}
-use Rattle.yp_command.specs.office.Seeing.{Seeing, output, moment, WriteFails, DiskFails, InboxFails}
+use Rattle.yp_command.specs.office.Seeing.{Seeing, output, moment, WriteFails, DiskFails}
 use Rattle.yp_command_serve.specs.declared.serve.resources.NotHosted.{NotHosted}
-use Rattle.yp_command_serve.specs.declared.serve.resources.ServerResources.{ServerResources}
+use Rattle.yp_command_serve.specs.declared.serve.resources.HostResources.{HostResources}
 use Rattle.yp_command_serve.specs.declared.serve.resources.NotHosted.TheVariants as unhosted
 use Rattle.yp_command_serve.specs.declared.serve.tally.Hosted.{Hosted}
-use Rattle.yp_command_serve.specs.serve.Hosting.{ServeSetup, ServerTells, IsServed, IsHosted}
+use Rattle.yp_command_serve.specs.serve.Hosting.{ServeSetup, ServerTells, DoorTells, IsServed, IsHosted}
 use Rattle.yp_command_serve.specs.inside.serve.Hosting.{IsUnhosted}
-use Rattle.yp_command_serve.specs.serve.Serve.{Job, setup, place, IsToAccept, ServesMaps, IsShut}
+use Rattle.yp_command_serve.specs.serve.Serve.{Job, setup, place, SomeInboxFails, IsToAccept, ServesMaps, IsShut}
 use Rattle.yp_command_serve.specs.serve.Serve.{ServesOrRefuses, TellsServed, HasServeCauses, ServeDoes}
 use Rattle.yp_command_serve.specs.serve.Log.{IsLog}
 use Rattle.yp_command_serve.specs.inside.serve.Serve.{TellsServeEnd, IsWithin}
@@ -46,11 +47,11 @@ all_came old now connections wanted failed kept ready fine =
     kept.accepts.connections_are ∙ ap (capped 0) count
 
 module _ {S K D C A I T : Type 0} (seen : Seeing S K D C A I T) (job : Job) (status : Status)
-    (old new : Office S K D C A I T) (door door' : ListenTells) (logged : List ℕ) where
+    (old new : Office S K D C A I T) (door door' : DoorTells) (logged : List ℕ) where
   -- what was served is told by its status
   pub served_told : (hosted : Hosted) → IsHosted seen.disk.history seen.disk.faults (setup seen job old) hosted
       (place seen old door) (place seen new door') (disks_of old.disks.items) (disks_of new.disks.items)
-      → (hosted.inbox_fault ≡ true → InboxFails seen old new)
+      → (hosted.inbox_fault ≡ true → SomeInboxFails seen old new door door')
       → IsLog job.log job.stores (Some hosted.totals) logged
       → TellsServed hosted status (output seen old) (output seen new)
       → ServesOrRefuses seen job status old new door door' logged
@@ -61,7 +62,7 @@ module _ {S K D C A I T : Type 0} (seen : Seeing S K D C A I T) (job : Job) (sta
       maps s told = record {
         hosted = hosted;
         is_hosted = is;
-        all = λ ready fine. all_came door door' hosted.tally.connections job.connections
+        all = λ ready fine. all_came door.listen door'.listen hosted.tally.connections job.connections
             hosted.tally.listen_fault is.served.connections ready fine;
         inbox = inbox;
         tells = told;
@@ -158,7 +159,7 @@ unfolding is_load
 no_inbox status is e = let no : is_load InboxFault ≡ true = subst (λ s. is_load s ≡ true) e is in absurd cc
 
 module _ {S K D C A I T : Type 0} (seen : Seeing S K D C A I T) (job : Job) (status : Status)
-    (old new : Office S K D C A I T) (door door' : ListenTells) (logged : List ℕ) where
+    (old new : Office S K D C A I T) (door door' : DoorTells) (logged : List ℕ) where
   -- what was served, or why nobody was, is told by its status
   pub end_told : (hosted : Result Hosted NotHosted)
       → IfOk hosted (λ h. IsHosted seen.disk.history seen.disk.faults (setup seen job old) h (place seen old door)
@@ -166,7 +167,7 @@ module _ {S K D C A I T : Type 0} (seen : Seeing S K D C A I T) (job : Job) (sta
       → IfErr hosted (λ why. IsUnhosted seen.disk.history seen.disk.faults why
       (disks_of old.disks.items) (disks_of new.disks.items))
       → OnErr hosted (IsShut job old new door door' logged)
-      → IfOk hosted (λ h. h.inbox_fault ≡ true → InboxFails seen old new)
+      → IfOk hosted (λ h. h.inbox_fault ≡ true → SomeInboxFails seen old new door door')
       → IsLog job.log job.stores (totals_told hosted) logged
       → TellsServeEnd hosted job.stores status (output seen old) (output seen new)
       → ServesOrRefuses seen job status old new door door' logged
@@ -182,7 +183,7 @@ module _ {S K D C A I T : Type 0} (seen : Seeing S K D C A I T) (job : Job) (sta
       → IfOk hosted (λ h. IsHosted seen.disk.history seen.disk.faults (setup seen job old) h (place seen old door)
       (place seen new door') (disks_of old.disks.items) (disks_of new.disks.items))
       → TellsServeEnd hosted job.stores status (output seen old) (output seen new) → status ≡ ListenFault
-      → HasRisen door.faults door'.faults
+      → HasRisen door.listen.faults door'.listen.faults
   listen_risen (Ok h) is tells e =
       let told = subst (λ s. TellsServed h s (output seen old) (output seen new)) e tells in
       is.served.connections.fault told.0
@@ -192,9 +193,9 @@ module _ {S K D C A I T : Type 0} (seen : Seeing S K D C A I T) (job : Job) (sta
 
   -- a fault of the inbox is told where its count rose
   pub inbox_risen : (hosted : Result Hosted NotHosted)
-      → IfOk hosted (λ h. h.inbox_fault ≡ true → InboxFails seen old new)
+      → IfOk hosted (λ h. h.inbox_fault ≡ true → SomeInboxFails seen old new door door')
       → TellsServeEnd hosted job.stores status (output seen old) (output seen new) → status ≡ InboxFault
-      → InboxFails seen old new
+      → SomeInboxFails seen old new door door'
   inbox_risen (Ok h) cause tells e =
       let told = subst (λ s. TellsServed h s (output seen old) (output seen new)) e tells in
       cause told.1
@@ -221,11 +222,11 @@ nothing_logged true maps = ([], refl)
 
 -- nothing was done
 pub nothing_done : {S K D C A I T : Type 0} (seen : Seeing S K D C A I T) (job : Job)
-    (office : Office S K D C A I T) (door : ListenTells) → ServeDoes seen job NoMemory office office door door []
-nothing_done seen job office door = record {
+    (office : Office S K D C A I T) (door door' : DoorTells) → door' ≡ door → ServeDoes seen job NoMemory office office door door' []
+nothing_done seen job office door door' same = record {
   serves = record {
     disks = nothing_written seen.disk.history seen.disk.faults (disks_of office.disks.items);
-    shut = record { stays = refl; door_stays = refl; log = nothing_logged job.log job.stores };
+    shut = record { stays = refl; door_stays = same; log = nothing_logged job.log job.stores };
   };
   complete = λ sound listen inbox disk write. inr refl;
   causes = record {
@@ -263,6 +264,15 @@ hosted_of history faults setup (Ok h) loaded was now old new opened served = rec
 }
 hosted_of history faults setup (Err why) loaded was now old new opened served = tt
 
+-- the same, of what is told in other words
+pub hosted_at : {D : Type 0} (history : D → Option History) (faults : D → ℕ) (setup : ServeSetup)
+    (hosted : Result Hosted NotHosted) (was now old new : ServerTells) → was ≡ old → now ≡ new → (before after : List D)
+    → IfOk hosted (λ h. IsHosted history faults setup h was now before after)
+    → IfOk hosted (λ h. IsHosted history faults setup h old new before after)
+hosted_at history faults setup hosted was now old new a b before after is =
+    subst (λ (n : ServerTells). IfOk hosted (λ h. IsHosted history faults setup h old n before after)) b
+    (subst (λ (o : ServerTells). IfOk hosted (λ h. IsHosted history faults setup h o now before after)) a is)
+
 -- the map whose file wasn't loaded is one of as many as there are disks
 pub number_within : {D : Type 0} (history : D → Option History) (faults : D → ℕ)
     (hosted : Result Hosted NotHosted) (old new : List D) (count : ℕ) → length old ≡ count
@@ -272,41 +282,49 @@ number_within history faults (Err unhosted.NoMemory) old new count e un = tt
 number_within history faults (Err (unhosted.Unloaded number why)) old new count e un =
     let within = (stopped_count history faults old new number why un).1 in omega (arith, within, e)
 
--- where nobody was served, an office is as it was but for its disks
-pub shut_of : {S K D C A I T L : Type 0} (tells : L → ListenTells) (job : Job) (old new : Office S K D C A I T)
-    (resources back : ServerResources D A T C L I) (logged : List ℕ) (hosted : Result Hosted NotHosted)
+-- where nobody was served, an office is as it was but for its disks, and its doors tell the same
+pub shut_of : {S K D C A I T L : Type 0} (job : Job) (old new : Office S K D C A I T)
+    (resources back : HostResources D A T C L I) (inbox : I) (more : List I) (door door' : DoorTells)
+    (tells : L → List I → DoorTells) (logged : List ℕ) (hosted : Result Hosted NotHosted)
     → IsLog job.log job.stores (totals_told hosted) logged
     → resources.desk.dial ≡ old.dial → resources.desk.texts ≡ old.texts → resources.desk.clock ≡ old.clock
-    → resources.inbox ≡ old.inbox
+    → resources.inboxes.items ≡ more ++ old.inbox ∷ []
+    → (rest : List I) → back.inboxes.items ≡ rest ++ inbox ∷ []
+    → door ≡ tells resources.listen more → door' ≡ tells back.listen rest
     → new ≡ record {
       wire = record old.wire { sink = new.wire.sink };
       disks = new.disks;
       clock = back.desk.clock;
       dial = back.desk.dial;
-      inbox = back.inbox;
+      inbox = inbox;
       texts = back.desk.texts;
     }
     → OnErr hosted (back ≡ record resources { disks = back.disks }) → OnErr hosted (new.wire.sink ≡ old.wire.sink)
-    → OnErr hosted (IsShut job old new (tells resources.listen) (tells back.listen) logged)
-shut_of tells job old new resources back logged (Ok h) log a b c d form same sink = tt
-shut_of {S} {K} {D} {C} {A} {I} {T} {L} tells job old new resources back logged (Err why) log a b c d form same sink = record {
-  stays = form
-      ∙ ap (λ (s : ServerResources D A T C L I). record {
-        wire = record old.wire { sink = new.wire.sink };
-        disks = new.disks;
-        clock = s.desk.clock;
-        dial = s.desk.dial;
-        inbox = s.inbox;
-        texts = s.desk.texts;
-      }) same
-      ∙ rw (a, b, c, d, sink) refl;
-  door_stays = ap (λ (s : ServerResources D A T C L I). tells s.listen) same;
-  log = log;
-}
+    → OnErr hosted (IsShut job old new door door' logged)
+shut_of job old new resources back inbox more door door' tells logged (Ok h) log a b c d rest e f g form same sink = tt
+shut_of {S} {K} {D} {C} {A} {I} {T} {L} job old new resources back inbox more door door' tells logged (Err why) log a b c d rest e f g form same sink =
+    let together : rest ++ inbox ∷ [] ≡ more ++ old.inbox ∷ [] =
+    sym e ∙ ap (λ (s : HostResources D A T C L I). s.inboxes.items) same ∙ d in
+    let parts = same_from_push rest more inbox old.inbox together in
+    record {
+      stays = form
+          ∙ ap (λ (s : HostResources D A T C L I). record {
+            wire = record old.wire { sink = new.wire.sink };
+            disks = new.disks;
+            clock = s.desk.clock;
+            dial = s.desk.dial;
+            inbox = inbox;
+            texts = s.desk.texts;
+          }) same
+          ∙ rw (a, b, c, parts.1, sink) refl;
+      door_stays = g ∙ ap (λ (s : HostResources D A T C L I). tells s.listen rest) same
+          ∙ ap (λ (l : List I). tells resources.listen l) parts.0 ∙ sym f;
+      log = log;
+    }
 
 -- all that was done, of what is told of it
 pub all_done : {S K D C A I T : Type 0} (seen : Seeing S K D C A I T) (job : Job) (status : Status)
-    (old new : Office S K D C A I T) (door door' : ListenTells) (logged : List ℕ) (hosted : Result Hosted NotHosted)
+    (old new : Office S K D C A I T) (door door' : DoorTells) (logged : List ℕ) (hosted : Result Hosted NotHosted)
     (apart back : List D)
     → apart ≡ disks_of old.disks.items → back ≡ disks_of new.disks.items
     → IfOk hosted (λ h. IsHosted seen.disk.history seen.disk.faults (setup seen job old) h (place seen old door)
@@ -315,7 +333,7 @@ pub all_done : {S K D C A I T : Type 0} (seen : Seeing S K D C A I T) (job : Job
     → OnErr hosted (IsShut job old new door door' logged)
     → IsLog job.log job.stores (totals_told hosted) logged
     → TellsServeEnd hosted job.stores status (output seen old) (output seen new)
-    → IfOk hosted (λ h. h.inbox_fault ≡ true → InboxFails seen old new)
+    → IfOk hosted (λ h. h.inbox_fault ≡ true → SomeInboxFails seen old new door door')
     → (status ≡ WriteFault → WriteFails seen old new) → names_of new.disks.items ≡ names_of old.disks.items
     → moment seen new ≡ moment seen old
     → ((file : List ℕ) → seen.texts.text new.texts file ≡ seen.texts.text old.texts file)

@@ -3,6 +3,8 @@ use Rattle.std.specs.Prelude.{ℕ, List, map, Option}
 use Rattle.std.specs.List.{AllZip}
 use Rattle.yp_io.specs.Disk.{History}
 use Rattle.yp_io.specs.Dials.{DialTells}
+use Rattle.yp_io.specs.declared.hall.Hall as hall
+use Rattle.yp_io.specs.declared.inbox.Inbox as inbox
 use Rattle.yp_board.specs.Catalogues.{Catalogue}
 use Rattle.yp_board.specs.Logs.{Log, starts}
 use Rattle.yp_board.specs.Views.{Seen, IsFront, Refreshes}
@@ -13,21 +15,22 @@ use Rattle.yp_publisher.specs.Grown.{AreTold}
 use Rattle.yp_transfer.specs.HostTable.{HostList}
 use Rattle.yp_answer.specs.session.Hosts.{Conduct}
 use Rattle.yp_answer.specs.declared.session.session.TheConstants.{CALLS_MAX}
-use Rattle.yp_rpc.specs.Turns.{InboxTells}
+use Rattle.yp_rpc.specs.Turns.{InboxTells, inbox_tells}
 use Rattle.yp_publisher.specs.sharing.Failures.{disks_of}
 use Rattle.yp_host.specs.workers.Workers.{WorkerState}
 use Rattle.yp_host.specs.workers.Charges.{totals_of}
 use Rattle.yp_host.specs.workers.Makings.{IsBuiltAsNamed}
 use Rattle.yp_host.specs.workers.Wires.{CoversOrders, CoversSources}
 use Rattle.yp_host.specs.workers.Uses.{IsUsedForTransfers}
-use Rattle.yp_worker.specs.Receptions.{ListenTells, IsListenerState, terms_of}
-use Rattle.yp_server.specs.Serving.{conduct_at, ServesDatagrams, DisksStand}
+use Rattle.yp_worker.specs.Receptions.{ListenTells, IsListenerState, opening_by, terms_of}
+use Rattle.yp_server.specs.Serving.{conduct_at, ServesInboxes, DisksStand}
 use Rattle.yp_server.specs.Counting.{count_totals, CountsAll, FilesAreCovered}
 use Rattle.yp_server.specs.Origins.{ComesFrom}
+use Rattle.yp_command_serve.specs.declared.serve.serve.Doors.{Doors}
 use Rattle.yp_command_serve.specs.declared.serve.tally.Hosted.{Hosted}
 
 -- what is served, and of what: the maps, the texts and the hosts that they are made and fetched of, and how many turns
--- there are at the datagrams
+-- there are at the datagrams of each inbox
 pub record ServeSetup : Type 0 where
   pub catalogue : Catalogue
   pub text : List ℕ → Option (List ℕ)
@@ -45,14 +48,32 @@ pub record Supply : Type 0 where
 abbrev pub supply_of : ℕ → DialTells → Supply
 supply_of texts dial = record { texts = texts; dial = dial }
 
--- what is told at a moment by the listener and by the inbox, and by the texts and the dial
+-- what is told at a moment by the listener and by the inboxes, and by the texts and the dial
 pub record ServerTells : Type 0 where
-  pub door : ListenTells
-  pub box : InboxTells
+  pub listen : ListenTells
+  pub boxes : List InboxTells
   pub supply : Supply
 
-abbrev pub server_tells : ListenTells → InboxTells → Supply → ServerTells
-server_tells door box supply = record { door = door; box = box; supply = supply }
+abbrev pub server_tells : ListenTells → List InboxTells → Supply → ServerTells
+server_tells listen boxes supply = record { listen = listen; boxes = boxes; supply = supply }
+
+-- what an inbox tells that is one of several of a port: of its turns, and how often it has failed
+pub record EndTells : Type 0 where
+  pub box : InboxTells
+  pub faults : ℕ
+
+-- what is told at a moment by a listener, and by further inboxes beside that of an office
+pub record DoorTells : Type 0 where
+  pub listen : ListenTells
+  pub more : List EndTells
+
+abbrev pub end_by : {I : Type 0} → inbox.Ghosts I → I → EndTells
+end_by ghosts inbox =
+    record { box = inbox_tells ghosts.past ghosts.turns ghosts.quiets inbox; faults = ghosts.faults inbox }
+
+abbrev pub doors_by : {L X Y Z W V I : Type 0} → hall.Ghosts L X Y Z W V → inbox.Ghosts I → Doors L I → DoorTells
+doors_by halls inboxes doors =
+    record { listen = opening_by halls doors.listen; more = map (end_by inboxes) doors.more.items }
 
 -- what its workers do, each with a reader of the one board
 abbrev pub conduct : ServeSetup → Conduct (WorkerState Seen)
@@ -76,8 +97,8 @@ pub record IsAccounted {D : Type 0} (history : D → Option History) (faults : D
     (first : PublisherState)
     (maps : List (StoredMap D)) (most : ℕ) (hosted : Hosted) (old new : ServerTells) (log : Log)
     (disks : List D) : Type 0 where
-  pub counted : CountsAll (conduct setup) count_totals (terms_of setup.catalogue first.log most) old.door
-      new.door hosted.tally.calls log setup.turns hosted.inbox_fault old.box new.box hosted.totals
+  pub counted : CountsAll (conduct setup) count_totals (terms_of setup.catalogue first.log most)
+      old.listen new.listen hosted.tally.calls log setup.turns hosted.inbox_fault old.boxes new.boxes hosted.totals
   pub files : FilesAreCovered history faults old.supply.texts new.supply.texts (disks_of maps) disks hosted.totals
   pub orders : CoversOrders old.supply.dial.past new.supply.dial.past hosted.totals.outcomes.reached
   pub sources : CoversSources old.supply.dial.past new.supply.dial.past old.supply.dial.faults new.supply.dial.faults
@@ -96,9 +117,9 @@ pub record IsServed {D : Type 0} (history : D → Option History) (faults : D �
     (hosted : Hosted) (old new : ServerTells) (disks : List D) : Type 0 where
   pub log : Log
   pub grown : IsFront (starts 0 (versions maps)) log
-  pub connections : IsListenerState old.door new.door hosted.tally.connections hosted.tally.listen_fault 0 1
-  pub datagrams : ServesDatagrams (conduct setup) totals_of setup.catalogue (starts 0 (versions maps)) log setup.turns
-      hosted.inbox_fault old.box new.box
+  pub connections : IsListenerState old.listen new.listen hosted.tally.connections hosted.tally.listen_fault 0 1
+  pub datagrams : ServesInboxes (conduct setup) totals_of setup.catalogue (starts 0 (versions maps)) log setup.turns
+      hosted.inbox_fault old.boxes new.boxes
   pub leaves : DisksStand history setup.catalogue log disks
   pub rises : AreTold history disks → IsRisingLog log
   pub accounted : IsAccounted history faults setup (first_of maps) maps CALLS_MAX hosted old new log disks

@@ -1,5 +1,5 @@
 -- What `serve` does: it serves stored maps to many callers at once.
-use Rattle.std.specs.Prelude.{◌≡◌, ◌⊎◌, ℕ, Bool, true, false, List, All, ◌++◌, map, Option, Some, None}
+use Rattle.std.specs.Prelude.{◌≡◌, ◌⊎◌, ℕ, Bool, true, false, List, [], ◌∷◌, All, ◌++◌, map, Option, Some, None}
 use Rattle.std.specs.Prelude.{slice_get, codes, decimal}
 use Rattle.std.specs.List.{AllZip}
 use Rattle.std.specs.Io.KnownBytes.{Appends}
@@ -25,14 +25,15 @@ use Rattle.yp_command.specs.declared.office.status.Status.TheVariants.{ListenFau
 use Rattle.yp_command.specs.office.Disks.{names_of, disks_of}
 use Rattle.yp_command.specs.office.Seeing.{Seeing, output, moment, WriteFails, DiskFails, InboxFails}
 use Rattle.yp_command_serve.specs.declared.serve.tally.Hosted.{Hosted}
+use Rattle.yp_server.specs.Serving.{SomeHasRisen}
 use Rattle.yp_command_serve.specs.serve.Hosting.{ServeSetup, ServerTells, Supply, setup_of, server_tells, supply_of}
-use Rattle.yp_command_serve.specs.serve.Hosting.{IsHosted}
+use Rattle.yp_command_serve.specs.serve.Hosting.{DoorTells, IsHosted}
 use Rattle.yp_command_serve.specs.serve.Log.{IsLog}
 
 -- ---- what is asked for
 
--- the own name, how many connections are to be accepted, how many turns there are at the datagrams, the maps, the hosts
--- that are known, and whether it tells what it does
+-- the own name, how many connections are to be accepted, how many turns there are at the datagrams of each inbox, the
+-- maps, the hosts that are known, and whether it tells what it does
 pub record Job : Type 0 where
   pub own : List ℕ
   pub connections : ℕ
@@ -55,11 +56,11 @@ abbrev pub tally_line : (connections calls : ℕ) → List ℕ
 tally_line connections calls =
     codes "connections " ++ decimal connections ++ codes " calls " ++ decimal calls ++ codes "\n"
 
--- the listener hasn't failed, and neither has the inbox
+-- the listener hasn't failed, and neither has an inbox
 abbrev pub IsFaultless : Hosted → Type 0
 IsFaultless hosted = (hosted.tally.listen_fault ≡ false) × (hosted.inbox_fault ≡ false)
 
--- What is told of what was served: that the listener has failed, or else that the inbox has, and then nothing is
+-- What is told of what was served: that the listener has failed, or else that an inbox has, and then nothing is
 -- printed, or else what was counted, or a front of that where the output fails.
 abbrev pub TellsServed : Hosted → Status → Option (List ℕ) → Option (List ℕ) → Type 0
 TellsServed hosted ListenFault before after = (hosted.tally.listen_fault ≡ true) × (after ≡ before)
@@ -83,33 +84,40 @@ supply seen office =
     supply_of (seen.texts.faults office.texts)
     (dial_tells seen.dial.past seen.dial.letters seen.dial.faults office.dial)
 
--- what is told by an inbox of an office, and by a listener beside it, and by its texts and its dial
-abbrev pub place : {S K D C A I T : Type 0} → Seeing S K D C A I T → Office S K D C A I T → ListenTells → ServerTells
+-- what is told by a listener, and by further inboxes and behind them that of an office, and by its texts and its dial
+abbrev pub place : {S K D C A I T : Type 0} → Seeing S K D C A I T → Office S K D C A I T → DoorTells → ServerTells
 place seen office door =
-    server_tells door (inbox_tells seen.inbox.past seen.inbox.turns seen.inbox.quiets office.inbox) (supply seen office)
+    server_tells door.listen (map (λ end. end.box) door.more
+    ++ inbox_tells seen.inbox.past seen.inbox.turns seen.inbox.quiets office.inbox ∷ []) (supply seen office)
+
+-- the count of an inbox's faults rose, of that of an office or of a further one
+abbrev pub SomeInboxFails : {S K D C A I T : Type 0} → Seeing S K D C A I T → (old new : Office S K D C A I T)
+    → (door door' : DoorTells) → Type 0
+SomeInboxFails seen old new door door' =
+    InboxFails seen old new ⊎ SomeHasRisen (map (λ end. end.faults) door.more) (map (λ end. end.faults) door'.more)
 
 -- A listener is to accept so many connections, and has accepted none.
-pub record IsToAccept (connections : ℕ) (door : ListenTells) : Type 0 where
-  pub most : door.most ≡ connections
-  pub none : door.accepted ≡ 0
+pub record IsToAccept (connections : ℕ) (listen : ListenTells) : Type 0 where
+  pub most : listen.most ≡ connections
+  pub none : listen.accepted ≡ 0
 
 -- The maps were served, and that is told. Where the listener was to accept as many connections as were asked for, and
--- hasn't failed, so many came. Where the inbox failed before all its turns were taken, its count rose, whatever
--- is told. What the listener, the inbox and the status tell fixes what came of it, but for the totals. The last line of
--- a log tells these.
+-- hasn't failed, so many came. Where an inbox failed before all its turns were taken, the count of one rose, whatever is
+-- told. What the listener, the inboxes and the status tell fixes what came of it, but for the totals. The last line of a
+-- log tells these.
 pub record ServesMaps {S K D C A I T : Type 0} (seen : Seeing S K D C A I T) (job : Job) (status : Status)
-    (old new : Office S K D C A I T) (door door' : ListenTells) (logged : List ℕ) : Type 0 where
+    (old new : Office S K D C A I T) (door door' : DoorTells) (logged : List ℕ) : Type 0 where
   pub hosted : Hosted
   pub is_hosted : IsHosted seen.disk.history seen.disk.faults (setup seen job old) hosted
       (place seen old door) (place seen new door') (disks_of old.disks.items) (disks_of new.disks.items)
-  pub all : IsToAccept job.connections door → hosted.tally.listen_fault ≡ false
+  pub all : IsToAccept job.connections door.listen → hosted.tally.listen_fault ≡ false
       → hosted.tally.connections ≡ capped 0 job.connections
-  pub inbox : hosted.inbox_fault ≡ true → InboxFails seen old new
+  pub inbox : hosted.inbox_fault ≡ true → SomeInboxFails seen old new door door'
   pub tells : TellsServed hosted status (output seen old) (output seen new)
   pub log : IsLog job.log job.stores (Some hosted.totals) logged
 
 -- Nothing was accepted, received or told: of the office the disks alone were touched. A log has no line of totals.
-pub record IsShut {S K D C A I T : Type 0} (job : Job) (old new : Office S K D C A I T) (door door' : ListenTells)
+pub record IsShut {S K D C A I T : Type 0} (job : Job) (old new : Office S K D C A I T) (door door' : DoorTells)
     (logged : List ℕ) : Type 0 where
   pub stays : new ≡ record old { disks = new.disks }
   pub door_stays : door' ≡ door
@@ -117,7 +125,7 @@ pub record IsShut {S K D C A I T : Type 0} (job : Job) (old new : Office S K D C
 
 -- The file of a map of this name wasn't loaded, the first one, and nothing was served.
 pub record IsUnloaded {S K D C A I T : Type 0} (seen : Seeing S K D C A I T) (job : Job) (map : MapName)
-    (why : SlotFault) (old new : Office S K D C A I T) (door door' : ListenTells) (logged : List ℕ) : Type 0 where
+    (why : SlotFault) (old new : Office S K D C A I T) (door door' : DoorTells) (logged : List ℕ) : Type 0 where
   pub number : ℕ
   pub named : slice_get job.stores number ≡ Some (name_view map)
   pub stopped : OpeningStopped seen.disk.history seen.disk.faults (disks_of old.disks.items) (disks_of new.disks.items)
@@ -126,14 +134,14 @@ pub record IsUnloaded {S K D C A I T : Type 0} (seen : Seeing S K D C A I T) (jo
 
 -- Memory ran out, and nothing was served: nothing was written to a disk.
 pub record IsUnserved {S K D C A I T : Type 0} (seen : Seeing S K D C A I T) (job : Job)
-    (old new : Office S K D C A I T) (door door' : ListenTells) (logged : List ℕ) : Type 0 where
+    (old new : Office S K D C A I T) (door door' : DoorTells) (logged : List ℕ) : Type 0 where
   pub disks : AllZip (IsUnwritten seen.disk.history seen.disk.faults)
       (disks_of old.disks.items) (disks_of new.disks.items)
   pub shut : IsShut job old new door door' logged
 
 -- What is done, for each status.
 abbrev pub ServesOrRefuses : {S K D C A I T : Type 0} → Seeing S K D C A I T → Job → Status
-    → (old new : Office S K D C A I T) → (door door' : ListenTells) → (logged : List ℕ) → Type 0
+    → (old new : Office S K D C A I T) → (door door' : DoorTells) → (logged : List ℕ) → Type 0
 ServesOrRefuses seen job (Damaged map at rule) old new door door' logged =
     IsUnloaded seen job map (fault.Damaged at rule) old new door door' logged
 ServesOrRefuses seen job (DiskFault map) old new door door' logged =
@@ -160,20 +168,20 @@ pub record IsUndamaged {D : Type 0} (history : D → Option History) (disk : D) 
 
 -- A fault that is told has its cause.
 pub record HasServeCauses {S K D C A I T : Type 0} (seen : Seeing S K D C A I T) (status : Status)
-    (old new : Office S K D C A I T) (door door' : ListenTells) : Type 0 where
-  pub listen_fault : status ≡ ListenFault → HasRisen door.faults door'.faults
-  pub inbox_fault : status ≡ InboxFault → InboxFails seen old new
+    (old new : Office S K D C A I T) (door door' : DoorTells) : Type 0 where
+  pub listen_fault : status ≡ ListenFault → HasRisen door.listen.faults door'.listen.faults
+  pub inbox_fault : status ≡ InboxFault → SomeInboxFails seen old new door door'
   pub write_fault : status ≡ WriteFault → WriteFails seen old new
   pub disk_fault : (map : MapName) → status ≡ DiskFault map → DiskFails seen old new
 
--- What `serve` does to an office and to what a listener tells, and what it logs: the stored maps are served to all who
--- call, by connections and by datagrams, and what was served is told; or the first reason why not is, and then nobody
+-- What `serve` does to an office and to what is told at its doors, and what it logs: the stored maps are served to all
+-- who call, by connections and by datagrams, and what was served is told; or the first reason why not is, and then nobody
 -- was served. Over files that aren't damaged, with no fault, all is done, unless memory ran out.
 pub record ServeDoes {S K D C A I T : Type 0} (seen : Seeing S K D C A I T) (job : Job) (status : Status)
-    (old new : Office S K D C A I T) (door door' : ListenTells) (logged : List ℕ) : Type 0 where
+    (old new : Office S K D C A I T) (door door' : DoorTells) (logged : List ℕ) : Type 0 where
   pub serves : ServesOrRefuses seen job status old new door door' logged
-  pub complete : All (IsUndamaged seen.disk.history) (disks_of old.disks.items) → ¬ HasRisen door.faults door'.faults
-      → ¬ InboxFails seen old new → ¬ DiskFails seen old new → ¬ WriteFails seen old new
+  pub complete : All (IsUndamaged seen.disk.history) (disks_of old.disks.items) → ¬ HasRisen door.listen.faults door'.listen.faults
+      → ¬ SomeInboxFails seen old new door door' → ¬ DiskFails seen old new → ¬ WriteFails seen old new
       → (status ≡ Done) ⊎ (status ≡ NoMemory)
   pub causes : HasServeCauses seen status old new door door'
   pub names : names_of new.disks.items ≡ names_of old.disks.items

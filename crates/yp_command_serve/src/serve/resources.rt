@@ -1,9 +1,9 @@
 //! Maps that are served from their disks, from the loading of their files to the handing back of all.
 
-ghost use Rattle.std.specs.Prelude.{◌≡◌, ℕ, ◌≤◌, List, length, map, option_map, true, IfOk, IfErr, OnErr};
+ghost use Rattle.std.specs.Prelude.{◌≡◌, ℕ, ◌≤◌, ◌<◌, ◌+◌, ◌^◌, List, length, map, option_map, true, vec_len};
+ghost use Rattle.std.specs.Prelude.{IfSome, IfOk, IfErr, OnSome, OnOk, OnErr};
 ghost use Rattle.std.specs.Arc.{arc_value};
 ghost use Rattle.std.specs.List.{All};
-ghost use Rattle.yp_io.specs.Counts.{HasRisen};
 ghost use Rattle.yp_board.specs.Logs.{starts};
 ghost use Rattle.yp_board.specs.readers.Boards.{workers_max};
 ghost use Rattle.yp_publisher.specs.Standing.{Level, versions};
@@ -14,6 +14,7 @@ ghost use Rattle.yp_rpc.specs.inside.Turns.{box_by};
 ghost use Rattle.yp_worker.specs.Receptions.{opening_by};
 ghost use Rattle.yp_publisher.specs.sharing.Failures.{disks_of};
 ghost use Rattle.yp_transfer.specs.inside.Dials.{dial_by};
+ghost use Rattle.yp_server.specs.Serving.{SomeHasRisen};
 ghost use Rattle.yp_command_serve.specs.serve.Hosting.{setup_of, server_tells, supply_of, IsServed, IsHosted};
 ghost use Rattle.yp_command_serve.specs.inside.serve.Hosting.{IsUnhosted};
 
@@ -32,7 +33,7 @@ use yp_io::{Clock, Dial, Disk, Hall, Inbox, NoMemory, Texts};
 use yp_map_file::SlotFault;
 use yp_publisher::laws::{beginning_is_start, starts_are_shown};
 use yp_publisher::{Loaded, Publisher, StartRefused, load_all};
-use yp_server::{ServeRefused, ServeSpec, Served, serve};
+use yp_server::{ServeRefused, ServeSpec, Served, ServerResources, serve};
 use yp_version::Version;
 use yp_worker::OpenGate;
 
@@ -45,29 +46,60 @@ pub enum NotHosted {
     NoMemory,
 }
 
-/// What maps are served from.
+/// What maps are served from, and whom to.
 #[derive(Drop)]
-pub(crate) struct ServerResources<D, A, T, C, L, I> {
+pub(crate) struct HostResources<D, A, T, C, L, I> {
     /// The disks of the maps, in the order of the catalogue.
     pub(crate) disks: Vec<D>,
     pub(crate) desk: Desk<A, T, C>,
     pub(crate) listen: L,
-    pub(crate) inbox: I,
+    /// Ends of one port, at least one.
+    pub(crate) inboxes: Vec<I>,
 }
 
-/// A catalogue once more, and the versions of its maps, which were loaded.
+/// What a board begins with: a catalogue once more, the versions of its maps, which were loaded, and how many readers
+/// it has.
+#[derive(Drop)]
+struct BoardStart {
+    catalog: Catalog,
+    versions: Vec<Option<Arc<Version>>>,
+    readers: u32,
+}
+
+/// What the board of a server begins with. Each worker has a reader: so many of connections, the one that does what
+/// takes long for them, and one for each inbox.
 fn starting<D: Disk>(
     alloc: Global,
     catalog: &Catalog,
     loaded: &Loaded<D>,
-) -> Result<(Catalog, Vec<Option<Arc<Version>>>), NoMemory>
-    ensures catalogue { IfOk result (λ starting. starting.0 ≡ catalog.now) }
+    workers: u32,
+    inboxes: usize,
+) -> Result<BoardStart, NoMemory>
+    requires { workers ≤ workers_max }
+    ensures catalogue { IfOk result (λ starting. starting.catalog ≡ catalog.now) }
     ensures versions { IfOk result (λ starting.
-        map (option_map arc_value) starting.1.items ≡ versions loaded.now) }
+        map (option_map arc_value) starting.versions.items ≡ versions loaded.now) }
+    ensures readers { IfOk result (λ starting. starting.readers ≡ workers + 1 + inboxes) }
+    ensures few { OnOk result (inboxes < 2 ^ 32) }
 {
+    let readers = readers_of(workers, inboxes).ok_or(NoMemory)?;
     let copy = catalog.copy(alloc)?;
     let start = loaded.shown(alloc)?;
-    Ok((copy, start))
+    Ok(BoardStart {
+        catalog: copy,
+        versions: start,
+        readers,
+    })
+}
+
+/// How many readers a server has with so many workers of connections and so many inboxes, where a board can have so
+/// many.
+fn readers_of(workers: u32, inboxes: usize) -> Option<u32>
+    requires { workers ≤ workers_max }
+    ensures readers { IfSome result (λ readers. readers ≡ workers + 1 + inboxes) }
+    ensures few { OnSome result (inboxes < 2 ^ 32) }
+{
+    u32::try_from(inboxes).ok()?.checked_add(workers + 1)
 }
 
 /// A publisher of level maps, on a board that shows exactly them. From there on its log rises.
@@ -123,17 +155,17 @@ fn unshared<M: ClockMoment, A, T, C: Clock>(desk: Desk<A, T, SharedClock<M, C>>)
     }
 }
 
-/// Serves maps over these resources, by workers in threads and a worker of datagrams, until all connections were served
-/// and all turns taken. Where a file isn't loaded, or memory runs out, nobody is served. Where there is a journal, the
-/// workers tell it what they do.
+/// Serves maps over these resources, by workers in threads and a worker of datagrams for each inbox, until all
+/// connections were served and all turns taken. Where a file isn't loaded, or memory runs out, nobody is served. Where
+/// there is a journal, the workers tell it what they do.
 pub(crate) fn host<D, A, T, C, L, I, R>(
     alloc: Global,
     rt: &R,
     catalog: Catalog,
     spec: &ServeSpec,
-    resources: ServerResources<D, A, T, C, L, I>,
+    resources: HostResources<D, A, T, C, L, I>,
     journal: Option<&Mutex<Journal>>,
-) -> (Result<Hosted, NotHosted>, ServerResources<D, A, T, C, L, I>)
+) -> (Result<Hosted, NotHosted>, HostResources<D, A, T, C, L, I>)
 where
     D: Disk + Send + Drop,
     A: Dial + Send + Drop,
@@ -150,42 +182,44 @@ where
     A::Out: Send,
     R: Threads + Wait + RandomSource + Sync,
     requires count { length resources.disks.items ≡ length catalog.maps }
+    requires inboxes { 1 ≤ vec_len resources.inboxes }
     requires workers { (1 ≤ spec.now.workers) × (spec.now.workers ≤ workers_max) }
     requires most { spec.now.most ≡ CALLS_MAX }
     ensures hosted { IfOk result.0 (λ hosted. IsHosted D.history D.faults
         (setup_of catalog (T.text resources.desk.texts) resources.desk.hosts spec.now.turns) hosted
-        (server_tells (opening_by L.Hall resources.listen) (box_by I.Inbox resources.inbox)
+        (server_tells (opening_by L.Hall resources.listen) (map (box_by I.Inbox) resources.inboxes.items)
         (supply_of (T.faults resources.desk.texts) (dial_by A.Dial resources.desk.dial)))
-        (server_tells (opening_by L.Hall result.1.listen) (box_by I.Inbox result.1.inbox)
+        (server_tells (opening_by L.Hall result.1.listen) (map (box_by I.Inbox) result.1.inboxes.items)
         (supply_of (T.faults result.1.desk.texts) (dial_by A.Dial result.1.desk.dial)))
         resources.disks.items result.1.disks.items) }
     ensures unhosted { IfErr result.0 (λ why.
         IsUnhosted D.history D.faults why resources.disks.items result.1.disks.items) }
     ensures untouched { OnErr result.0 (result.1 ≡ record resources { disks = result.1.disks }) }
     ensures inbox_fault { IfOk result.0 (λ hosted. hosted.inbox_fault ≡ true
-        → HasRisen (I.faults resources.inbox) (I.faults result.1.inbox)) }
+        → SomeHasRisen (map I.faults resources.inboxes.items) (map I.faults result.1.inboxes.items)) }
     ensures texts { (file : List ℕ) → T.text result.1.desk.texts file ≡ T.text resources.desk.texts file }
     ensures moment { C.moment result.1.desk.clock ≡ C.moment resources.desk.clock }
     ensures count { length result.1.disks.items ≡ length resources.disks.items }
+    ensures inboxes { length result.1.inboxes.items ≡ length resources.inboxes.items }
 {
-    let ServerResources {
+    let HostResources {
         disks,
         desk,
         listen,
-        inbox,
+        inboxes,
     } = resources;
     // A catalogue has at most 64 maps.
     prove!(disks.len() <= catalog.len() as usize);
     match load_all(alloc, rt, disks) {
         Ok(loaded) => host_loaded(
-            alloc, rt, catalog, spec, loaded, desk, listen, inbox, journal,
+            alloc, rt, catalog, spec, loaded, desk, listen, inboxes, journal,
         ),
         Err(StartRefused { disks, map, fault }) => {
-            let resources = ServerResources {
+            let resources = HostResources {
                 disks,
                 desk,
                 listen,
-                inbox,
+                inboxes,
             };
             (Err(NotHosted::Unloaded { map, fault }), resources)
         }
@@ -201,9 +235,9 @@ fn host_loaded<D, A, T, C, L, I, R>(
     loaded: Loaded<D>,
     desk: Desk<A, T, C>,
     listen: L,
-    inbox: I,
+    inboxes: Vec<I>,
     journal: Option<&Mutex<Journal>>,
-) -> (Result<Hosted, NotHosted>, ServerResources<D, A, T, C, L, I>)
+) -> (Result<Hosted, NotHosted>, HostResources<D, A, T, C, L, I>)
 where
     D: Disk + Send + Drop,
     A: Dial + Send + Drop,
@@ -221,37 +255,39 @@ where
     R: Threads + Wait + RandomSource + Sync,
     requires count { length loaded ≡ length catalog.maps }
     requires level { All (λ standing. standing ≡ Level) (map (λ kept. kept.standing) loaded) }
+    requires inboxes { 1 ≤ vec_len inboxes }
     requires workers { (1 ≤ spec.now.workers) × (spec.now.workers ≤ workers_max) }
     requires most { spec.now.most ≡ CALLS_MAX }
     ensures hosted { IfOk result.0 (λ hosted. IsServed D.history D.faults
         (setup_of catalog (T.text desk.texts) desk.hosts spec.now.turns) loaded hosted
-        (server_tells (opening_by L.Hall listen) (box_by I.Inbox inbox)
+        (server_tells (opening_by L.Hall listen) (map (box_by I.Inbox) inboxes.items)
         (supply_of (T.faults desk.texts) (dial_by A.Dial desk.dial)))
-        (server_tells (opening_by L.Hall result.1.listen) (box_by I.Inbox result.1.inbox)
+        (server_tells (opening_by L.Hall result.1.listen) (map (box_by I.Inbox) result.1.inboxes.items)
         (supply_of (T.faults result.1.desk.texts) (dial_by A.Dial result.1.desk.dial)))
         result.1.disks.items) }
     ensures unhosted { IfErr result.0 (λ why. why ≡ NotHosted.NoMemory) }
     ensures disks { OnErr result.0 (result.1.disks.items ≡ disks_of loaded) }
     ensures untouched { OnErr result.0
-        ((result.1.desk ≡ desk) × (result.1.listen ≡ listen) × (result.1.inbox ≡ inbox)) }
+        ((result.1.desk ≡ desk) × (result.1.listen ≡ listen) × (result.1.inboxes ≡ inboxes)) }
     ensures inbox_fault { IfOk result.0 (λ hosted. hosted.inbox_fault ≡ true
-        → HasRisen (I.faults inbox) (I.faults result.1.inbox)) }
+        → SomeHasRisen (map I.faults inboxes.items) (map I.faults result.1.inboxes.items)) }
     ensures texts { (file : List ℕ) → T.text result.1.desk.texts file ≡ T.text desk.texts file }
     ensures moment { C.moment result.1.desk.clock ≡ C.moment desk.clock }
     ensures count { length result.1.disks.items ≡ length loaded }
+    ensures inboxes { length result.1.inboxes.items ≡ length inboxes.items }
 {
-    let Ok((copy, start)) = starting(alloc, &catalog, &loaded) else {
-        let resources = ServerResources {
+    let Ok(start) = starting(alloc, &catalog, &loaded, spec.workers, inboxes.len()) else {
+        let resources = HostResources {
             disks: loaded.into_disks(),
             desk,
             listen,
-            inbox,
+            inboxes,
         };
         return (Err(NotHosted::NoMemory), resources);
     };
     let opened = Opened::new();
     host_shown::<Brand, Brand, D, A, T, C, L, I, R>(
-        alloc, rt, opened, copy, start, catalog, spec, loaded, desk, listen, inbox, journal,
+        alloc, rt, opened, start, catalog, spec, loaded, desk, listen, inboxes, journal,
     )
 }
 
@@ -260,16 +296,15 @@ fn host_shown<J, M, D, A, T, C, L, I, R>(
     alloc: Global,
     rt: &R,
     opened: Opened,
-    copy: Catalog,
-    start: Vec<Option<Arc<Version>>>,
+    starting: BoardStart,
     catalog: Catalog,
     spec: &ServeSpec,
     loaded: Loaded<D>,
     desk: Desk<A, T, C>,
     listen: L,
-    inbox: I,
+    inboxes: Vec<I>,
     journal: Option<&Mutex<Journal>>,
-) -> (Result<Hosted, NotHosted>, ServerResources<D, A, T, C, L, I>)
+) -> (Result<Hosted, NotHosted>, HostResources<D, A, T, C, L, I>)
 where
     J: Naming + Send + Sync,
     M: ClockMoment + Send + Sync,
@@ -289,64 +324,77 @@ where
     R: Threads + Wait + RandomSource + Sync,
     requires opened { opened ≡ J.book }
     requires moment { C.moment desk.clock ≡ M.moment }
-    requires copy { copy ≡ catalog }
-    requires start { map (option_map arc_value) start.items ≡ versions loaded }
+    requires copy { starting.catalog ≡ catalog }
+    requires start { map (option_map arc_value) starting.versions.items ≡ versions loaded }
+    requires readers { starting.readers ≡ spec.now.workers + 1 + vec_len inboxes }
+    requires few { vec_len inboxes < 2 ^ 32 }
     requires count { length loaded ≡ length catalog.maps }
     requires level { All (λ standing. standing ≡ Level) (map (λ kept. kept.standing) loaded) }
+    requires inboxes { 1 ≤ vec_len inboxes }
     requires workers { (1 ≤ spec.now.workers) × (spec.now.workers ≤ workers_max) }
     requires most { spec.now.most ≡ CALLS_MAX }
     ensures hosted { IfOk result.0 (λ hosted. IsServed D.history D.faults
         (setup_of catalog (T.text desk.texts) desk.hosts spec.now.turns) loaded hosted
-        (server_tells (opening_by L.Hall listen) (box_by I.Inbox inbox)
+        (server_tells (opening_by L.Hall listen) (map (box_by I.Inbox) inboxes.items)
         (supply_of (T.faults desk.texts) (dial_by A.Dial desk.dial)))
-        (server_tells (opening_by L.Hall result.1.listen) (box_by I.Inbox result.1.inbox)
+        (server_tells (opening_by L.Hall result.1.listen) (map (box_by I.Inbox) result.1.inboxes.items)
         (supply_of (T.faults result.1.desk.texts) (dial_by A.Dial result.1.desk.dial)))
         result.1.disks.items) }
     ensures unhosted { IfErr result.0 (λ why. why ≡ NotHosted.NoMemory) }
     ensures disks { OnErr result.0 (result.1.disks.items ≡ disks_of loaded) }
     ensures untouched { OnErr result.0
-        ((result.1.desk ≡ desk) × (result.1.listen ≡ listen) × (result.1.inbox ≡ inbox)) }
+        ((result.1.desk ≡ desk) × (result.1.listen ≡ listen) × (result.1.inboxes ≡ inboxes)) }
     ensures inbox_fault { IfOk result.0 (λ hosted. hosted.inbox_fault ≡ true
-        → HasRisen (I.faults inbox) (I.faults result.1.inbox)) }
+        → SomeHasRisen (map I.faults inboxes.items) (map I.faults result.1.inboxes.items)) }
     ensures texts { (file : List ℕ) → T.text result.1.desk.texts file ≡ T.text desk.texts file }
     ensures moment { C.moment result.1.desk.clock ≡ C.moment desk.clock }
     ensures count { length result.1.disks.items ≡ length loaded }
+    ensures inboxes { length result.1.inboxes.items ≡ length inboxes.items }
 {
-    let Ok((writer, readers)) = board::<J, &R>(alloc, rt, opened, copy, start, spec.workers + 2)
-    else {
-        let resources = ServerResources {
+    let BoardStart {
+        catalog: copy,
+        versions: start,
+        readers: count,
+    } = starting;
+    let Ok((writer, readers)) = board::<J, &R>(alloc, rt, opened, copy, start, count) else {
+        let resources = HostResources {
             disks: loaded.into_disks(),
             desk,
             listen,
-            inbox,
+            inboxes,
         };
         return (Err(NotHosted::NoMemory), resources);
     };
     let publisher = publisher_of(loaded, catalog, writer);
     let desk = shared::<M, A, T, C>(desk);
-    match serve(
-        alloc, rt, publisher, readers, desk, listen, inbox, spec, journal, &OpenGate,
-    ) {
+    let lent = ServerResources {
+        publisher,
+        readers,
+        desk,
+        listen,
+        inboxes,
+    };
+    match serve(alloc, rt, lent, spec, journal, &OpenGate) {
         Ok(served) => {
             let hosted = Hosted {
                 tally: served.tally,
                 totals: served.totals,
                 inbox_fault: served.inbox_fault,
             };
-            let resources = ServerResources {
+            let resources = HostResources {
                 disks: served.disks,
                 desk: unshared(served.desk),
                 listen: served.listen,
-                inbox: served.inbox,
+                inboxes: served.inboxes,
             };
             (Ok(hosted), resources)
         }
         Err(refused) => {
-            let resources = ServerResources {
+            let resources = HostResources {
                 disks: refused.disks,
                 desk: unshared(refused.desk),
                 listen: refused.listen,
-                inbox: refused.inbox,
+                inboxes: refused.inboxes,
             };
             (Err(NotHosted::NoMemory), resources)
         }

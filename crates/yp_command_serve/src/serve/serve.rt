@@ -6,17 +6,17 @@ ghost use Rattle.yp_io.specs.Counts.{HasRisen};
 ghost use Rattle.yp_board.specs.Catalogues.{name_view, maps_max};
 ghost use Rattle.yp_board.specs.inside.Catalogues.{catalog_fault};
 ghost use Rattle.yp_board.specs.readers.Boards.{workers_max};
-ghost use Rattle.yp_worker.specs.Receptions.{opening_by};
 ghost use Rattle.yp_command.specs.inside.Words.{IsNamed};
 ghost use Rattle.yp_command.specs.office.Disks.{names_of};
 ghost use Rattle.yp_command.specs.office.Seeing.{seeing, IsPassedOn};
 ghost use Rattle.yp_command.specs.inside.office.Status.{IsTellable};
+ghost use Rattle.yp_command_serve.specs.serve.Hosting.{doors_by};
 ghost use Rattle.yp_command_serve.specs.serve.Serve.{ServeDoes, serve_job_of, serve_may_end};
 ghost use Rattle.yp_command_serve.specs.inside.serve.Serve.{serve_job_view};
 ghost use Rattle.yp_command_serve.specs.inside.serve.Serve.{TellsServeEnd};
 ghost use Rattle.yp_command_serve.specs.inside.serve.Serve.{IsWithin};
 
-use crate::serve::resources::{NotHosted, ServerResources};
+use crate::serve::resources::{HostResources, NotHosted};
 use crate::serve::tally::{Hosted, tell_served};
 use crate::serve::telling::host_told;
 use std::alloc::Global;
@@ -34,6 +34,14 @@ use yp_host::Desk;
 use yp_io::{Clock, Dial, Disk, Hall, Inbox, NoMemory, Sink, Source, Texts};
 use yp_server::ServeSpec;
 use yp_transfer::Hosts;
+
+/// What callers come by: a listener, and further ends of the port of an office's inbox, which receive its datagrams
+/// beside it.
+#[derive(Drop)]
+pub struct Doors<L, I> {
+    pub listen: L,
+    pub more: Vec<I>,
+}
 
 /// Tells what was served, or answers why nobody was.
 fn tell_end<K: Sink>(
@@ -67,9 +75,9 @@ fn serve_catalog<S, K, D, C, A, I, T, L, N, R>(
     hosts: Hosts,
     log: bool,
     office: Office<S, K, D, C, A, I, T>,
-    listen: L,
+    doors: Doors<L, I>,
     notes: N,
-) -> (Status, Office<S, K, D, C, A, I, T>, L, N)
+) -> (Status, Office<S, K, D, C, A, I, T>, Doors<L, I>, N)
 where
     S: Source,
     K: Sink,
@@ -95,7 +103,7 @@ where
     ensures does { (logged : List ℕ)
         × ((connections : ℕ) → ServeDoes (seeing S.Source K.Sink D.Disk C.Clock A.Dial I.Inbox T.Texts)
         (serve_job_of catalog.own connections spec.now.turns catalog.maps hosts log) result.0 office result.1
-        (opening_by L.Hall listen) (opening_by L.Hall result.2) logged)
+        (doors_by L.Hall I.Inbox doors) (doors_by L.Hall I.Inbox result.2) logged)
         × (¬ HasRisen (N.faults notes) (N.faults result.3)
         → Appends (N.output notes) (N.output result.3) logged) }
     ensures never_falls { N.faults notes ≤ N.faults result.3 }
@@ -105,9 +113,13 @@ where
     ensures tellable { IsTellable result.0 }
 {
     let mut office = office;
+    let mut doors = doors;
+    if doors.more.reserve(1).is_err() {
+        return (Status::NoMemory, office, doors, notes);
+    }
     let Apart { names, disks } = match take_apart(alloc, &mut office.disks) {
         Ok(apart) => apart,
-        Err(NoMemory) => return (Status::NoMemory, office, listen, notes),
+        Err(NoMemory) => return (Status::NoMemory, office, doors, notes),
     };
     let Office {
         mut wire,
@@ -117,27 +129,32 @@ where
         inbox,
         texts,
     } = office;
+    let Doors {
+        listen,
+        more: mut inboxes,
+    } = doors;
+    inboxes.push_reserved(inbox);
     let desk = Desk {
         dial,
         texts,
         clock,
         hosts,
     };
-    let resources = ServerResources {
+    let resources = HostResources {
         disks,
         desk,
         listen,
-        inbox,
+        inboxes,
     };
     let (hosted, resources, notes) = host_told(
         alloc, rt, catalog, spec, resources, log, &names, notes,
     );
     let status = tell_end(alloc, &mut wire.sink, hosted, &names);
-    let ServerResources {
+    let HostResources {
         disks,
         desk,
         listen,
-        inbox,
+        mut inboxes,
     } = resources;
     put_together(&mut named, Apart { names, disks });
     let Desk {
@@ -146,6 +163,9 @@ where
         clock,
         hosts: _,
     } = desk;
+    let Some(inbox) = inboxes.pop() else {
+        unreachable!()
+    };
     let office = Office {
         wire,
         disks: named,
@@ -154,7 +174,11 @@ where
         inbox,
         texts,
     };
-    (status, office, listen, notes)
+    let doors = Doors {
+        listen,
+        more: inboxes,
+    };
+    (status, office, doors, notes)
 }
 
 /// Serves stored maps to all who call, and tells how many connections came and how many of their records were read.
@@ -165,9 +189,9 @@ pub fn serve_maps<S, K, D, C, A, I, T, L, N, R>(
     rt: &R,
     job: ServeJob,
     office: Office<S, K, D, C, A, I, T>,
-    listen: L,
+    doors: Doors<L, I>,
     notes: N,
-) -> (Status, Office<S, K, D, C, A, I, T>, L, N)
+) -> (Status, Office<S, K, D, C, A, I, T>, Doors<L, I>, N)
 where
     S: Source,
     K: Sink,
@@ -191,7 +215,8 @@ where
     requires disks { names_of office.disks.items ≡ map name_view job.stores.items }
     requires workers { (1 ≤ job.workers) × (job.workers ≤ workers_max) }
     ensures does { (logged : List ℕ) × ServeDoes (seeing S.Source K.Sink D.Disk C.Clock A.Dial I.Inbox T.Texts)
-        (serve_job_view job) result.0 office result.1 (opening_by L.Hall listen) (opening_by L.Hall result.2) logged
+        (serve_job_view job) result.0 office result.1
+        (doors_by L.Hall I.Inbox doors) (doors_by L.Hall I.Inbox result.2) logged
         × (¬ HasRisen (N.faults notes) (N.faults result.3)
         → Appends (N.output notes) (N.output result.3) logged) }
     ensures never_falls { N.faults notes ≤ N.faults result.3 }
@@ -211,11 +236,11 @@ where
         log,
     } = job;
     let Ok(hosts) = table_of(alloc, hosts) else {
-        return (Status::NoMemory, office, listen, notes);
+        return (Status::NoMemory, office, doors, notes);
     };
     let catalog = match Catalog::new(alloc, name, stores) {
         Ok(catalog) => catalog,
-        Err(CatalogFault::NoMemory) => return (Status::NoMemory, office, listen, notes),
+        Err(CatalogFault::NoMemory) => return (Status::NoMemory, office, doors, notes),
         Err(_) => unreachable!(),
     };
     let spec = ServeSpec {
@@ -223,5 +248,5 @@ where
         most: CALLS_MAX,
         turns,
     };
-    serve_catalog(alloc, rt, catalog, &spec, hosts, log, office, listen, notes)
+    serve_catalog(alloc, rt, catalog, &spec, hosts, log, office, doors, notes)
 }

@@ -21,7 +21,7 @@ pub struct Hosted {
     pub tally: Tally,
     /// What all workers counted of maps that were made and of transfers.
     pub totals: Totals,
-    /// Whether the inbox has failed.
+    /// Whether an inbox has failed.
     pub inbox_fault: bool,
 }
 
@@ -38,7 +38,7 @@ fn line_of(connections: u64, calls: u64) -> ArrayString<LINE_MAX>
     line
 }
 
-/// Tells what was served, and answers that all was done, or what failed: the listener, the inbox or the output, the
+/// Tells what was served, and answers that all was done, or what failed: the listener, an inbox or the output, the
 /// first of them.
 pub(crate) fn tell_served<K: Sink>(sink: &mut K, hosted: Hosted) -> Status
     ensures tells { TellsServed hosted result (K.output sink.old) (K.output sink.new) }

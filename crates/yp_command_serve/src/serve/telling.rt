@@ -1,6 +1,6 @@
 //! Maps that are served while a thread beside the server tells what it does.
 
-ghost use Rattle.std.specs.Prelude.{◌≡◌, ℕ, ◌≤◌, List, All, length, map, true, IfOk, IfErr, OnOk, OnErr};
+ghost use Rattle.std.specs.Prelude.{◌≡◌, ℕ, ◌≤◌, List, All, length, map, true, vec_len, IfOk, IfErr, OnOk, OnErr};
 ghost use Rattle.std.specs.Io.KnownBytes.{Appends};
 ghost use Rattle.yp_io.specs.Counts.{HasRisen, CountsFaults};
 ghost use Rattle.yp_board.specs.Catalogues.{name_view};
@@ -9,6 +9,7 @@ ghost use Rattle.yp_answer.specs.declared.session.session.TheConstants.{CALLS_MA
 ghost use Rattle.yp_rpc.specs.inside.Turns.{box_by};
 ghost use Rattle.yp_worker.specs.Receptions.{opening_by};
 ghost use Rattle.yp_transfer.specs.inside.Dials.{dial_by};
+ghost use Rattle.yp_server.specs.Serving.{SomeHasRisen};
 ghost use Rattle.yp_command.specs.inside.Words.{IsNamed};
 ghost use Rattle.yp_command_serve.specs.serve.Hosting.{setup_of, server_tells, supply_of, IsHosted};
 ghost use Rattle.yp_command_serve.specs.serve.Log.{IsLog};
@@ -16,7 +17,7 @@ ghost use Rattle.yp_command_serve.specs.inside.serve.Hosting.{IsUnhosted};
 ghost use Rattle.yp_command_serve.specs.inside.serve.Log.{WritesLines, totals_told};
 
 use crate::serve::log::{end_log, keep_log};
-use crate::serve::resources::{NotHosted, ServerResources, host};
+use crate::serve::resources::{HostResources, NotHosted, host};
 use crate::serve::tally::Hosted;
 use std::alloc::Global;
 use std::random::RandomSource;
@@ -35,13 +36,13 @@ pub(crate) fn host_told<D, A, T, C, L, I, N, R>(
     rt: &R,
     catalog: Catalog,
     spec: &ServeSpec,
-    resources: ServerResources<D, A, T, C, L, I>,
+    resources: HostResources<D, A, T, C, L, I>,
     log: bool,
     names: &[MapName],
     notes: N,
 ) -> (
     Result<Hosted, NotHosted>,
-    ServerResources<D, A, T, C, L, I>,
+    HostResources<D, A, T, C, L, I>,
     N,
 )
 where
@@ -61,24 +62,26 @@ where
     N: Sink + Send + Drop,
     R: Threads + Wait + RandomSource + time::Clock + Sync,
     requires count { length resources.disks.items ≡ length catalog.maps }
+    requires inboxes { 1 ≤ vec_len resources.inboxes }
     requires workers { (1 ≤ spec.now.workers) × (spec.now.workers ≤ workers_max) }
     requires most { spec.now.most ≡ CALLS_MAX }
     requires named { All IsNamed (map name_view names.now) }
     ensures hosted { IfOk result.0 (λ hosted. IsHosted D.history D.faults
         (setup_of catalog (T.text resources.desk.texts) resources.desk.hosts spec.now.turns) hosted
-        (server_tells (opening_by L.Hall resources.listen) (box_by I.Inbox resources.inbox)
+        (server_tells (opening_by L.Hall resources.listen) (map (box_by I.Inbox) resources.inboxes.items)
         (supply_of (T.faults resources.desk.texts) (dial_by A.Dial resources.desk.dial)))
-        (server_tells (opening_by L.Hall result.1.listen) (box_by I.Inbox result.1.inbox)
+        (server_tells (opening_by L.Hall result.1.listen) (map (box_by I.Inbox) result.1.inboxes.items)
         (supply_of (T.faults result.1.desk.texts) (dial_by A.Dial result.1.desk.dial)))
         resources.disks.items result.1.disks.items) }
     ensures unhosted { IfErr result.0 (λ why.
         IsUnhosted D.history D.faults why resources.disks.items result.1.disks.items) }
     ensures untouched { OnErr result.0 (result.1 ≡ record resources { disks = result.1.disks }) }
     ensures inbox_fault { IfOk result.0 (λ hosted. hosted.inbox_fault ≡ true
-        → HasRisen (I.faults resources.inbox) (I.faults result.1.inbox)) }
+        → SomeHasRisen (map I.faults resources.inboxes.items) (map I.faults result.1.inboxes.items)) }
     ensures texts { (file : List ℕ) → T.text result.1.desk.texts file ≡ T.text resources.desk.texts file }
     ensures moment { C.moment result.1.desk.clock ≡ C.moment resources.desk.clock }
     ensures count { length result.1.disks.items ≡ length resources.disks.items }
+    ensures inboxes { length result.1.inboxes.items ≡ length resources.inboxes.items }
     ensures never_falls { N.faults notes ≤ N.faults result.2 }
     ensures logged { (text : List ℕ) × IsLog log (map name_view names.now) (totals_told result.0) text
         × (¬ HasRisen (N.faults notes) (N.faults result.2)
@@ -98,25 +101,27 @@ where
                 (N.output result.0)) }
             ensures cause { CountsFaults (N.faults notes) (N.faults result.0) result.1 }
         { keep_log(rt, names, journal, notes) },
-        move || -> (Result<Hosted, NotHosted>, ServerResources<D, A, T, C, L, I>)
+        move || -> (Result<Hosted, NotHosted>, HostResources<D, A, T, C, L, I>)
             requires count { length resources.disks.items ≡ length catalog.maps }
+            requires inboxes { 1 ≤ vec_len resources.inboxes }
             requires workers { (1 ≤ spec.now.workers) × (spec.now.workers ≤ workers_max) }
             requires most { spec.now.most ≡ CALLS_MAX }
             ensures hosted { IfOk result.0 (λ hosted. IsHosted D.history D.faults
                 (setup_of catalog (T.text resources.desk.texts) resources.desk.hosts spec.entry.now.turns) hosted
-                (server_tells (opening_by L.Hall resources.listen) (box_by I.Inbox resources.inbox)
+                (server_tells (opening_by L.Hall resources.listen) (map (box_by I.Inbox) resources.inboxes.items)
                 (supply_of (T.faults resources.desk.texts) (dial_by A.Dial resources.desk.dial)))
-                (server_tells (opening_by L.Hall result.1.listen) (box_by I.Inbox result.1.inbox)
+                (server_tells (opening_by L.Hall result.1.listen) (map (box_by I.Inbox) result.1.inboxes.items)
                 (supply_of (T.faults result.1.desk.texts) (dial_by A.Dial result.1.desk.dial)))
                 resources.disks.items result.1.disks.items) }
             ensures unhosted { IfErr result.0 (λ why.
                 IsUnhosted D.history D.faults why resources.disks.items result.1.disks.items) }
             ensures untouched { OnErr result.0 (result.1 ≡ record resources { disks = result.1.disks }) }
             ensures inbox_fault { IfOk result.0 (λ hosted. hosted.inbox_fault ≡ true
-                → HasRisen (I.faults resources.inbox) (I.faults result.1.inbox)) }
+                → SomeHasRisen (map I.faults resources.inboxes.items) (map I.faults result.1.inboxes.items)) }
             ensures texts { (file : List ℕ) → T.text result.1.desk.texts file ≡ T.text resources.desk.texts file }
             ensures moment { C.moment result.1.desk.clock ≡ C.moment resources.desk.clock }
             ensures count { length result.1.disks.items ≡ length resources.disks.items }
+            ensures inboxes { length result.1.inboxes.items ≡ length resources.inboxes.items }
         {
             let served = host(alloc, rt, catalog, spec, resources, Some(journal));
             journal.lock(rt).end();

@@ -15,7 +15,7 @@ use Rattle.yp_texts.specs.declared.reading.Reading.TheVariants.{Text, Rows}
 use Rattle.yp_texts.specs.Readings.{reading_of}
 use Rattle.yp_board.specs.Catalogues.{Name}
 use Rattle.yp_answer.specs.session.Wires.{Wire}
-use Rattle.yp_worker.specs.Receptions.{ListenTells}
+use Rattle.yp_command_serve.specs.serve.Hosting.{DoorTells}
 use Rattle.yp_command.specs.Forms.{kind_of}
 use Rattle.yp_command.specs.Words.{Meaning, Once, Session, Serve, Build, Load, Xfr, Revnet}
 use Rattle.yp_command.specs.declared.office.office.Office.{Office}
@@ -57,7 +57,7 @@ BuildHolds seen name store reading status old new =
 
 -- What is so of each command, where what it reaches tells its bytes, and its files aren't damaged.
 abbrev pub CommandHolds : {S K D C A I T : Type 0} → Seeing S K D C A I T → Meaning → Status
-    → (old new : Office S K D C A I T) → (door door' : ListenTells) → Type 0
+    → (old new : Office S K D C A I T) → (door door' : DoorTells) → Type 0
 CommandHolds seen (Once store rows) status old new door door' =
     rows_fault rows ≡ None → status ≢ NoMemory
     → (came taken sent : List ℕ) → input seen old ≡ Some came → output seen old ≡ Some taken
@@ -92,16 +92,16 @@ CommandHolds seen (Revnet name store) status old new door door' =
     → FileCrashes (file_world name store (λ name. None) reading_of [] (tells_stored status) h h') held
 CommandHolds seen (Serve own port workers connections turns stores hosts log) status old new door door' =
     was_hosted status ≡ true
-    → (calls calls' : ListenerHistory) (closed : List (List ClosedConnection)) → door.past ≡ Some calls
-    → door'.past ≡ Some calls'
+    → (calls calls' : ListenerHistory) (closed : List (List ClosedConnection)) → door.listen.past ≡ Some calls
+    → door'.listen.past ≡ Some calls'
     → calls'.closed ≡ calls.closed ++ closed → AllByRecursion IsToldClosed (closed_in closed)
     → ServerHolds (catalogue_of (serve_job_of own connections turns stores hosts log)) (may_lose status)
-    (told_by seen old) (told_by seen new) (closed_in closed)
+    (told_by seen old door) (told_by seen new door') (closed_in closed)
 CommandHolds seen _ status old new door door' = ⊤
 
 -- What `run` ensures of a command, in its clause `does`, is that.
 abbrev pub RunHolds : {S K D C A I T : Type 0} → Seeing S K D C A I T → Type 0
 RunHolds {S} {K} {D} {C} {A} {I} {T} seen =
-    (meaning : Meaning) (status : Status) (old new : Office S K D C A I T) (door door' : ListenTells)
+    (meaning : Meaning) (status : Status) (old new : Office S K D C A I T) (door door' : DoorTells)
     (before after : List Wire) (logged : List ℕ) → Does seen (Ok meaning) status old new door door' before after logged
     → CommandHolds seen meaning status old new door door'

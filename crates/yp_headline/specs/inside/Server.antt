@@ -12,14 +12,14 @@ use Rattle.yp_board.specs.Logs.{Log, starts, shown}
 use Rattle.yp_board.specs.Views.{IsFront}
 use Rattle.yp_publisher.specs.Standing.{stands_for}
 use Rattle.yp_publisher.specs.Rising.{IsRisingLog}
-use Rattle.yp_worker.specs.Receptions.{ListenTells}
 use Rattle.yp_worker.specs.datagrams.Serving.{reply_posts}
+use Rattle.yp_command_serve.specs.serve.Hosting.{DoorTells}
 use Rattle.yp_command.specs.declared.office.office.Office.{Office}
 use Rattle.yp_command.specs.declared.office.status.Status.{Status}
 use Rattle.yp_command.specs.declared.office.status.Status.TheVariants.{ListenFault, InboxFault}
 use Rattle.yp_command.specs.office.Disks.{disks_of}
 use Rattle.yp_command.specs.office.Seeing.{Seeing}
-use Rattle.yp_command_serve.specs.serve.Serve.{Job, catalogue_of, ServesMaps}
+use Rattle.yp_command_serve.specs.serve.Serve.{Job, catalogue_of, place, ServesMaps}
 use Rattle.yp_headline.specs.World.{Connection, Datagram}
 use Rattle.yp_headline.specs.Serving.{IsServed, AreServed}
 use Rattle.yp_headline.specs.Storing.{stood_for}
@@ -83,6 +83,10 @@ InboxIsServed catalogue begun log loses old new =
     (before events : List InboxEvent) → old ≡ Some before → new ≡ Some (before ++ events)
     → MailIsServed catalogue begun log loses events
 
+-- Each inbox was served, apart from the others.
+abbrev pub InboxesAreServed : Catalogue → (begun log : Log) → Bool → (old new : List (Option (List InboxEvent))) → Type 0
+InboxesAreServed catalogue begun log loses old new = AllZip (InboxIsServed catalogue begun log loses) old new
+
 -- whether the reply to a datagram may have been lost, by the status
 abbrev pub may_lose : Status → Bool
 may_lose ListenFault = true
@@ -101,18 +105,18 @@ LeavesShown number log history = (image : List ℕ) → MayLeave history image
     → (stood_for image ≡ Some (shown number log))
     ⊎ ((version : MapVersion) × (stood_for image ≡ Some (Some version)))
 
--- what is told of the disks and of the inbox of a server
+-- what is told of the disks and of each inbox of a server: further ones, and behind them that of its office
 pub record Told : Type 0 where
   pub disks : List (Option History)
-  pub inbox : Option (List InboxEvent)
+  pub inboxes : List (Option (List InboxEvent))
 
-abbrev pub told_by : {S K D C A I T : Type 0} → Seeing S K D C A I T → Office S K D C A I T → Told
-told_by seen office = record {
+abbrev pub told_by : {S K D C A I T : Type 0} → Seeing S K D C A I T → Office S K D C A I T → DoorTells → Told
+told_by seen office door = record {
   disks = map seen.disk.history (disks_of office.disks.items);
-  inbox = seen.inbox.past office.inbox;
+  inboxes = map (λ box. box.past) ((place seen office door).boxes);
 }
 
--- What a server of these maps did, of whose disks and inbox this was told at first and at last: what the files stood
+-- What a server of these maps did, of whose disks and inboxes this was told at first and at last: what the files stood
 -- for was published first, more was behind it, in rising orders, and on that log the connections and the datagrams were
 -- served. At the end a crash leaves of each file what it shows of the map, or one other version.
 pub record ServerHolds (catalogue : Catalogue) (loses : Bool) (old new : Told) (closed : List ClosedConnection) : Type 0
@@ -123,15 +127,16 @@ pub record ServerHolds (catalogue : Catalogue) (loses : Bool) (old new : Told) (
     pub grown : IsFront (starts 0 first) log
     pub rises : AllByRecursion (λ history. IsSome history) new.disks → IsRisingLog log
     pub connections : ConnectionsAreServed catalogue (starts 0 first) log closed
-    pub datagrams : InboxIsServed catalogue (starts 0 first) log loses old.inbox new.inbox
+    pub datagrams : InboxesAreServed catalogue (starts 0 first) log loses old.inboxes new.inboxes
     pub at_end : (number : ℕ) → IfSome (slice_get new.disks number) (LeavesShown number log)
 
 -- What `serve` does that serves its maps, where its listener and its connections tell.
 abbrev pub ServeHolds : {S K D C A I T : Type 0} → Seeing S K D C A I T → Type 0
 ServeHolds {S} {K} {D} {C} {A} {I} {T} seen =
-    (job : Job) (status : Status) (old new : Office S K D C A I T) (door door' : ListenTells) (logged : List ℕ)
+    (job : Job) (status : Status) (old new : Office S K D C A I T) (door door' : DoorTells) (logged : List ℕ)
     → ServesMaps seen job status old new door door' logged
-    → (calls calls' : ListenerHistory) (closed : List (List ClosedConnection)) → door.past ≡ Some calls
-    → door'.past ≡ Some calls'
+    → (calls calls' : ListenerHistory) (closed : List (List ClosedConnection)) → door.listen.past ≡ Some calls
+    → door'.listen.past ≡ Some calls'
     → calls'.closed ≡ calls.closed ++ closed → AllByRecursion IsToldClosed (closed_in closed)
-    → ServerHolds (catalogue_of job) (may_lose status) (told_by seen old) (told_by seen new) (closed_in closed)
+    → ServerHolds (catalogue_of job) (may_lose status) (told_by seen old door) (told_by seen new door')
+    (closed_in closed)

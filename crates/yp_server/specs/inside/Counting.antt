@@ -1,5 +1,5 @@
 -- A worker of datagrams before it has counted anything.
-use Rattle.std.specs.Prelude.{◌≡◌}
+use Rattle.std.specs.Prelude.{◌≡◌, ℕ}
 use Rattle.yp_board.specs.Catalogues.{Catalogue}
 use Rattle.yp_board.specs.Logs.{Log}
 use Rattle.yp_answer.specs.session.Hosts.{Conduct}
@@ -7,10 +7,13 @@ use Rattle.yp_worker.specs.Summing.{Counting}
 use Rattle.yp_server.specs.declared.datagrams.DatagramWorker.{DatagramWorker}
 use Rattle.yp_server.specs.Serving.{at_rest, no_counts, IsAtStart}
 
--- A worker of datagrams has a host that knows what was shown at the start, and has counted nothing yet.
+-- A worker of datagrams has this inbox and so many turns of it, and a host that knows what was shown at the start and has
+-- counted nothing yet.
 pub record BeginsMail {I H T : Type 0} (conduct : Conduct H) (counting : Counting H T) (catalogue : Catalogue)
-    (starts : Log) (datagram_worker : DatagramWorker I H T) : Type 0 where
+    (starts : Log) (turns : ℕ) (inbox : I) (datagram_worker : DatagramWorker I H T) : Type 0 where
   pub host : H
+  pub inbox_is : datagram_worker.inbox ≡ inbox
+  pub turns_are : datagram_worker.turns ≡ turns
   pub server_is : datagram_worker.server ≡ at_rest host
   pub start : IsAtStart catalogue starts (conduct.seen host)
   pub fresh : conduct.counts host ≡ no_counts

@@ -1,6 +1,6 @@
 -- The places at which a server works, side by side.
-use Rattle.std.specs.Prelude.{◌≡◌, ℕ, ◌+◌, ◌<◌, List, ◌∷◌, ◌++◌, length, slice_index_or, Result, is_err, true, false}
-use Rattle.std.specs.List.{All}
+use Rattle.std.specs.Prelude.{◌≡◌, ℕ, ◌+◌, ◌<◌, List, [], ◌∷◌, ◌++◌, length, map, replicate, slice_index_or}
+use Rattle.std.specs.Prelude.{true, false, Result, is_err}
 use Rattle.yp_io.specs.Counts.{HasRisen}
 use Rattle.yp_io.specs.declared.stream.Failed.{Failed}
 use Rattle.yp_answer.specs.session.Hosts.{Conduct}
@@ -48,16 +48,36 @@ Works mails old new = ⊥
 abbrev pub AllWork : {P : Type 0} → (P → P → Type 0) → List P → List P → Type 0
 AllWork {P} works old new = (i : ℕ) (d : P) → i < length old → works (slice_index_or old i d) (slice_index_or new i d)
 
--- The first worker is that of this worker of datagrams, and at all others workers of connections hold this.
-pub record AreWorkers {J E H G I M F N : Type 0} (datagram_worker : DatagramWorker I H N) (held : Passed)
-    (all_workers : List (ServerWorker J E H G I M F N)) : Type 0 where
-  pub others : List (ServerWorker J E H G I M F N)
-  pub posts_are : all_workers ≡ Datagrams datagram_worker ∷ others
-  pub all : All (λ server_worker. server_worker ≡ Connections held) others
+-- so many workers of connections, which hold this
+abbrev pub connections_of : {J E H G I M F N : Type 0} → ℕ → Passed → List (ServerWorker J E H G I M F N)
+connections_of count held = replicate count (Connections held)
 
--- Behind what was there came workers of workers of connections, who hold this.
-pub record AddsWorkers {J E H G I M F N : Type 0} (held : Passed)
-    (old new : List (ServerWorker J E H G I M F N)) : Type 0 where
-  pub more : List (ServerWorker J E H G I M F N)
-  pub posts_are : new ≡ old ++ more
-  pub all : All (λ server_worker. server_worker ≡ Connections held) more
+-- these workers of datagrams, and behind them so many of connections, which hold this
+abbrev pub workers_of : {J E H G I M F N : Type 0} → List (DatagramWorker I H N) → ℕ → Passed
+    → List (ServerWorker J E H G I M F N)
+workers_of datagram_workers others held =
+    map (λ datagram_worker. Datagrams datagram_worker) datagram_workers ++ connections_of others held
+
+-- A server has these workers of datagrams, and behind them one of connections and so many others, which hold this. A
+-- ledger has two parts more than there are of connections.
+pub record IsManned {J E H G I M F N : Type 0} (datagram_workers : List (DatagramWorker I H N)) (held : Passed)
+    (parts : ℕ) (all_workers : List (ServerWorker J E H G I M F N)) : Type 0 where
+  pub others : ℕ
+  pub parts_are : parts ≡ others + 3
+  pub workers_are : all_workers ≡ workers_of datagram_workers (others + 1) held
+
+-- the workers of datagrams among workers, in their order
+abbrev pub mails_in : {J E H G I M F N : Type 0} → List (ServerWorker J E H G I M F N) → List (DatagramWorker I H N)
+mails_in [] = []
+mails_in (Connections held ∷ all_workers) = mails_in all_workers
+mails_in (Datagrams datagram_worker ∷ all_workers) = datagram_worker ∷ mails_in all_workers
+
+-- what the workers of connections among workers hold together
+abbrev pub held_in : {J E H G I M F N : Type 0} → List (ServerWorker J E H G I M F N) → Passed
+held_in [] = record { parts = 0; out = 0; ended = 0 }
+held_in (Connections held ∷ all_workers) = record {
+  parts = held.parts + (held_in all_workers).parts;
+  out = held.out + (held_in all_workers).out;
+  ended = held.ended + (held_in all_workers).ended;
+}
+held_in (Datagrams datagram_worker ∷ all_workers) = held_in all_workers

@@ -10,7 +10,8 @@ use yp_memory::MemInbox;
 // Names of words.
 //
 // MATCH is of `alpha` in hosts.byname of `lab`, and its replies are NO_MAP, OLD with `10.0.0.1 alpha`, as the file has
-// it, and NEW with `10.0.0.2 alpha`, as the text has it. NULL is a call in a datagram, and NULL_DONE the reply to it.
+// it, and NEW with `10.0.0.2 alpha`, as the text has it. NULL is a call in a datagram, and NULL_DONE the reply to it;
+// MATCH_MAIL asks there what MATCH does, and OLD_MAIL is its reply of the version in the file.
 // ALL is of hosts.byname of `lab`, and OLD_ALL the reply of the version in the file. MAKE is of hosts.byname in `lab`,
 // and its replies are MADE and, where the text isn't read, NOT_READ. XFR is of hosts.byname of `lab` from the host
 // `m2`, which has no address, and TAKEN the reply. FILE has order 100, master `m1` and the row `alpha`, `10.0.0.1
@@ -26,6 +27,10 @@ NEW = 80000030 00000001 00000001 00000000 00000000 00000000 00000000 00000001 00
     2e302e32 20616c70 68610000
 NULL = 00000007 00000000 00000002 000186a4 00000002 00000000 00000000 00000000 00000000 00000000
 NULL_DONE = 00000007 00000001 00000000 00000000 00000000 00000000
+MATCH_MAIL = 0000000b 00000000 00000002 000186a4 00000002 00000003 00000000 00000000 00000000 \
+    00000000 00000003 6c616200 0000000c 686f7374 732e6279 6e616d65 00000005 616c7068 61000000
+OLD_MAIL = 0000000b 00000001 00000000 00000000 00000000 00000000 00000001 0000000e 31302e30 \
+    2e302e31 20616c70 68610000
 ALL = 80000040 00000002 00000000 00000002 000186a4 00000002 00000008 00000000 00000000 00000000 \
     00000000 00000003 6c616200 0000000c 686f7374 732e6279 6e616d65
 OLD_ALL = 80000044 00000002 00000001 00000000 00000000 00000000 00000000 00000001 00000001 \

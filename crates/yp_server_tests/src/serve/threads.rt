@@ -1,6 +1,6 @@
-//! Connections that workers in threads serve.
+//! Connections and datagrams that workers in threads serve.
 
-ghost use Rattle.std.specs.Prelude.{◌≡◌, ◌≤◌};
+ghost use Rattle.std.specs.Prelude.{◌≡◌, ◌≤◌, length};
 
 use crate::given::{NEVER, assert_same};
 use crate::halls::{Caller, Visit, hall, taken};
@@ -18,14 +18,14 @@ use std::thread::Threads;
 use yp_board::readers::{Naming, Opened};
 use yp_host::workers::{Outcomes, Totals};
 use yp_memory::{MemHall, MemInbox};
-use yp_server::{ServeSpec, Served, serve};
+use yp_server::{ServeSpec, Served, ServerResources, serve};
 use yp_worker::Tally;
 
 // What is served: the file of the map, who calls, how many are to be accepted, how many workers there are, 1 to 8, how
 // these are held, the call of the hall that fails, and the read of the text. Then the datagrams that come in turn, the
-// most turns, a mark before which no turn is taken, and the call of the inbox that fails. What is wanted: the tally,
-// what all workers count, the replies, and what comes of the inbox: how many turns there are, the replies, and whether
-// it fails.
+// most turns, a mark before which no turn is taken, and the call of the inbox that fails; and further inboxes behind
+// it. What is wanted: the tally, what all workers count, the replies, and what comes of the inbox: how many turns there
+// are, the replies, and whether it fails, or a further one does.
 struct Case {
     name: &'static str,
     file: &'static str,
@@ -39,22 +39,30 @@ struct Case {
     turns: u64,
     until: Option<Mark>,
     unmailed: u64,
+    more: &'static [Further],
     tally: Tally,
     totals: Totals,
     output: &'static str,
     mailed: (u64, &'static str, bool),
 }
 
-// What came of it: the tally, what all workers counted, what the connections had taken that went back, one after the
-// other, and what came of the inbox.
-type Came = (Tally, Totals, Vec<u8>, Mailed);
+// A further inbox: the datagrams that come to it in turn, the call of it that fails, how many turns there are, and the
+// replies.
+struct Further {
+    mail: &'static [&'static str],
+    unmailed: u64,
+    mailed: (u64, &'static str),
+}
 
-// What came of an inbox: how many turns there were, what it sent to the sender, one after the other, and whether it is
-// said to have failed.
-type Mailed = (u64, Vec<u8>, bool);
+// What came of it: the tally, what all workers counted, what the connections had taken that went back, one after the
+// other, what came of each inbox, and whether one is said to have failed.
+type Came = (Tally, Totals, Vec<u8>, Vec<Mailed>, bool);
+
+// What came of an inbox: how many turns there were, and what it sent to the sender, one after the other.
+type Mailed = (u64, Vec<u8>);
 
 // What came of an inbox.
-fn mailed(rt: &impl Abort, alloc: Global, inbox: &MemInbox, fault: bool) -> Mailed {
+fn mailed(rt: &impl Abort, alloc: Global, inbox: &MemInbox) -> Mailed {
     let mut sent = Vec::new(alloc);
     for letter in inbox.letters() {
         if letter.peer == SENDER {
@@ -62,7 +70,42 @@ fn mailed(rt: &impl Abort, alloc: Global, inbox: &MemInbox, fault: bool) -> Mail
                 .expect(rt, "memory for bytes");
         }
     }
-    (inbox.turns(), sent, fault)
+    (inbox.turns(), sent)
+}
+
+// What is to come of the inboxes of a case.
+fn wanted_mail(rt: &impl Abort, alloc: Global, case: &Case) -> Vec<Mailed> {
+    let (turns, replies, _) = case.mailed;
+    let first = (turns, words(rt, alloc, replies));
+    let mut all = vec![in alloc; first].expect(rt, "memory for an inbox");
+    for further in case.more {
+        let (turns, replies) = further.mailed;
+        let mailed = (turns, words(rt, alloc, replies));
+        all.push(mailed).expect(rt, "memory for an inbox");
+    }
+    all
+}
+
+// The inboxes of a case at a gate, from one to eight.
+fn inboxes_of<'g, 'h>(
+    rt: &impl Abort,
+    alloc: Global,
+    case: &Case,
+    gate: &'g Holding<'h>,
+) -> Vec<Behind<'g, 'h, MemInbox>>
+    ensures some { 1 ≤ length result.items }
+    ensures few { length result.items ≤ 8 }
+{
+    let first = inbox(rt, alloc, case.mail, case.unmailed);
+    let first = Behind::new(first, gate, case.until);
+    let mut all = vec![in alloc; first].expect(rt, "memory for an inbox");
+    for further in case.more {
+        let inbox = inbox(rt, alloc, further.mail, further.unmailed);
+        all.push(Behind::new(inbox, gate, case.until))
+            .expect(rt, "memory for an inbox");
+    }
+    assert!(rt; !all.is_empty() && all.len() <= 8);
+    all
 }
 
 // What is seen of what comes back.
@@ -72,8 +115,18 @@ fn seen<D, B, A, T, C>(
     served: &Served<D, B, A, T, C, MemHall, Behind<'_, '_, MemInbox>>,
 ) -> Came {
     let output = taken(rt, alloc, &served.listen);
-    let mailed = mailed(rt, alloc, served.inbox.inside(), served.inbox_fault);
-    (served.tally, served.totals, output, mailed)
+    let mut all_mailed = Vec::new(alloc);
+    for inbox in &served.inboxes {
+        let mailed = mailed(rt, alloc, inbox.inside());
+        all_mailed.push(mailed).expect(rt, "memory for an inbox");
+    }
+    (
+        served.tally,
+        served.totals,
+        output,
+        all_mailed,
+        served.inbox_fault,
+    )
 }
 
 // Serves a case at a gate, from the opening of a board on.
@@ -100,22 +153,27 @@ fn served<J: Naming + Send + Sync, R: Threads + Wait + RandomSource + Abort + Sy
         script: &[],
     };
     let listen = hall(rt, alloc, NAMES, &visit);
-    let inbox = inbox(rt, alloc, case.mail, case.unmailed);
-    let inbox = Behind::new(inbox, gate, case.until);
+    let inboxes = inboxes_of(rt, alloc, case, gate);
     let desk = desk_of(rt, alloc, TEXT, 200, case.unread);
-    let (maps, readers) = publisher::<J, R>(rt, alloc, opened, b"m1", file, spec.workers + 2);
-    let served = serve(
-        alloc, rt, maps, readers, desk, listen, inbox, &spec, None, gate,
-    );
+    let count = spec.workers + 1 + inboxes.len() as u32;
+    let (publisher, readers) = publisher::<J, R>(rt, alloc, opened, b"m1", file, count);
+    let resources = ServerResources {
+        publisher,
+        readers,
+        desk,
+        listen,
+        inboxes,
+    };
+    let served = serve(alloc, rt, resources, &spec, None, gate);
     seen(rt, alloc, &served.ok().expect(rt, "memory for workers"))
 }
 
 // Serves a case, and compares what came. No worker is held for too long.
 fn try_case<R: Threads + Wait + RandomSource + Abort + Sync>(rt: &R, alloc: Global, case: &Case) {
-    let (turns, replies, fault) = case.mailed;
-    let mailed = (turns, words(rt, alloc, replies), fault);
+    let (_, _, fault) = case.mailed;
+    let mailed = wanted_mail(rt, alloc, case);
     let output = words(rt, alloc, case.output);
-    let wanted = (case.tally, case.totals, output, mailed);
+    let wanted = (case.tally, case.totals, output, mailed, fault);
     let gate = Holding::new(rt, alloc, case.holds);
     let came = served::<Brand, R>(rt, alloc, Opened::new(), case, &gate);
     assert_same(rt, &came, &wanted, case.name);
@@ -153,6 +211,7 @@ const TWO_WORKERS: Case = Case {
     turns: 0,
     until: None,
     unmailed: NEVER,
+    more: &[],
     tally: Tally {
         connections: 2,
         calls: 3,
@@ -453,4 +512,84 @@ static UNMAILED: Case = Case {
 #[test]
 fn inbox_fault(rt: HostRuntime) {
     try_case(&rt, rt.alloc(), &UNMAILED);
+}
+
+// Each inbox has turns of its own.
+static TWO_INBOXES: Case = Case {
+    name: "two inboxes",
+    callers: &[("MATCH", 0, 0)],
+    most: 1,
+    workers: 1,
+    mail: &["NULL"],
+    turns: 1,
+    more: &[Further {
+        mail: &["MATCH_MAIL"],
+        unmailed: NEVER,
+        mailed: (1, "OLD_MAIL"),
+    }],
+    tally: Tally {
+        connections: 1,
+        calls: 1,
+        listen_fault: false,
+    },
+    output: "OLD",
+    mailed: (1, "NULL_DONE", false),
+    ..TWO_WORKERS
+};
+
+#[test]
+fn two_inboxes(rt: HostRuntime) {
+    try_case(&rt, rt.alloc(), &TWO_INBOXES);
+}
+
+// Each takes all turns: datagrams that come, in turn, and quiet ones.
+static THREE_INBOXES: Case = Case {
+    name: "three inboxes",
+    mail: &["MATCH_MAIL", "NULL"],
+    turns: 3,
+    more: &[
+        Further {
+            mail: &[],
+            unmailed: NEVER,
+            mailed: (3, ""),
+        },
+        Further {
+            mail: &["NULL", "MATCH_MAIL", "NULL", "NULL"],
+            unmailed: NEVER,
+            mailed: (3, "NULL_DONE OLD_MAIL NULL_DONE"),
+        },
+    ],
+    mailed: (3, "OLD_MAIL NULL_DONE", false),
+    ..TWO_WORKERS
+};
+
+#[test]
+fn three_inboxes(rt: HostRuntime) {
+    try_case(&rt, rt.alloc(), &THREE_INBOXES);
+}
+
+// The reply of the second one isn't sent. The others take all their turns, and the connections are served.
+static ONE_UNMAILED: Case = Case {
+    name: "one of three inboxes fails",
+    mail: &["NULL", "NULL"],
+    turns: 2,
+    more: &[
+        Further {
+            mail: &["NULL", "NULL"],
+            unmailed: 1,
+            mailed: (1, ""),
+        },
+        Further {
+            mail: &["MATCH_MAIL"],
+            unmailed: NEVER,
+            mailed: (2, "OLD_MAIL"),
+        },
+    ],
+    mailed: (2, "NULL_DONE NULL_DONE", true),
+    ..TWO_WORKERS
+};
+
+#[test]
+fn one_of_three_inboxes_fails(rt: HostRuntime) {
+    try_case(&rt, rt.alloc(), &ONE_UNMAILED);
 }

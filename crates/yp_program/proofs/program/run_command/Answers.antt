@@ -1,9 +1,9 @@
 use Rattle.std.proofs.Common.{[], map, ap, sym, subst, refl}
 use Rattle.yp_board.specs.Catalogues.{name_view}
-use Rattle.yp_worker.specs.Receptions.{opening_by}
+use Rattle.yp_command_serve.specs.serve.Hosting.{doors_by}
 use Rattle.yp_command.specs.Words.{Meaning, Serve, meaning, host_view}
 use Rattle.yp_command.specs.office.Seeing.{Seeing, seeing}
-use Rattle.yp_program.specs.Commands.{CommandDoes, may_end, office_of}
+use Rattle.yp_program.specs.Commands.{CommandDoes, may_end, office_of, doors_of}
 use Rattle.yp_program.proofs.Dispatch.{same_end}
 use Rattle.yp_program.proofs.Noting.{logs_nothing}
 use Rattle.yp_program.proofs.program.run_command.Goals as goal
@@ -12,14 +12,14 @@ pub returns-in-Serve-clause-does : goal.returns-in-Serve-clause-does
 returns-in-Serve-clause-does g c =
     let seen : Seeing g.row.S.Denot g.row.K.Denot g.row.D.Denot g.row.C.Denot g.row.A.Denot g.row.I.Denot g.row.T.Denot =
     seeing g.S.Source g.K.Sink g.D.Disk g.C.Clock g.A.Dial g.I.Inbox g.T.Texts in
-    let tells = opening_by g.L.Hall in
+    let tells = doors_by g.L.Hall g.I.Inbox in
     let outside = c.args.outside in
     let wires = g.W.Witness.wires c.args.witness.now in
     let did = c.run_server in
     let does = did.ensures.does in (
       does.0,
       subst (λ (m : Meaning). CommandDoes seen m did.result.0 (office_of outside) (office_of did.result.1)
-          (tells outside.listen) (tells did.result.1.listen) wires wires does.0) (sym (ap meaning c.in-Serve.is))
+          (tells (doors_of outside)) (tells (doors_of did.result.1)) wires wires does.0) (sym (ap meaning c.in-Serve.is))
           (does.1, refl),
       does.2,
     )
@@ -37,12 +37,12 @@ pub returns-in_default-clause-does : goal.returns-in_default-clause-does
 returns-in_default-clause-does g c =
     let seen : Seeing g.row.S.Denot g.row.K.Denot g.row.D.Denot g.row.C.Denot g.row.A.Denot g.row.I.Denot g.row.T.Denot =
     seeing g.S.Source g.K.Sink g.D.Disk g.C.Clock g.A.Dial g.I.Inbox g.T.Texts in
-    let tells = opening_by g.L.Hall in
+    let tells = doors_by g.L.Hall g.I.Inbox in
     let outside = c.args.outside in
     let did = c.run_alone in (
       [],
       logs_nothing seen did.result.0 (meaning c.args.command) (office_of outside) (office_of did.result.1)
-          (tells outside.listen) (tells did.result.1.listen) (g.W.Witness.wires c.args.witness.now)
-          (g.W.Witness.wires did.new.witness) (ap tells did.ensures.listen) did.ensures.does,
+          (tells (doors_of outside)) (tells (doors_of did.result.1)) (g.W.Witness.wires c.args.witness.now)
+          (g.W.Witness.wires did.new.witness) (ap tells did.ensures.doors) did.ensures.does,
       did.ensures.note,
     )

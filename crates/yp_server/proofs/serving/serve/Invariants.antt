@@ -8,7 +8,7 @@ use Rattle.yp_server.proofs.serving.serve.Given as goal
 abbrev pub ghosts-under_locks-J-Reception : goal.ghosts-under_locks-J-Reception
 ghosts-under_locks-J-Reception g a = record {
   starts = g.B.Show.log a.resources.publisher.board;
-  most = a.spec.now.most;
+  most = a.setting.spec.most;
   opening = opening_by g.L.Hall a.resources.listen;
 }
 
@@ -23,24 +23,24 @@ ghosts-under_locks-J-Supplies g a = record {
   wires = g.A.Dial.past a.resources.desk.dial;
   letters = g.A.Dial.letters a.resources.desk.dial;
   dial_faults = g.A.Dial.faults a.resources.desk.dial;
-  unread = a.blanks.unread.name;
-  orders = a.blanks.orders.name;
-  sources = a.blanks.sources.name;
+  unread = a.blanks.charges.unread.name;
+  orders = a.blanks.charges.orders.name;
+  sources = a.blanks.charges.sources.name;
 }
 
 abbrev pub ghosts-under_locks-J-Ledger : goal.ghosts-under_locks-J-Ledger
-ghosts-under_locks-J-Ledger g a = record { name = a.out.name; parts = a.out.parts }
+ghosts-under_locks-J-Ledger g a = record { name = a.blanks.listener.out.name; parts = a.blanks.listener.out.parts }
 
 abbrev pub ghosts-under_locks-E-Ledger : goal.ghosts-under_locks-E-Ledger
-ghosts-under_locks-E-Ledger g a = record { name = a.ended.name; parts = a.ended.parts }
+ghosts-under_locks-E-Ledger g a = record { name = a.blanks.listener.ended.name; parts = a.blanks.listener.ended.parts }
 
 abbrev pub ghosts-under_locks-J-Accounts : goal.ghosts-under_locks-J-Accounts
 ghosts-under_locks-J-Accounts g a = record {
   built = IsBuiltAsNamed (g.T.Texts.text a.resources.desk.texts) a.resources.publisher.catalogue;
   first = publisher_state g.B.Show.log a.resources.publisher;
   disk_faults = faults_over g.D.Disk.faults (disks_of a.resources.publisher.maps);
-  failures = a.blanks.failures.name;
-  made = a.blanks.made.name;
-  versions = a.blanks.versions.name;
-  shares = a.blanks.failures.parts;
+  failures = a.blanks.charges.failures.name;
+  made = a.blanks.charges.made.name;
+  versions = a.blanks.charges.versions.name;
+  shares = a.blanks.charges.failures.parts;
 }

@@ -1,15 +1,20 @@
-use Rattle.std.proofs.Common.{arith}
-use Rattle.yp_server.proofs.Fronts.{starts_in}
+use Rattle.std.proofs.Common.{map, sym, subst, ◌<◌, arith}
+use Rattle.std.proofs.lemmas.List.{length-map}
+use Rattle.yp_rpc.specs.inside.Turns.{box_by}
+use Rattle.yp_server.proofs.Fronts.{starts_in, served_of}
 use Rattle.yp_server.proofs.serving.under_locks.Goals as goal
 
 pub returns-clause-datagrams : goal.returns-clause-datagrams
 returns-clause-datagrams g c =
-    (c.serve-listen.ensures.counted (g.B.Show.log c.unlock-disks.result.1) c.unlock-disks.ensures.grown).of_datagrams.served
+    served_of _ _ _ _ _ _ _ _ _ _
+    (c.serve-listen.ensures.counted (g.B.Show.log c.unlock-disks.result.1) c.unlock-disks.ensures.grown).of_datagrams
 
 pub returns-clause-grown : goal.returns-clause-grown
 returns-clause-grown g c =
-    starts_in _ _ _ _ _ _ _ _ _ _ _ _
-    (c.serve-listen.ensures.counted (g.B.Show.log c.unlock-disks.result.1) c.unlock-disks.ensures.grown)
+    let some = c.requires.inboxes.0 in
+    let long = length-map c.args.resources.inboxes.items (box_by g.I.Inbox) in
+    starts_in _ _ _ _ _ _ _ _ _ _ (omega (arith, some, long))
+    (c.serve-listen.ensures.counted (g.B.Show.log c.unlock-disks.result.1) c.unlock-disks.ensures.grown).of_datagrams
 
 pub returns-clause-rises : goal.returns-clause-rises
 returns-clause-rises g c = c.unlock-disks.ensures.rises

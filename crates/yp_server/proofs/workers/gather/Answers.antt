@@ -1,42 +1,44 @@
-use Rattle.std.proofs.Common.{arith}
-use Rattle.yp_server.specs.inside.Serving.{after_work}
-use Rattle.yp_server.proofs.Posted.{last_mail, last_seat, some_manned}
+use Rattle.std.proofs.Common.{[], ◌∷◌, length, refl, ap, ◌∙◌, arith}
+use Rattle.std.proofs.lemmas.List.{append-nil, length-append}
+use Rattle.yp_server.specs.inside.Workers.{mails_in, held_in}
+use Rattle.yp_server.proofs.Posted.{gathered, mails_more, held_more}
 use Rattle.yp_server.proofs.workers.gather.Goals as goal
+
+pub loop-server_worker-init : goal.loop-server_worker-init
+loop-server_worker-init g c = record {
+  mails = rw c.requires.none (append-nil (mails_in c.args.all_workers.items));
+  room = rw c.requires.none (omega (arith, c.requires.room));
+  parts = refl;
+  out = refl;
+  ended = refl;
+}
+
+pub take_in-requires : goal.take_in-requires
+take_in-requires g c =
+    let room = c.loop-server_worker.invariant.room in
+    let front = c.pop.new.self.items in
+    let last = c.in-Some.server_worker in
+    let parted = ap (λ l. length (mails_in l)) c.in-Some.ensures.items ∙ ap length (mails_more front last)
+    ∙ length-append (mails_in front) (mails_in (last ∷ [])) in
+    record { room = omega (arith, room, parted) }
 
 pub loop-server_worker-preserved : goal.loop-server_worker-preserved
 loop-server_worker-preserved g c =
     let before = c.loop-server_worker.invariant in
-    let connection_worker = c.in-Connections.connection_worker in
-    let last = last_seat c.requires.0 after_work connection_worker _ _ c.in-Some.server_worker (before.manned c.requires.0 c.requires.1)
-    c.in-Some.ensures.items c.in-Connections.is in
-    let home = last.0 in
-    let merged = c.merge.ensures in
-    let gone = c.into_pass.ensures in record {
-      manned = λ datagram_worker was. (last_seat datagram_worker after_work connection_worker _ _ c.in-Some.server_worker (before.manned datagram_worker was)
-          c.in-Some.ensures.items c.in-Connections.is).1;
-      parts = rw (merged, gone, home) (omega (arith, before.parts, c.in-Some.ensures.len));
-      out = rw (merged, gone, home) (omega (arith, before.out));
-      ended = rw (merged, gone, home) (omega (arith, before.ended, c.in-Some.ensures.len));
+    let front = c.pop.new.self.items in
+    let last = c.in-Some.server_worker in
+    let is = c.in-Some.ensures.items in
+    let did = c.take_in.ensures in
+    let parted = ap (λ l. length (mails_in l)) is ∙ ap length (mails_more front last) ∙ length-append (mails_in front) (mails_in (last ∷ [])) in
+    let long = ap length did.datagram_workers ∙ length-append c.loop-server_worker.datagram_workers.items (mails_in (last ∷ [])) in
+    let more = held_more front last in
+    let parts = ap (λ l. (held_in l).parts) is ∙ more.0 in
+    let out = ap (λ l. (held_in l).out) is ∙ more.1 in
+    let ended = ap (λ l. (held_in l).ended) is ∙ more.2 in
+    record {
+      mails = gathered _ _ last is _ _ _ did.datagram_workers before.mails;
+      room = omega (arith, before.room, parted, long, did.capacity);
+      parts = omega (arith, before.parts, did.parts, parts);
+      out = omega (arith, before.out, did.out, out);
+      ended = omega (arith, before.ended, did.ended, ended);
     }
-
-pub returns-in-Datagrams-clause-datagram_worker : goal.returns-in-Datagrams-clause-datagram_worker
-returns-in-Datagrams-clause-datagram_worker g c = λ datagram_worker was.
-    (last_mail datagram_worker c.in-Datagrams.datagram_worker after_work _ _ c.in-Some.server_worker (c.loop-server_worker.invariant.manned datagram_worker was)
-    c.in-Some.ensures.items c.in-Datagrams.is).0
-
-pub returns-in-Datagrams-clause-parts : goal.returns-in-Datagrams-clause-parts
-returns-in-Datagrams-clause-parts g c =
-    let one = (last_mail c.requires.0 c.in-Datagrams.datagram_worker after_work _ _ c.in-Some.server_worker
-    (c.loop-server_worker.invariant.manned c.requires.0 c.requires.1) c.in-Some.ensures.items c.in-Datagrams.is).1 in
-    omega (arith, one, c.loop-server_worker.invariant.parts)
-
-pub returns-in-Datagrams-clause-ended : goal.returns-in-Datagrams-clause-ended
-returns-in-Datagrams-clause-ended g c =
-    let one = (last_mail c.requires.0 c.in-Datagrams.datagram_worker after_work _ _ c.in-Some.server_worker
-    (c.loop-server_worker.invariant.manned c.requires.0 c.requires.1) c.in-Some.ensures.items c.in-Datagrams.is).1 in
-    omega (arith, one, c.loop-server_worker.invariant.ended)
-
-pub unreachable-requires : goal.unreachable-requires
-unreachable-requires g c =
-    let some = some_manned c.requires.0 after_work _ (c.loop-server_worker.invariant.manned c.requires.0 c.requires.1) in
-    absurd (omega (arith, some, c.in_default.ensures.cases.0))

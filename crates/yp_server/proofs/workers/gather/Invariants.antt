@@ -1,16 +1,14 @@
-use Rattle.std.proofs.Common.{◌≡◌, ◌+◌, length}
-use Rattle.yp_server.specs.declared.datagrams.DatagramWorker.{DatagramWorker}
-use Rattle.yp_server.specs.inside.Serving.{after_work}
-use Rattle.yp_server.specs.inside.Workers.{AreWorkers}
+use Rattle.std.proofs.Common.{◌≡◌, ◌≤◌, ◌+◌, ◌++◌, length, reverse, vec_capacity}
+use Rattle.yp_server.specs.inside.Workers.{mails_in, held_in}
 use Rattle.yp_server.proofs.workers.gather.Given as goal
 
 abbrev pub invariant-loop-server_worker : goal.invariant-loop-server_worker
 invariant-loop-server_worker g l = record {
-  manned : (datagram_worker : DatagramWorker g.row.I.Denot g.row.H.Denot g.row.H-Count.Denot) → AreWorkers datagram_worker after_work l.initial.all_workers.items
-      → AreWorkers datagram_worker after_work l.all_workers.items;
-  parts : l.pass.parts + length l.all_workers.items ≡ l.initial.pass.parts + length l.initial.all_workers.items;
-  out : l.pass.out ≡ l.initial.pass.out;
-  ended : l.pass.ended + length l.all_workers.items ≡ l.initial.pass.ended + length l.initial.all_workers.items;
+  mails : mails_in l.all_workers.items ++ reverse l.datagram_workers.items ≡ mails_in l.fn.all_workers.items;
+  room : length (mails_in l.all_workers.items) + length l.datagram_workers.items ≤ vec_capacity l.datagram_workers;
+  parts : l.pass.parts + (held_in l.all_workers.items).parts ≡ l.fn.pass.parts + (held_in l.fn.all_workers.items).parts;
+  out : l.pass.out + (held_in l.all_workers.items).out ≡ l.fn.pass.out + (held_in l.fn.all_workers.items).out;
+  ended : l.pass.ended + (held_in l.all_workers.items).ended ≡ l.fn.pass.ended + (held_in l.fn.all_workers.items).ended;
 }
 
 abbrev pub decreases-loop-server_worker : goal.decreases-loop-server_worker

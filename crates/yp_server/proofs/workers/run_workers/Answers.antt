@@ -1,138 +1,167 @@
-use Rattle.std.proofs.Common.{length, ap, sym, subst, arith}
-use Rattle.std.proofs.lemmas.List.{with_items_is}
+use Rattle.std.proofs.Common.{◌≡◌, ◌+◌, Bool, length, map, reverse, ap, sym, subst, ◌∙◌, arith}
+use Rattle.std.proofs.lemmas.List.{with_items_is, length-reverse}
+use Rattle.std.proofs.lemmas.Slice.Zip.{AllZip-long}
+use Rattle.std.specs.List.{AllZip, list_any}
 use Rattle.yp_answer.specs.session.Hosts.{conduct_of}
 use Rattle.yp_rpc.specs.inside.Turns.{box_by}
 use Rattle.yp_worker.specs.Receptions.{opening_by, terms_of}
 use Rattle.yp_worker.specs.inside.Receptions.{Passed}
 use Rattle.yp_worker.specs.Summing.{counting_of}
-use Rattle.yp_server.specs.inside.Workers.{AreWorkers, AnswersDatagrams}
+use Rattle.yp_server.specs.declared.datagrams.DatagramWorker.{DatagramWorker}
+use Rattle.yp_server.specs.Serving.{SomeHasRisen}
+use Rattle.yp_server.specs.Counting.{CountsInboxes}
+use Rattle.yp_server.specs.inside.Workers.{AnswersDatagrams}
 use Rattle.yp_server.specs.inside.Serving.{before_work, after_work}
-use Rattle.yp_server.proofs.Fronts.{front_then, mailed, mail_fails}
-use Rattle.yp_server.proofs.Posted.{came_of, worked}
+use Rattle.yp_server.proofs.Fronts.{front_then, fronts_then, all_mailed, some_fails}
+use Rattle.yp_server.proofs.Posted.{worked, mails_of, held_of}
 use Rattle.yp_server.proofs.workers.run_workers.Goals as goal
 
-pub last_of-maker-requires-clause-manned : goal.last_of-maker-requires-clause-manned
-last_of-maker-requires-clause-manned g c =
+pub last_of-maker-requires : goal.last_of-maker-requires
+last_of-maker-requires g c =
     let conduct = conduct_of g.H.View.seen g.H.Host.told g.H.Host.counts g.H.View.stepped g.H.Host.made g.H.Host.carried in
-    let box = box_by g.I.Inbox in
-    let all_workers = c.work_beside.new.places in
-    let same = with_items_is c.args.all_workers all_workers (omega (arith, c.work_beside.ensures.count, c.deref_mut.ensures.len)) in
-    let first = subst (AreWorkers c.requires.manned.0 before_work) (sym c.deref_mut.ensures.value) c.requires.manned.1 in
-    let all = worked (AnswersDatagrams conduct g.H.CatchUp.counted box g.I.Inbox.faults) c.requires.manned.0
-    c.deref_mut.result.now all_workers first c.work_beside.ensures.count c.work_beside.ensures.works in
-    (all.0, subst (AreWorkers all.0 after_work) (sym same) all.2)
+    let mails = AnswersDatagrams conduct g.H.CatchUp.counted (box_by g.I.Inbox) g.I.Inbox.faults in
+    let was = c.requires.manned.1 in
+    let places = c.work_beside.new.places in
+    let same = with_items_is c.args.staff.all_workers places (omega (arith, c.work_beside.ensures.count, c.deref_mut.ensures.len)) in
+    let all = worked mails c.requires.manned.0 (was.others + 1) c.deref_mut.result.now places
+    (c.deref_mut.ensures.value ∙ was.workers_are) c.work_beside.ensures.count c.work_beside.ensures.works in
+    record { manned = (all.0, was.others, same ∙ all.2) }
 
-pub last_of-maker-requires-clause-some : goal.last_of-maker-requires-clause-some
-last_of-maker-requires-clause-some g c =
-    let all_workers = c.work_beside.new.places in
-    let same = with_items_is c.args.all_workers all_workers (omega (arith, c.work_beside.ensures.count, c.deref_mut.ensures.len)) in
-    omega (arith, ap length same, c.work_beside.ensures.count, c.deref_mut.ensures.len, c.requires.some)
-
-pub gather-datagram_worker-requires : goal.gather-datagram_worker-requires
-gather-datagram_worker-requires g c =
+pub gather-datagram_workers-requires-clause-room : goal.gather-datagram_workers-requires-clause-room
+gather-datagram_workers-requires-clause-room g c =
     let conduct = conduct_of g.H.View.seen g.H.Host.told g.H.Host.counts g.H.View.stepped g.H.Host.made g.H.Host.carried in
-    let box = box_by g.I.Inbox in
-    let all_workers = c.work_beside.new.places in
-    let same = with_items_is c.args.all_workers all_workers (omega (arith, c.work_beside.ensures.count, c.deref_mut.ensures.len)) in
-    let first = subst (AreWorkers c.requires.manned.0 before_work) (sym c.deref_mut.ensures.value) c.requires.manned.1 in
-    let all = worked (AnswersDatagrams conduct g.H.CatchUp.counted box g.I.Inbox.faults) c.requires.manned.0
-    c.deref_mut.result.now all_workers first c.work_beside.ensures.count c.work_beside.ensures.works in
-    (all.0, c.last_of-maker.ensures.others all.0 (subst (AreWorkers all.0 after_work) (sym same) all.2))
+    let mails = AnswersDatagrams conduct g.H.CatchUp.counted (box_by g.I.Inbox) g.I.Inbox.faults in
+    let was = c.requires.manned.1 in
+    let places = c.work_beside.new.places in
+    let same = with_items_is c.args.staff.all_workers places (omega (arith, c.work_beside.ensures.count, c.deref_mut.ensures.len)) in
+    let all = worked mails c.requires.manned.0 (was.others + 1) c.deref_mut.result.now places
+    (c.deref_mut.ensures.value ∙ was.workers_are) c.work_beside.ensures.count c.work_beside.ensures.works in
+    let left = c.last_of-maker.ensures.others all.0 was.others (same ∙ all.2) in
+    let these = mails_of all.0 was.others after_work _ left in
+    let count = AllZip-long mails c.requires.manned.0 all.0 all.1 in
+    let long = ap length these in
+    let fits = c.requires.manned.2 in
+    omega (arith, long, count, fits)
 
 pub close-listen-requires-clause-all : goal.close-listen-requires-clause-all
 close-listen-requires-clause-all g c =
-    let all_workers = c.work_beside.new.places in
-    let same = with_items_is c.args.all_workers all_workers (omega (arith, c.work_beside.ensures.count, c.deref_mut.ensures.len)) in
+    let conduct = conduct_of g.H.View.seen g.H.Host.told g.H.Host.counts g.H.View.stepped g.H.Host.made g.H.Host.carried in
+    let mails = AnswersDatagrams conduct g.H.CatchUp.counted (box_by g.I.Inbox) g.I.Inbox.faults in
+    let was = c.requires.manned.1 in
+    let places = c.work_beside.new.places in
+    let same = with_items_is c.args.staff.all_workers places (omega (arith, c.work_beside.ensures.count, c.deref_mut.ensures.len)) in
+    let all = worked mails c.requires.manned.0 (was.others + 1) c.deref_mut.result.now places
+    (c.deref_mut.ensures.value ∙ was.workers_are) c.work_beside.ensures.count c.work_beside.ensures.works in
+    let left = c.last_of-maker.ensures.others all.0 was.others (same ∙ all.2) in
+    let held = (held_of all.0 was.others _ left).0 in
     let begun = ap (λ (p : Passed). p.parts) c.requires.pass in
     let merged = ap (λ (p : Passed). p.parts) c.merge.ensures in
     let passed = ap (λ (p : Passed). p.parts) c.into_pass.ensures in
     let last = ap (λ (p : Passed). p.parts) c.last_of-maker.ensures.last in
-    omega (
-      arith,
-      c.gather-datagram_worker.ensures.parts,
-      merged,
-      passed,
-      c.drain-listening.ensures.out.0,
-      last,
-      c.last_of-maker.ensures.count,
-      begun,
-      ap length same,
-      c.work_beside.ensures.count,
-      c.deref_mut.ensures.len,
-      c.requires.parts,
-    )
+    let parts = c.gather-datagram_workers.ensures.parts in
+    let drained = c.drain-listening.ensures.out.0 in
+    let ledger = was.parts_are in
+    omega (arith, held, begun, merged, passed, last, parts, drained, ledger)
 
 pub close-listen-requires-clause-none_out : goal.close-listen-requires-clause-none_out
 close-listen-requires-clause-none_out g c =
+    let conduct = conduct_of g.H.View.seen g.H.Host.told g.H.Host.counts g.H.View.stepped g.H.Host.made g.H.Host.carried in
+    let mails = AnswersDatagrams conduct g.H.CatchUp.counted (box_by g.I.Inbox) g.I.Inbox.faults in
+    let was = c.requires.manned.1 in
+    let places = c.work_beside.new.places in
+    let same = with_items_is c.args.staff.all_workers places (omega (arith, c.work_beside.ensures.count, c.deref_mut.ensures.len)) in
+    let all = worked mails c.requires.manned.0 (was.others + 1) c.deref_mut.result.now places
+    (c.deref_mut.ensures.value ∙ was.workers_are) c.work_beside.ensures.count c.work_beside.ensures.works in
+    let left = c.last_of-maker.ensures.others all.0 was.others (same ∙ all.2) in
+    let held = (held_of all.0 was.others _ left).1 in
     let begun = ap (λ (p : Passed). p.out) c.requires.pass in
     let merged = ap (λ (p : Passed). p.out) c.merge.ensures in
     let passed = ap (λ (p : Passed). p.out) c.into_pass.ensures in
     let last = ap (λ (p : Passed). p.out) c.last_of-maker.ensures.last in
-    omega (arith, c.gather-datagram_worker.ensures.out, merged, passed, c.drain-listening.ensures.out.1, last, begun)
+    let out = c.gather-datagram_workers.ensures.out in
+    let drained = c.drain-listening.ensures.out.1 in
+    omega (arith, held, begun, merged, passed, last, out, drained)
 
 pub close-listen-requires-clause-ended : goal.close-listen-requires-clause-ended
 close-listen-requires-clause-ended g c =
-    let all_workers = c.work_beside.new.places in
-    let same = with_items_is c.args.all_workers all_workers (omega (arith, c.work_beside.ensures.count, c.deref_mut.ensures.len)) in
     let merged = ap (λ (p : Passed). p.ended) c.merge.ensures in
     let passed = ap (λ (p : Passed). p.ended) c.into_pass.ensures in
     let last = ap (λ (p : Passed). p.ended) c.last_of-maker.ensures.last in
-    omega (
-      arith,
-      c.gather-datagram_worker.ensures.ended,
-      merged,
-      passed,
-      c.drain-listening.ensures.ended,
-      last,
-      c.last_of-maker.ensures.count,
-      ap length same,
-      c.work_beside.ensures.count,
-      c.deref_mut.ensures.len,
-      c.requires.some,
-    )
+    let ended = c.gather-datagram_workers.ensures.ended in
+    let drained = c.drain-listening.ensures.ended in
+    omega (arith, merged, passed, last, ended, drained)
+
+pub hand_over_all-mailed-requires-clause-room : goal.hand_over_all-mailed-requires-clause-room
+hand_over_all-mailed-requires-clause-room g c =
+    let conduct = conduct_of g.H.View.seen g.H.Host.told g.H.Host.counts g.H.View.stepped g.H.Host.made g.H.Host.carried in
+    let mails = AnswersDatagrams conduct g.H.CatchUp.counted (box_by g.I.Inbox) g.I.Inbox.faults in
+    let was = c.requires.manned.1 in
+    let places = c.work_beside.new.places in
+    let same = with_items_is c.args.staff.all_workers places (omega (arith, c.work_beside.ensures.count, c.deref_mut.ensures.len)) in
+    let all = worked mails c.requires.manned.0 (was.others + 1) c.deref_mut.result.now places
+    (c.deref_mut.ensures.value ∙ was.workers_are) c.work_beside.ensures.count c.work_beside.ensures.works in
+    let left = c.last_of-maker.ensures.others all.0 was.others (same ∙ all.2) in
+    let these = c.gather-datagram_workers.ensures.datagram_workers ∙ mails_of all.0 was.others after_work _ left in
+    let count = AllZip-long mails c.requires.manned.0 all.0 all.1 in
+    let long = ap length these in
+    let turned = length-reverse c.gather-datagram_workers.result.items in
+    let fits = c.requires.manned.3 in
+    omega (arith, long, turned, count, fits)
 
 pub returns-clause-counted : goal.returns-clause-counted
-returns-clause-counted g c = λ datagram_worker manned begins log reaches.
+returns-clause-counted g c = λ inboxes datagram_workers was turns begins log reaches.
     let conduct = conduct_of g.H.View.seen g.H.Host.told g.H.Host.counts g.H.View.stepped g.H.Host.made g.H.Host.carried in
+    let counting = counting_of g.H.CatchUp.counted g.H.HandsOver.none g.H.HandsOver.plus in
     let box = box_by g.I.Inbox in
-    let all_workers = c.work_beside.new.places in
-    let same = with_items_is c.args.all_workers all_workers (omega (arith, c.work_beside.ensures.count, c.deref_mut.ensures.len)) in
-    let first = subst (AreWorkers datagram_worker before_work) (sym c.deref_mut.ensures.value) manned in
-    let mails = came_of (AnswersDatagrams conduct g.H.CatchUp.counted box g.I.Inbox.faults) datagram_worker c.gather-datagram_worker.result c.deref_mut.result.now all_workers first
-    c.work_beside.ensures.count c.work_beside.ensures.works
-    (λ last h. c.gather-datagram_worker.ensures.datagram_worker last
-    (c.last_of-maker.ensures.others last (subst (AreWorkers last after_work) (sym same) h))) in
-    let reached = g.H.HandsOver.reached c.hand_over-mailed.new.sum in
-    let closed = c.close-listen.result.2 in record {
+    let mails = AnswersDatagrams conduct g.H.CatchUp.counted box g.I.Inbox.faults in
+    let places = c.work_beside.new.places in
+    let same = with_items_is c.args.staff.all_workers places (omega (arith, c.work_beside.ensures.count, c.deref_mut.ensures.len)) in
+    let all = worked mails datagram_workers (was.others + 1) c.deref_mut.result.now places
+    (c.deref_mut.ensures.value ∙ was.workers_are) c.work_beside.ensures.count c.work_beside.ensures.works in
+    let left = c.last_of-maker.ensures.others all.0 was.others (same ∙ all.2) in
+    let ended = reverse c.gather-datagram_workers.result.items in
+    let these : ended ≡ all.0 = c.gather-datagram_workers.ensures.datagram_workers ∙ mails_of all.0 was.others after_work _ left in
+    let zip : AllZip mails datagram_workers ended = subst (λ l. AllZip mails datagram_workers l) (sym these) all.1 in
+    let handed = c.hand_over_all-mailed in
+    let reached = g.H.HandsOver.reached handed.new.sum in
+    let closed = c.close-listen.result.2 in
+    let fronts = fronts_then (λ (m : DatagramWorker g.row.I.Denot g.row.H.Denot g.row.H-Count.Denot). (g.H.View.seen m.server.host).known) reached log ended reaches handed.ensures.covered in
+    let catalogue = g.J.Site.catalogue in
+    let starts = g.J.Reception.starts in
+    let counts = map (λ (m : DatagramWorker g.row.I.Denot g.row.H.Denot g.row.H-Count.Denot). g.H.CatchUp.counted m.server.host) ended in
+    record {
       connections = g.H.HandsOver.summed closed;
-      datagrams = g.H.CatchUp.counted c.gather-datagram_worker.result.server.host;
+      datagrams = counts;
       of_connections = c.sums_reach_further.ensures (terms_of g.J.Site.catalogue g.J.Reception.starts g.J.Reception.most)
           g.J.Reception.opening
           (opening_by g.L.Hall c.close-listen.result.0)
           c.close-listen.result.1.calls (g.H.HandsOver.summed closed)
           (g.H.HandsOver.reached closed) log c.close-listen.ensures.summed
-          (front_then (g.H.HandsOver.reached closed) reached log c.hand_over-mailed.ensures.kept reaches);
-      of_datagrams = mailed conduct
-          (counting_of g.H.CatchUp.counted g.H.HandsOver.none g.H.HandsOver.plus) box g.I.Inbox.faults datagram_worker
-          c.gather-datagram_worker.result mails c.hand_over-mailed.result.fault c.hand_over-mailed.ensures.mailed.1
-          c.hand_over-mailed.result.inbox c.hand_over-mailed.ensures.mailed.0
-          g.J.Site.catalogue g.J.Reception.starts log begins
-          (front_then (g.H.View.seen c.gather-datagram_worker.result.server.host).known reached log c.hand_over-mailed.ensures.covered
-          reaches);
-      all_is = c.hand_over-mailed.ensures.added;
+          (front_then (g.H.HandsOver.reached closed) reached log handed.ensures.kept reaches);
+      of_datagrams =
+          subst (λ (b : Bool). CountsInboxes conduct counting catalogue starts log turns b (map box inboxes) (map box handed.result.inboxes.items) counts)
+          (sym handed.ensures.fault)
+          (subst (λ l. CountsInboxes conduct counting catalogue starts log turns (list_any (λ (m : DatagramWorker g.row.I.Denot g.row.H.Denot g.row.H-Count.Denot). m.fault) ended) (map box inboxes) (map box l) counts)
+          (sym handed.ensures.inboxes)
+          (all_mailed conduct counting box g.I.Inbox.faults catalogue starts turns log inboxes datagram_workers ended begins zip fronts));
+      all_is = handed.ensures.added;
     }
 
 pub returns-clause-cause : goal.returns-clause-cause
-returns-clause-cause g c = λ datagram_worker manned.
+returns-clause-cause g c = λ inboxes datagram_workers was turns begins fails.
     let conduct = conduct_of g.H.View.seen g.H.Host.told g.H.Host.counts g.H.View.stepped g.H.Host.made g.H.Host.carried in
+    let counting = counting_of g.H.CatchUp.counted g.H.HandsOver.none g.H.HandsOver.plus in
     let box = box_by g.I.Inbox in
-    let all_workers = c.work_beside.new.places in
-    let same = with_items_is c.args.all_workers all_workers (omega (arith, c.work_beside.ensures.count, c.deref_mut.ensures.len)) in
-    let first = subst (AreWorkers datagram_worker before_work) (sym c.deref_mut.ensures.value) manned in
-    let mails = came_of (AnswersDatagrams conduct g.H.CatchUp.counted box g.I.Inbox.faults) datagram_worker c.gather-datagram_worker.result c.deref_mut.result.now all_workers first
-    c.work_beside.ensures.count c.work_beside.ensures.works
-    (λ last h. c.gather-datagram_worker.ensures.datagram_worker last
-    (c.last_of-maker.ensures.others last (subst (AreWorkers last after_work) (sym same) h))) in
-    mail_fails conduct (counting_of g.H.CatchUp.counted g.H.HandsOver.none g.H.HandsOver.plus) box g.I.Inbox.faults datagram_worker c.gather-datagram_worker.result
-    mails c.hand_over-mailed.result.fault c.hand_over-mailed.ensures.mailed.1 c.hand_over-mailed.result.inbox
-    c.hand_over-mailed.ensures.mailed.0
+    let mails = AnswersDatagrams conduct g.H.CatchUp.counted box g.I.Inbox.faults in
+    let places = c.work_beside.new.places in
+    let same = with_items_is c.args.staff.all_workers places (omega (arith, c.work_beside.ensures.count, c.deref_mut.ensures.len)) in
+    let all = worked mails datagram_workers (was.others + 1) c.deref_mut.result.now places
+    (c.deref_mut.ensures.value ∙ was.workers_are) c.work_beside.ensures.count c.work_beside.ensures.works in
+    let left = c.last_of-maker.ensures.others all.0 was.others (same ∙ all.2) in
+    let ended = reverse c.gather-datagram_workers.result.items in
+    let these : ended ≡ all.0 = c.gather-datagram_workers.ensures.datagram_workers ∙ mails_of all.0 was.others after_work _ left in
+    let zip : AllZip mails datagram_workers ended = subst (λ l. AllZip mails datagram_workers l) (sym these) all.1 in
+    let handed = c.hand_over_all-mailed in
+    subst (λ l. SomeHasRisen (map g.I.Inbox.faults inboxes) (map g.I.Inbox.faults l)) (sym handed.ensures.inboxes)
+    (some_fails conduct counting box g.I.Inbox.faults g.J.Site.catalogue g.J.Reception.starts turns inboxes datagram_workers ended
+    begins zip (sym handed.ensures.fault ∙ fails))

@@ -1,4 +1,4 @@
-use Rattle.std.proofs.Common.{List, length, Option, sym, ap, subst, ◌∙◌}
+use Rattle.std.proofs.Common.{List, length, map, Option, sym, ap, subst, ◌∙◌, arith}
 use Rattle.std.specs.Prelude.{option_map}
 use Rattle.std.specs.Arc.{arc_value}
 use Rattle.std.proofs.lemmas.List.{length-map}
@@ -15,13 +15,14 @@ use Rattle.yp_rpc.specs.inside.Turns.{box_by}
 use Rattle.yp_worker.specs.Receptions.{opening_by}
 use Rattle.yp_server.specs.Counting.{FilesAreCovered}
 use Rattle.yp_command_serve.specs.serve.Hosting.{server_tells, supply_of}
+use Rattle.yp_command_serve.proofs.serve.Boxes.{served_long}
 use Rattle.yp_command_serve.proofs.serve.Served.{served_as, leaves_count}
 use Rattle.yp_command_serve.proofs.serve.Starts.{at_start, first_as}
 use Rattle.yp_command_serve.proofs.serve.resources.host_shown.Goals as goal
 
 pub board-requires-clause-starts : goal.board-requires-clause-starts
 board-requires-clause-starts g c =
-    sym (length-map c.args.start.items (option_map arc_value)) ∙ ap length c.requires.start
+    sym (length-map c.args.starting.versions.items (option_map arc_value)) ∙ ap length c.requires.start
     ∙ length-map c.args.loaded (λ (k : StoredMap g.row.D.Denot). k.version) ∙ c.requires.count
     ∙ sym (ap (λ (served : Catalogue). length served.maps) c.requires.copy)
 
@@ -49,20 +50,20 @@ returns-in-Ok-serve-clause-hosted g c =
     let did = c.in-Ok-serve.ensures in
     let made = c.publisher_of-publisher.ensures in
     let here = opening_by g.L.Hall in
-    let letters = box_by g.I.Inbox in
+    let letters = map (box_by g.I.Inbox) in
     let tells = dial_by g.A.Dial in
     let given = supply_of (g.T.Texts.faults c.shared-desk.result.texts) (tells c.shared-desk.result.dial) in
     let left = supply_of (g.T.Texts.faults c.in-Ok-serve.served.desk.texts) (tells c.in-Ok-serve.served.desk.dial) in
     served_as g.D.Disk.history g.D.Disk.faults c.args.loaded _ _ _
-    (server_tells (here c.args.listen) (letters c.args.inbox) given)
-    (server_tells (here c.in-Ok-serve.served.listen) (letters c.in-Ok-serve.served.inbox) left)
+    (server_tells (here c.args.listen) (letters c.args.inboxes.items) given)
+    (server_tells (here c.in-Ok-serve.served.listen) (letters c.in-Ok-serve.served.inboxes.items) left)
     c.in-Ok-serve.served.disks.items c.in-Ok-serve.served.writer.log
     c.args.spec.now.turns c.args.catalog c.publisher_of-publisher.result.catalogue _ _ _ _
     (publisher_state (λ (w : Written). w.log) c.publisher_of-publisher.result) c.args.spec.now.most
-    (ap (λ (d : Desk g.row.A.Denot g.row.T.Denot g.row.C.Denot). server_tells (here c.args.listen) (letters c.args.inbox)
+    (ap (λ (d : Desk g.row.A.Denot g.row.T.Denot g.row.C.Denot). server_tells (here c.args.listen) (letters c.args.inboxes.items)
     (supply_of (g.T.Texts.faults d.texts) (tells d.dial))) c.shared-desk.ensures)
     (ap (λ (d : Desk g.row.A.Denot g.row.T.Denot g.row.C.Denot). server_tells (here c.in-Ok-serve.served.listen)
-    (letters c.in-Ok-serve.served.inbox)
+    (letters c.in-Ok-serve.served.inboxes.items)
     (supply_of (g.T.Texts.faults d.texts) (tells d.dial))) (sym c.unshared.ensures.desk))
     (ap (λ (p : Published g.row.D.Denot Written). p.catalogue) made.publisher)
     (ap (λ (d : Desk g.row.A.Denot g.row.T.Denot g.row.C.Denot). g.T.Texts.text d.texts) c.shared-desk.ensures)
@@ -95,3 +96,11 @@ returns-in-Ok-serve-clause-count g c =
     c.in-Ok-serve.served.disks.items c.in-Ok-serve.ensures.maps
     ∙ ap (λ (p : Published g.row.D.Denot Written). length p.catalogue.maps) c.publisher_of-publisher.ensures.publisher
     ∙ sym c.requires.count
+
+pub returns-in-Ok-serve-clause-inboxes : goal.returns-in-Ok-serve-clause-inboxes
+returns-in-Ok-serve-clause-inboxes g c =
+    let box = box_by g.I.Inbox in
+    let long = served_long _ _ _ _ _ _ _ (map box c.args.inboxes.items) (map box c.in-Ok-serve.served.inboxes.items) c.in-Ok-serve.ensures.datagrams in
+    let old = length-map c.args.inboxes.items box in
+    let new = length-map c.in-Ok-serve.served.inboxes.items box in
+    omega (arith, long, old, new)

@@ -1,20 +1,35 @@
-use Rattle.std.proofs.Common.{◌≡◌, List, [], map, length, refl, sym, ap, subst, ◌∙◌}
+use Rattle.std.proofs.Common.{◌≡◌, List, [], ◌∷◌, ◌++◌, map, length, refl, sym, ap, subst, ◌∙◌}
 use Rattle.std.proofs.KnownBytes.{Appends-nil}
 use Rattle.std.specs.Prelude.{All}
 use Rattle.yp_board.specs.Catalogues.{Name, name_view}
 use Rattle.yp_board.specs.declared.catalog.MapName.{MapName}
 use Rattle.yp_worker.specs.Receptions.{opening_by}
+use Rattle.yp_rpc.specs.inside.Turns.{box_by}
 use Rattle.yp_command.specs.inside.Words.{IsNamed}
 use Rattle.yp_command.specs.declared.office.office.Office.{Office}
 use Rattle.yp_command.specs.office.Seeing.{Seeing, seeing, output}
-use Rattle.yp_command_serve.specs.declared.serve.resources.ServerResources.{ServerResources}
-use Rattle.yp_command_serve.specs.serve.Serve.{serve_job_of}
+use Rattle.yp_command_serve.specs.declared.serve.resources.HostResources.{HostResources}
+use Rattle.yp_command_serve.specs.serve.Hosting.{DoorTells, end_by, doors_by, server_tells}
+use Rattle.yp_command_serve.specs.serve.Serve.{serve_job_of, setup, supply, place}
 use Rattle.yp_command_serve.specs.serve.Log.{IsLog}
 use Rattle.yp_command_serve.specs.inside.serve.Serve.{TellsServeEnd}
 use Rattle.yp_command_serve.specs.inside.serve.Log.{totals_told}
 use Rattle.yp_command_serve.proofs.serve.Disks.{same_count}
-use Rattle.yp_command_serve.proofs.serve.Told.{nothing_done, number_within, shut_of, all_done}
+use Rattle.yp_command_serve.proofs.serve.Told.{nothing_done, number_within, hosted_at, shut_of, all_done}
+use Rattle.yp_command_serve.proofs.serve.Boxes.{boxes_are}
+use Rattle.yp_command_serve.proofs.serve.Failing.{some_fails}
 use Rattle.yp_command_serve.proofs.serve.serve.serve_catalog.Goals as goal
+
+pub returns-then-is_err-clause-does : goal.returns-then-is_err-clause-does
+returns-then-is_err-clause-does g c = (
+  [],
+  λ connections.
+      nothing_done (seeing g.S.Source g.K.Sink g.D.Disk g.C.Clock g.A.Dial g.I.Inbox g.T.Texts)
+      (serve_job_of c.args.catalog.own connections c.args.spec.now.turns c.args.catalog.maps c.args.hosts c.args.log)
+      c.args.office (doors_by g.L.Hall g.I.Inbox c.args.doors) (doors_by g.L.Hall g.I.Inbox (record { listen = c.args.doors.listen; more = c.reserve.new.self }))
+      (ap (λ (l : List g.row.I.Denot). record { listen = opening_by g.L.Hall c.args.doors.listen; more = map (end_by g.I.Inbox) l }) c.reserve.ensures.items),
+  λ fine. Appends-nil (g.N.Sink.output c.args.notes),
+)
 
 pub returns-in-Err-clause-does : goal.returns-in-Err-clause-does
 returns-in-Err-clause-does g c = (
@@ -22,7 +37,8 @@ returns-in-Err-clause-does g c = (
   λ connections. rw c.in-Err.ensures.err
       (nothing_done (seeing g.S.Source g.K.Sink g.D.Disk g.C.Clock g.A.Dial g.I.Inbox g.T.Texts)
       (serve_job_of c.args.catalog.own connections c.args.spec.now.turns c.args.catalog.maps c.args.hosts c.args.log)
-      c.args.office (opening_by g.L.Hall c.args.listen)),
+      c.args.office (doors_by g.L.Hall g.I.Inbox c.args.doors) (doors_by g.L.Hall g.I.Inbox (record { listen = c.args.doors.listen; more = c.reserve.new.self }))
+      (ap (λ (l : List g.row.I.Denot). record { listen = opening_by g.L.Hall c.args.doors.listen; more = map (end_by g.I.Inbox) l }) c.reserve.ensures.items)),
   λ fine. Appends-nil (g.N.Sink.output c.args.notes),
 )
 
@@ -55,22 +71,30 @@ returns-clause-does g c =
           let back = did.result.1 in
           let apart = c.in-Ok.apart in
           let job = serve_job_of c.args.catalog.own connections c.args.spec.now.turns c.args.catalog.maps c.args.hosts c.args.log in
+          let inbox = c.in-Some.inbox in
+          let rest = c.pop.new.self.items in
           let new : Office g.row.S.Denot g.row.K.Denot g.row.D.Denot g.row.C.Denot g.row.A.Denot g.row.I.Denot g.row.T.Denot =
           record {
             wire = record { source = old.wire.source; sink = told.new.sink };
             disks = c.put_together.new.named;
             clock = back.desk.clock;
             dial = back.desk.dial;
-            inbox = back.inbox;
+            inbox = inbox;
             texts = back.desk.texts;
           } in
-          let resources : ServerResources g.row.D.Denot g.row.A.Denot g.row.T.Denot g.row.C.Denot g.row.L.Denot g.row.I.Denot = record {
+          let resources : HostResources g.row.D.Denot g.row.A.Denot g.row.T.Denot g.row.C.Denot g.row.L.Denot g.row.I.Denot = record {
             disks = apart.disks;
             desk = record { dial = old.dial; texts = old.texts; clock = old.clock; hosts = c.args.hosts };
-            listen = c.args.listen;
-            inbox = old.inbox;
+            listen = c.args.doors.listen;
+            inboxes = c.push_reserved.new.self;
           } in
-          let tells = opening_by g.L.Hall in
+          let tells : g.row.L.Denot → List g.row.I.Denot → DoorTells = λ l more. record { listen = opening_by g.L.Hall l; more = map (end_by g.I.Inbox) more } in
+          let more = c.args.doors.more.items in
+          let door : DoorTells = tells c.args.doors.listen more in
+          let door' : DoorTells = tells back.listen rest in
+          let lent : resources.inboxes.items ≡ more ++ old.inbox ∷ [] =
+          c.push_reserved.ensures.items ∙ ap (λ (l : List g.row.I.Denot). l ++ old.inbox ∷ []) c.reserve.ensures.items in
+          let came : back.inboxes.items ≡ rest ++ inbox ∷ [] = c.in-Some.ensures.items in
           let all : map name_view apart.names.items ≡ c.args.catalog.maps = c.in-Ok.ensures.names ∙ c.requires.disks in
           let names : map name_view c.deref.result.now ≡ c.args.catalog.maps =
           ap (λ (l : List MapName). map name_view l) c.deref.ensures.value ∙ all in
@@ -78,13 +102,22 @@ returns-clause-does g c =
           ap (λ (l : List MapName). map name_view l) c.deref-2.ensures.value ∙ all in
           let log : IsLog c.args.log c.args.catalog.maps (totals_told did.result.0) logged.0 =
           subst (λ (l : List Name). IsLog c.args.log l (totals_told did.result.0) logged.0) names logged.1 in
-          let shut = shut_of tells job old new resources back logged.0 did.result.0 log refl refl refl refl refl did.ensures.untouched
-          told.ensures.untold in
-          all_done seen job told.result old new (tells c.args.listen) (tells back.listen) logged.0 did.result.0 apart.disks.items
-          back.disks.items c.in-Ok.ensures.disks (sym c.put_together.ensures.disks) did.ensures.hosted did.ensures.unhosted shut log
+          let shut = shut_of job old new resources back inbox more door door' tells logged.0 did.result.0 log refl refl refl lent rest came
+          refl refl refl did.ensures.untouched told.ensures.untold in
+          let hosted = hosted_at g.D.Disk.history g.D.Disk.faults (setup seen job old) did.result.0
+          (server_tells (opening_by g.L.Hall c.args.doors.listen) (map (box_by g.I.Inbox) resources.inboxes.items) (supply seen old))
+          (server_tells (opening_by g.L.Hall back.listen) (map (box_by g.I.Inbox) back.inboxes.items) (supply seen new))
+          (place seen old door) (place seen new door')
+          (ap (λ l. server_tells door.listen l (supply seen old)) (boxes_are g.I.Inbox resources.inboxes.items more old.inbox lent))
+          (ap (λ l. server_tells door'.listen l (supply seen new)) (boxes_are g.I.Inbox back.inboxes.items rest inbox came))
+          apart.disks.items back.disks.items did.ensures.hosted in
+          let fails = some_fails seen old new door door' did.result.0 resources.inboxes.items back.inboxes.items more rest
+          lent came did.ensures.inboxes refl refl did.ensures.inbox_fault in
+          all_done seen job told.result old new door door' logged.0 did.result.0 apart.disks.items
+          back.disks.items c.in-Ok.ensures.disks (sym c.put_together.ensures.disks) hosted did.ensures.unhosted shut log
           (subst (λ (l : List Name). TellsServeEnd did.result.0 l told.result (output seen old) (output seen new))
           names_told told.ensures.tells)
-          did.ensures.inbox_fault told.ensures.cause (c.put_together.ensures.names ∙ c.in-Ok.ensures.names) did.ensures.moment
+          fails told.ensures.cause (c.put_together.ensures.names ∙ c.in-Ok.ensures.names) did.ensures.moment
           did.ensures.texts refl,
       logged.2,
     )

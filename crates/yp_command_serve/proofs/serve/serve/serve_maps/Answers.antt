@@ -1,11 +1,11 @@
-use Rattle.std.proofs.Common.{◌≡◌, [], map, sym, ap, subst, ◌∙◌}
+use Rattle.std.proofs.Common.{◌≡◌, [], map, refl, sym, ap, subst, ◌∙◌}
 use Rattle.std.proofs.KnownBytes.{Appends-nil}
 use Rattle.std.specs.Prelude.{All}
 use Rattle.yp_board.specs.Catalogues.{Catalogue, name_view}
-use Rattle.yp_worker.specs.Receptions.{opening_by}
 use Rattle.yp_command.specs.inside.Words.{IsNamed}
 use Rattle.yp_transfer.specs.HostTable.{HostList}
 use Rattle.yp_command.specs.office.Seeing.{Seeing, seeing}
+use Rattle.yp_command_serve.specs.serve.Hosting.{doors_by}
 use Rattle.yp_command_serve.specs.serve.Serve.{Job, ServeDoes, serve_job_of}
 use Rattle.yp_command_serve.specs.inside.serve.Serve.{serve_job_view}
 use Rattle.yp_command_serve.proofs.serve.Told.{nothing_done}
@@ -15,7 +15,7 @@ pub returns-in_default-clause-does : goal.returns-in_default-clause-does
 returns-in_default-clause-does g c = (
   [],
   nothing_done (seeing g.S.Source g.K.Sink g.D.Disk g.C.Clock g.A.Dial g.I.Inbox g.T.Texts) (serve_job_view c.args.job)
-      c.args.office (opening_by g.L.Hall c.args.listen),
+      c.args.office (doors_by g.L.Hall g.I.Inbox c.args.doors) (doors_by g.L.Hall g.I.Inbox c.args.doors) refl,
   λ fine. Appends-nil (g.N.Sink.output c.args.notes),
 )
 
@@ -23,7 +23,7 @@ pub returns-in-Err-NoMemory-clause-does : goal.returns-in-Err-NoMemory-clause-do
 returns-in-Err-NoMemory-clause-does g c = (
   [],
   nothing_done (seeing g.S.Source g.K.Sink g.D.Disk g.C.Clock g.A.Dial g.I.Inbox g.T.Texts) (serve_job_view c.args.job)
-      c.args.office (opening_by g.L.Hall c.args.listen),
+      c.args.office (doors_by g.L.Hall g.I.Inbox c.args.doors) (doors_by g.L.Hall g.I.Inbox c.args.doors) refl,
   λ fine. Appends-nil (g.N.Sink.output c.args.notes),
 )
 
@@ -37,7 +37,7 @@ returns-clause-does g c =
     seeing g.S.Source g.K.Sink g.D.Disk g.C.Clock g.A.Dial g.I.Inbox g.T.Texts in
     let job = c.args.job in
     let did = c.serve_catalog in
-    let tells = opening_by g.L.Hall in
+    let tells = doors_by g.L.Hall g.I.Inbox in
     let same : serve_job_of c.in-Ok-new.catalog.own job.connections job.turns c.in-Ok-new.catalog.maps c.in-Ok.hosts job.log
     ≡ serve_job_view job =
     ap (λ (k : Catalogue). serve_job_of k.own job.connections job.turns k.maps c.in-Ok.hosts job.log) c.in-Ok-new.ensures.ok
@@ -45,7 +45,7 @@ returns-clause-does g c =
     c.in-Ok.ensures in
     let does = did.ensures.does in (
       does.0,
-      subst (λ (o : Job). ServeDoes seen o did.result.0 c.args.office did.result.1 (tells c.args.listen)
+      subst (λ (o : Job). ServeDoes seen o did.result.0 c.args.office did.result.1 (tells c.args.doors)
           (tells did.result.2) does.0) same (does.1 job.connections),
       does.2,
     )

@@ -1,9 +1,9 @@
-use Rattle.std.proofs.Common.{arith}
+use Rattle.std.proofs.Common.{refl, arith}
 use Rattle.std.proofs.lemmas.List.{length_push}
 use Rattle.yp_server.specs.Serving.{IsAtStart}
 use Rattle.yp_server.specs.inside.Serving.{before_work}
 use Rattle.yp_server.specs.declared.workers.ServerWorker.TheVariants.{Connections}
-use Rattle.yp_server.proofs.Posted.{none_seated, one_seated}
+use Rattle.yp_server.proofs.Adding.{one_of_those, none_to_come}
 use Rattle.yp_server.proofs.Rows.{all_before, all_last}
 use Rattle.yp_server.proofs.preparing.WorkerMaker.add_connection_workers.Goals as goal
 
@@ -13,35 +13,28 @@ loop-buffers-preserved g c =
     let one = c.in-Some.ensures.len in
     let reader = c.in-Some-pop.ensures.len in
     let all_workers = c.push_reserved.ensures.items in
-    let longer = length_push c.loop-buffers.all_workers.items (Connections c.connection_worker-connection_worker.result) in
+    let made = c.connection_worker-connection_worker in
+    let longer = length_push c.loop-buffers.all_workers.items (Connections made.result) in
     record {
-      all_workers = one_seated before_work _ c.loop-buffers.all_workers.items _ c.connection_worker-connection_worker.result before.all_workers all_workers c.connection_worker-connection_worker.ensures.connection_worker;
-      count = rw all_workers (omega (arith, longer, before.count, one));
+      all_workers = one_of_those before_work made.result c.loop-buffers.all_workers.items _ _ _ _ (omega (arith, one)) before.all_workers all_workers made.ensures.connection_worker;
       room = rw (all_workers, c.push_reserved.ensures.capacity) (omega (arith, longer, before.room, one));
       readers = omega (arith, before.readers, one, reader);
       knows = all_before (λ reader. IsAtStart g.J.Site.catalogue g.J.Reception.starts (g.B.Reader.View.seen reader)) _ _ _
           c.in-Some-pop.ensures.items before.knows;
-      out = (
-        let less = c.connection_worker-connection_worker.ensures.out.0 in let old = before.out.0 in omega (arith, less, old, one),
-        c.connection_worker-connection_worker.ensures.out.1,
-      );
-      ended = (
-        let less = c.connection_worker-connection_worker.ensures.ended.0 in let old = before.ended.0 in omega (arith, less, old, one),
-        c.connection_worker-connection_worker.ensures.ended.1,
-      );
-      charges = let less = c.connection_worker-connection_worker.ensures.charges in omega (arith, less, before.charges, one);
+      shares = record {
+        charges = let less = made.ensures.charges in let old = before.shares.charges in omega (arith, less, old, one);
+        out = (let less = made.ensures.out.0 in let old = before.shares.out.0 in omega (arith, less, old, one), made.ensures.out.1);
+        ended = (let less = made.ensures.ended.0 in let old = before.shares.ended.0 in omega (arith, less, old, one), made.ensures.ended.1);
+      };
     }
 
 pub loop-buffers-init : goal.loop-buffers-init
 loop-buffers-init g c = record {
-  all_workers = none_seated before_work c.args.all_workers.now.items;
-  count = omega (arith, c.requires.one);
-  room = omega (arith, c.requires.one, c.requires.room);
+  all_workers = refl;
+  room = c.requires.room;
   readers = c.requires.readers;
   knows = c.requires.knows;
-  out = c.requires.out;
-  ended = c.requires.ended;
-  charges = let all = c.requires.charges in omega (arith, all);
+  shares = c.requires.shares;
 }
 
 pub connection_worker-connection_worker-requires-clause-knows : goal.connection_worker-connection_worker-requires-clause-knows

@@ -1,22 +1,29 @@
-use Rattle.std.proofs.Common.{false, [], ◌∷◌, ◌++◌, ap, ◌∙◌, subst}
-use Rattle.yp_server.specs.declared.workers.ServerWorker.TheVariants.{Datagrams}
-use Rattle.yp_server.specs.inside.Workers.{AreWorkers}
-use Rattle.yp_server.specs.Serving.{at_rest}
+use Rattle.std.proofs.Common.{length, arith}
 use Rattle.yp_server.specs.inside.Serving.{before_work}
-use Rattle.yp_server.proofs.Posted.{manned}
+use Rattle.yp_server.proofs.Posted.{others_behind}
 use Rattle.yp_server.proofs.preparing.WorkerMaker.add_workers.Goals as goal
 
-pub returns-clause-manned : goal.returns-clause-manned
-returns-clause-manned g c =
-    let datagram_worker = c.new-datagram_worker.result in
-    let all_workers = c.add_connection_workers.new.all_workers.items in
-    let is = c.new-datagram_worker.ensures ∙ ap (λ host. record {
-      inbox = c.args.datagram_resources.inbox;
-      server = at_rest host;
-      room = c.args.datagram_resources.room;
-      turns = c.args.datagram_resources.turns;
-      fault = false;
-    }) c.new-host.ensures in
-    subst (λ m. AreWorkers m before_work all_workers) is
-    (manned datagram_worker before_work c.push_reserved.new.self.items all_workers
-    (c.push_reserved.ensures.items ∙ ap (λ l. l ++ Datagrams datagram_worker ∷ []) c.requires.none) c.add_connection_workers.ensures.all_workers)
+pub returns-clause-workers : goal.returns-clause-workers
+returns-clause-workers g c =
+    let added = c.add_datagram_workers.ensures.workers in (
+      added.0,
+      others_behind added.0 (length c.args.worker_resources.memory.all_buffers.items) before_work _ _ added.1
+          c.add_connection_workers.ensures.all_workers,
+      added.2,
+    )
+
+pub add_connection_workers-requires-clause-shares : goal.add_connection_workers-requires-clause-shares
+add_connection_workers-requires-clause-shares g c =
+    let was = c.requires.shares in
+    let less = c.add_datagram_workers.ensures.charges in record {
+      charges = let all = was.charges in omega (arith, all, less);
+      out = was.out;
+      ended = was.ended;
+    }
+
+pub add_connection_workers-requires-clause-room : goal.add_connection_workers-requires-clause-room
+add_connection_workers-requires-clause-room g c =
+    let fits = c.requires.room in
+    let added = c.add_datagram_workers.ensures.count in
+    let same = c.add_datagram_workers.ensures.room in
+    omega (arith, fits, added, same)

@@ -1,0 +1,28 @@
+use Rattle.std.proofs.Common.{◌≡◌, ◌≤◌, ◌+◌, ◌++◌, List, length, reverse, vec_len, vec_capacity}
+use Rattle.std.specs.List.{All, AllZip}
+use Rattle.yp_host.specs.workers.Workers.{WorkerState}
+use Rattle.yp_host.specs.declared.workers.outcome.Totals.{Totals}
+use Rattle.yp_server.specs.declared.datagrams.DatagramWorker.{DatagramWorker}
+use Rattle.yp_server.specs.Counting.{count_totals}
+use Rattle.yp_server.specs.Serving.{conduct_at, IsAtStart}
+use Rattle.yp_server.specs.inside.Counting.{BeginsMail}
+use Rattle.yp_server.specs.inside.Serving.{before_work}
+use Rattle.yp_server.specs.inside.Workers.{workers_of}
+use Rattle.yp_server.proofs.preparing.WorkerMaker.add_datagram_workers.Given as goal
+
+abbrev pub invariant-loop-inbox : goal.invariant-loop-inbox
+invariant-loop-inbox g l = record {
+  workers : (datagram_workers : List (DatagramWorker g.row.I.Denot (WorkerState g.row.B-Reader.Denot) Totals)) × (done : List g.row.I.Denot)
+      × (l.all_workers.items ≡ workers_of datagram_workers 0 before_work) × (done ++ reverse l.inboxes.items ≡ l.fn.inboxes.items)
+      × AllZip (BeginsMail (conduct_at g.B.Reader.View.seen g.B.Reader.View.stepped g.J.Supplies.text g.J.Supplies.hosts) count_totals
+      g.J.Site.catalogue g.J.Reception.starts l.turns) done datagram_workers;
+  count : length l.all_workers.items + length l.inboxes.items ≡ length l.fn.inboxes.items;
+  room : vec_capacity l.all_workers ≡ vec_capacity l.fn.all_workers;
+  rooms : length l.rooms.items ≡ length l.inboxes.items;
+  readers : length l.readers.items + length l.fn.inboxes.items ≡ length l.fn.readers.items + length l.inboxes.items;
+  knows : All (λ reader. IsAtStart g.J.Site.catalogue g.J.Reception.starts (g.B.Reader.View.seen reader)) l.readers.items;
+  charges : l.charges.parts + length l.fn.inboxes.items ≡ l.fn.charges.parts + length l.inboxes.items;
+}
+
+abbrev pub decreases-loop-inbox : goal.decreases-loop-inbox
+decreases-loop-inbox g l = vec_len l.inboxes
