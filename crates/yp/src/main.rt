@@ -103,8 +103,8 @@ fn ports(
 /// The turns of a server that is to serve for ever.
 const FOREVER: u64 = u64::MAX;
 
-/// Further ends of the port of an inbox. A server that serves for ever has as many ends as workers, so that datagrams are
-/// answered by as many as connections are. There are none for any other command, nor where they can't be opened.
+/// Further ends of the port of an inbox. A server that serves for ever has as many ends as workers, so that datagrams
+/// are answered by as many as connections are. There are none for any other command, nor where they can't be opened.
 fn further_ends(
     alloc: Global,
     command: &Command,

@@ -115,7 +115,8 @@ pub trait Tell: Show {
     /// The log that it is.
     ghost knows: { Self.Knowledge → Log };
 
-    /// What a reader knows, for another one. It takes no memory, and is refused where the versions have too many owners.
+    /// What a reader knows, for another one. It takes no memory, and is refused where the versions have too many
+    /// owners.
     fn knowledge(reader: &Self::Reader) -> Result<Self::Knowledge, NoMemory>
         ensures { IfOk result (λ knowledge. knows knowledge ≡ (Self.Reader.seen reader.now).known) };
 

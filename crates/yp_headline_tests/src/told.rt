@@ -1,5 +1,5 @@
-//! Runs of `once`, `session`, `build` and `serve` by [`run_told`]. Their calls, replies and files are written out by hand,
-//! from RFC 5531, yp.x and docs/FORMATS.md.
+//! Runs of `once`, `session`, `build` and `serve` by [`run_told`]. Their calls, replies and files are written out by
+//! hand, from RFC 5531, yp.x and docs/FORMATS.md.
 
 use std::alloc::Global;
 use std::process::Abort;

@@ -29,8 +29,8 @@ use yp_version::Version;
 /// Makes a version of a map of the catalogue, where `shown` is the version that is shown of it, and `netgroups` the one
 /// that is shown of the netgroups. It is marked as the one that is shown.
 ///
-/// A map with another master is REFUSED, a text that isn't read is FILE, netgroups that aren't shown are NOMAP, an order
-/// that is spent AGE, and a row that passes a limit DBM. Want of memory is RSRC.
+/// A map with another master is REFUSED, a text that isn't read is FILE, netgroups that aren't shown are NOMAP, an
+/// order that is spent AGE, and a row that passes a limit DBM. Want of memory is RSRC.
 pub fn build_anew<A: Dial, T: Texts, C: Clock>(
     alloc: Global,
     rt: &impl RandomSource,

@@ -75,8 +75,8 @@ pub trait Watch {
     /// What wakes it, where that can be had.
     fn waker(&self) -> Option<Self::Waker>;
 
-    /// Watches a connection with this source under this place from now on, of which a record is awaited. A place that is
-    /// taken is taken over. After `Failed` the connection isn't watched.
+    /// Watches a connection with this source under this place from now on, of which a record is awaited. A place that
+    /// is taken is taken over. After `Failed` the connection isn't watched.
     fn enter(&mut self, place: u32, source: &Self::In) -> Result<(), Failed>
         ensures let_go { let_go self.new ≡ faults_after (let_go self.old) result };
 

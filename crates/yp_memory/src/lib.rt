@@ -1,8 +1,8 @@
 //! What the program reaches outside itself, in memory, for tests.
 //!
-//! A source and a sink, a disk, texts, a clock, a dial, an inbox and a hall with its watch and closers. Each fails at the
-//! calls that its [`Plan`] names, and tells contracts all that it holds, has taken or shows, so every clause of `yp_io`
-//! can be read off it. [`Scheduled`] says "not now" where its schedule does.
+//! A source and a sink, a disk, texts, a clock, a dial, an inbox and a hall with its watch and closers. Each fails at
+//! the calls that its [`Plan`] names, and tells contracts all that it holds, has taken or shows, so every clause of
+//! `yp_io` can be read off it. [`Scheduled`] says "not now" where its schedule does.
 #![tactic(auto)]
 
 mod clock;

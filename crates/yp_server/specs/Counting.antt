@@ -28,7 +28,8 @@ pub record CountsDatagrams {H T : Type 0} (conduct : Conduct H) (counting : Coun
   pub from_none : counting.counted served.old ≡ counting.none
   pub counted : counting.counted served.new ≡ count
 
--- Inboxes were served, each so, by a host that has counted this then. One of them has failed exactly where that is said.
+-- Inboxes were served, each so, by a host that has counted this then. One of them has failed exactly where that is
+-- said.
 abbrev pub CountsInboxes : {H T : Type 0} → Conduct H → Counting H T → Catalogue → (starts log : Log) → (turns : ℕ)
     → (fault : Bool) → (before after : List InboxTells) → (counts : List T) → Type 0
 CountsInboxes conduct counting catalogue starts log turns fault [] [] [] = fault ≡ false

@@ -5,8 +5,8 @@
 //! more socket takes what no other one does: what came to all hosts of a network, or to an address that is new.
 //!
 //! A port may have several ends. Each has a socket of its own for each address, among which the system deals out the
-//! callers. What the one for all takes comes to the first end alone, since what comes to all hosts of a network comes to
-//! each socket that takes it.
+//! callers. What the one for all takes comes to the first end alone, since what comes to all hosts of a network comes
+//! to each socket that takes it.
 
 ghost use Rattle.std.specs.Prelude.{IfOk};
 ghost use Rattle.yp_io.specs.Inboxes.{MailIsWithin};
@@ -206,8 +206,8 @@ fn open_at(address: SocketAddrV4) -> io::Result<UdpSocket> {
     Ok(opened)
 }
 
-/// Takes a datagram, if there is one now, or where it waits in a moment. It tries again where a signal interrupted that.
-/// What doesn't fit the buffer is lost. A datagram of another kind of address than IPv4 has no sender that can be
+/// Takes a datagram, if there is one now, or where it waits in a moment. It tries again where a signal interrupted
+/// that. What doesn't fit the buffer is lost. A datagram of another kind of address than IPv4 has no sender that can be
 /// answered, and is passed over.
 pub(crate) fn receive(socket: &UdpSocket, waits: bool, buf: &mut [u8]) -> io::Result<Mail>
     ensures { IfOk result (λ mail. MailIsWithin mail buf.new) }

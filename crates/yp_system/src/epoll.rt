@@ -46,7 +46,8 @@ pub(crate) fn tell_of(poll: &Poll, socket: RawFd, token: Token, what: Awaited) -
     }
 }
 
-/// Has it tell of each connection for what is awaited of it. Where that fails, the connection is let go once it is late.
+/// Has it tell of each connection for what is awaited of it. Where that fails, the connection is let go once it is
+/// late.
 pub(crate) fn tell_turned(poll: &Poll, places: &mut Places) {
     for _ in 0..u64::MAX {
         let Some(turned) = places.take_turned() else {

@@ -97,10 +97,10 @@ impl<R: Net + Clock + Files> UdpInbox<R> {
 }
 
 impl<R: Net + Clock + Files + Copy> UdpInbox<R> {
-    /// Opens so many further ends of the port, for threads of their own. Each is an inbox by itself, of datagrams alone:
-    /// the system deals out their senders, so that one sender always comes to the same end, for as long as no end is
-    /// opened or dropped. One that isn't received from any more is therefore to be dropped. This inbox keeps the callers
-    /// by TCP, and what comes to all hosts of a network. A datagram leaves as from here.
+    /// Opens so many further ends of the port, for threads of their own. Each is an inbox by itself, of datagrams
+    /// alone: the system deals out their senders, so that one sender always comes to the same end, for as long as no
+    /// end is opened or dropped. One that isn't received from any more is therefore to be dropped. This inbox keeps the
+    /// callers by TCP, and what comes to all hosts of a network. A datagram leaves as from here.
     ///
     /// From then on other programs of the same user can take part in the port, where they ask for that (SO_REUSEPORT).
     ///

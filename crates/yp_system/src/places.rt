@@ -275,7 +275,8 @@ impl Places {
             && self.payments.first().is_none()
     }
 
-    /// Who was idle longest, else who has been waited for longest, where that is at least so long. Its time begins anew.
+    /// Who was idle longest, else who has been waited for longest, where that is at least so long. Its time begins
+    /// anew.
     pub fn oldest(&mut self, now: Instant, least: Duration) -> Option<u32> {
         let place = self
             .records

@@ -283,8 +283,8 @@ impl Post {
         self.streak >= STREAK_MIN && self.calls.is_none()
     }
 
-    // Waits for a moment for a datagram by the socket alone that the last ones came by, which takes one call of the system
-    // in place of two. Where none comes, all are waited for.
+    // Waits for a moment for a datagram by the socket alone that the last ones came by, which takes one call of the
+    // system in place of two. Where none comes, all are waited for.
     fn linger(&mut self, buf: &mut [u8]) -> io::Result<Mail>
         ensures { IfOk result (λ mail. MailIsWithin mail buf.new) }
     {

@@ -43,7 +43,8 @@ pub trait HandsOver: CatchUp {
     /// A sum and more.
     ghost plus: { Self.Count → Self.Count → Self.Count };
 
-    /// It is told that the connection of this caller is closed for its time. That changes nothing of what it is seen as.
+    /// It is told that the connection of this caller is closed for its time. That changes nothing of what it is seen
+    /// as.
     fn late(&self, _peer: Peer) {}
 
     /// What a host knew at a moment, for another host of the board: a front of the log.

@@ -15,8 +15,8 @@ use std::sync::{Arc, Wait};
 use yp_io::NoMemory;
 use yp_version::Version;
 
-/// The most workers of a server that serve connections. Each has a reader of its own, and so have the one that does what
-/// takes long for them and each that serves datagrams.
+/// The most workers of a server that serve connections. Each has a reader of its own, and so have the one that does
+/// what takes long for them and each that serves datagrams.
 pub const WORKERS_MAX: u32 = 8;
 
 /// A board of this catalogue, on which these versions are shown, in the order of their maps: its writer, and its

@@ -86,8 +86,8 @@ impl<J: Naming> Reader<J> {
 }
 
 impl<J: Naming> Reader<J> {
-    /// The table that it knows, with one more owner of its versions. It takes no memory, and is refused where these have
-    /// too many.
+    /// The table that it knows, with one more owner of its versions. It takes no memory, and is refused where these
+    /// have too many.
     pub(crate) fn table(&self) -> Result<Table<J>, NoMemory>
         ensures { IfOk result (λ table. table ≡ self.now.known) }
     {

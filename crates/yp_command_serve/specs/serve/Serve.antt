@@ -102,9 +102,9 @@ pub record IsToAccept (connections : ℕ) (listen : ListenTells) : Type 0 where
   pub none : listen.accepted ≡ 0
 
 -- The maps were served, and that is told. Where the listener was to accept as many connections as were asked for, and
--- hasn't failed, so many came. Where an inbox failed before all its turns were taken, the count of one rose, whatever is
--- told. What the listener, the inboxes and the status tell fixes what came of it, but for the totals. The last line of a
--- log tells these.
+-- hasn't failed, so many came. Where an inbox failed before all its turns were taken, the count of one rose, whatever
+-- is told. What the listener, the inboxes and the status tell fixes what came of it, but for the totals. The last line
+-- of a log tells these.
 pub record ServesMaps {S K D C A I T : Type 0} (seen : Seeing S K D C A I T) (job : Job) (status : Status)
     (old new : Office S K D C A I T) (door door' : DoorTells) (logged : List ℕ) : Type 0 where
   pub hosted : Hosted
@@ -175,8 +175,8 @@ pub record HasServeCauses {S K D C A I T : Type 0} (seen : Seeing S K D C A I T)
   pub disk_fault : (map : MapName) → status ≡ DiskFault map → DiskFails seen old new
 
 -- What `serve` does to an office and to what is told at its doors, and what it logs: the stored maps are served to all
--- who call, by connections and by datagrams, and what was served is told; or the first reason why not is, and then nobody
--- was served. Over files that aren't damaged, with no fault, all is done, unless memory ran out.
+-- who call, by connections and by datagrams, and what was served is told; or the first reason why not is, and then
+-- nobody was served. Over files that aren't damaged, with no fault, all is done, unless memory ran out.
 pub record ServeDoes {S K D C A I T : Type 0} (seen : Seeing S K D C A I T) (job : Job) (status : Status)
     (old new : Office S K D C A I T) (door door' : DoorTells) (logged : List ℕ) : Type 0 where
   pub serves : ServesOrRefuses seen job status old new door door' logged

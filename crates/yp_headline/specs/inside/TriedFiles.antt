@@ -112,8 +112,8 @@ called_of dialed = record transfer_world { dialed = dialed }
 -- Transfers that are told as done: of no server; of one that gave nothing, its order alone, no rows, or another order
 -- at last; of one that told that it has no such map, or that answered another call; and of one that gave a version,
 -- where the file stands for nothing, for another row, for another order, for no rows, or for a row more. And transfers
--- that are called back as done: for which nobody asked, of no server, of one that gave its order alone, and of one that gave a version that the
--- log hasn't.
+-- that are called back as done: for which nobody asked, of no server, of one that gave its order alone, and of one that
+-- gave a version that the log hasn't.
 pub record TransfersAreFalse : Type 0 where
   pub of_no_server : IsWrongTransfer (one_file [] [] (whole_file 7 118) (0 ∷ []) [])
   pub gave_nothing : IsWrongTransfer (transfer_of [])

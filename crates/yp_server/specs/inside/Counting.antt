@@ -7,8 +7,8 @@ use Rattle.yp_worker.specs.Summing.{Counting}
 use Rattle.yp_server.specs.declared.datagrams.DatagramWorker.{DatagramWorker}
 use Rattle.yp_server.specs.Serving.{at_rest, no_counts, IsAtStart}
 
--- A worker of datagrams has this inbox and so many turns of it, and a host that knows what was shown at the start and has
--- counted nothing yet.
+-- A worker of datagrams has this inbox and so many turns of it, and a host that knows what was shown at the start and
+-- has counted nothing yet.
 pub record BeginsMail {I H T : Type 0} (conduct : Conduct H) (counting : Counting H T) (catalogue : Catalogue)
     (starts : Log) (turns : ℕ) (inbox : I) (datagram_worker : DatagramWorker I H T) : Type 0 where
   pub host : H
