@@ -31,7 +31,8 @@ use Rattle.yp_texts.specs.After.{Material}
 use Rattle.yp_answer.specs.Causes.{Told, Matter, OfText, OfNetgroups, Task, MaterialIsTold, IsMadeOf, IsAnew, TellsSame, task_of, task_at}
 use Rattle.yp_host.specs.Making.{MapIsMade, OpensAndTries}
 use Rattle.yp_host.specs.Connections.{Service, IsCalledFor, Transition, transition_of, transitions_of, GaveVersion, IsGiven, local_conduct}
-use Rattle.yp_host.proofs.Passing.{front_none, front_then, Respects, Sound, Passes, passes_none, passes_then, stays_on, opens_on, offered_on, fetched_on}
+use Rattle.yp_publisher.specs.inside.Passing.{front_none, front_then, Respects, Sound, Passes, passes_none, passes_then, stays_on, opens_on}
+use Rattle.yp_host.proofs.Passing.{offered_on, fetched_on}
 
 -- ---- desks
 

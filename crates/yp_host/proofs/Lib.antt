@@ -1,10 +1,7 @@
-pub mod Leaving
 pub mod Taking
 pub mod Building
-pub mod Growing
 pub mod Transferring
 pub mod Making
-pub mod Leading
 pub mod Passing
 pub mod Hosting
 pub mod Serving

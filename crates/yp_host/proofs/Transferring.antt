@@ -15,7 +15,7 @@ use Rattle.yp_transfer.specs.Fetching.{FetchOutcome}
 use Rattle.yp_transfer.specs.Installing.{Offers, fetched_offer}
 use Rattle.yp_transfer.specs.Transfers.{InstallsOutcome}
 use Rattle.yp_host.specs.Transferring.{request_for}
-use Rattle.yp_host.proofs.Growing.{front_same, front_more, opened_front}
+use Rattle.yp_publisher.specs.inside.Growing.{front_same, front_more, opened_front}
 
 -- the catalogue stays, and the log grows
 pub record KeepsAndGrows {D B : Type 0} (keeping : Keeping D B) (old new : Published D B) : Type 0 where

@@ -9,4 +9,5 @@ mod Leading
 mod Sourcing
 mod Aging
 mod Using
-mod Stating
+pub mod Stating
+pub mod Noting

@@ -4,3 +4,6 @@ mod Failing
 mod Telling
 mod Leading
 mod Sourcing
+mod Tracing
+pub mod Fronts
+pub mod Adding

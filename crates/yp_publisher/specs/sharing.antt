@@ -1,3 +1,4 @@
 pub mod Shares
 pub mod Failures
 pub mod Sources
+pub mod Tracing

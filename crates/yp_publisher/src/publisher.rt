@@ -102,6 +102,7 @@ impl<D: Disk, B: Show> Publisher<D, B> {
         ensures catalogue { result.now ≡ self.now.catalogue }
         ensures maps { length self.now.maps ≡ length self.now.catalogue.maps }
         ensures board { B.maps self.now.board ≡ length self.now.catalogue.maps }
+        ensures shown { Shows (B.log self.now.board) (versions self.now.maps) }
     {
         &self.catalog
     }

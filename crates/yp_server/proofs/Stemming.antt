@@ -7,7 +7,8 @@ use Rattle.yp_publisher.specs.Standing.{StoredMap, Published}
 use Rattle.yp_publisher.specs.Rising.{PublisherState, publisher_state}
 use Rattle.yp_publisher.specs.sharing.Sources.{Building, IsSourced}
 use Rattle.yp_server.specs.Serving.{DisksStand}
-use Rattle.yp_server.specs.Origins.{Stems}
+use Rattle.yp_publisher.specs.sharing.Tracing.{FetchLog, IsNewBehind, Traces}
+use Rattle.yp_server.specs.Origins.{Stems, LeavesTraced}
 
 module _ {D B : Type 0} (history : D → Option History) (Is : Building) (first : PublisherState) (catalogue : Catalogue)
     (log : B → Log) where
@@ -23,4 +24,17 @@ module _ {D B : Type 0} (history : D → Option History) (Is : Building) (first 
         leaves = leaves;
         sourced = subst (λ (l : List (StoredMap D)). IsSourced Is first
             (record { log = log published.board; standings = map (λ kept. kept.standing) l }) made fetched) (sym maps) sourced;
+      }))
+
+  pub leaves_traced : (fetches : FetchLog) (histories : List (Option History)) (published : Published D B) (board : B)
+      (disks : List D) → published.catalogue ≡ catalogue → board ≡ published.board
+      → (leaves : DisksStand history published.catalogue (log published.board) disks) → leaves.kept ≡ published.maps
+      → Traces history (IsNewBehind Is fetches) first.log (log published.board) histories published.maps
+      → LeavesTraced history Is fetches catalogue first.log (log board) histories disks
+  leaves_traced fetches histories published board disks named same leaves maps traced =
+      subst (λ (c : Catalogue). LeavesTraced history Is fetches c first.log (log board) histories disks) named
+      (subst (λ (b : B). LeavesTraced history Is fetches published.catalogue first.log (log b) histories disks) (sym same) (record {
+        leaves = leaves;
+        traced = subst (λ (l : List (StoredMap D)). Traces history (IsNewBehind Is fetches) first.log (log published.board) histories l)
+            (sym maps) traced;
       }))

@@ -1,6 +1,6 @@
 //! The two locks under which workers share what they are lent.
 
-ghost use Rattle.std.specs.Prelude.{◌≡◌, ◌+◌, ◌-◌, ◌^◌, ◌<◌, ◌≤◌};
+ghost use Rattle.std.specs.Prelude.{◌≡◌, ◌+◌, ◌-◌, ◌^◌, ◌<◌, ◌≤◌, [], map};
 ghost use Rattle.std.specs.List.{All};
 ghost use Rattle.yp_io.specs.Counts.{last_count};
 ghost use Rattle.yp_board.specs.Views.{IsFront};
@@ -16,7 +16,7 @@ ghost use Rattle.yp_transfer.specs.inside.Dials.{dial_by};
 ghost use Rattle.yp_host.specs.workers.Uses.{IsUsedForTransfers};
 ghost use Rattle.yp_host.specs.inside.workers.Uses.{dial_told};
 ghost use Rattle.yp_server.specs.Counting.{DiskTellsFaults};
-ghost use Rattle.yp_server.specs.Origins.{ComesFrom};
+ghost use Rattle.yp_server.specs.Origins.{ComesFrom, EachComesFrom};
 ghost use Rattle.yp_server.specs.Serving.{DisksStand};
 
 use crate::resources::take_apart;
@@ -30,14 +30,17 @@ use yp_host::workers::{
 use yp_io::{Clock, Dial, Disk, Texts};
 use yp_publisher::Publisher;
 use yp_publisher::sharing::{
-    Accounts, BuiltVersions, Debits, FailedFiles, FetchedVersions, Locked, Site,
+    Accounts, BuiltVersions, Debits, FailedFiles, FetchedVersions, Fetches, FetchesFront, Locked,
+    OpenedFetches, Site,
 };
 
-/// Ledgers that nothing stands for yet: those of a listener, and those of what is counted under the locks.
+/// Ledgers that nothing stands for yet: those of a listener, and those of what is counted under the locks; and the log
+/// of what is fetched.
 #[derive(Drop)]
 pub(crate) struct Blanks {
     pub(crate) listener: ListenerBlanks,
     pub(crate) charges: ChargeBlanks,
+    pub(crate) fetches: OpenedFetches,
 }
 
 impl Blanks {
@@ -59,6 +62,7 @@ impl Blanks {
                 ended: Blank::new(workers + 1),
             },
             charges: ChargeBlanks::new(workers + inboxes + 2),
+            fetches: OpenedFetches::new(),
         }
     }
 }
@@ -108,6 +112,7 @@ pub(crate) fn lock_up<S, D, B, A, T, C>(
     publisher: Publisher<D, B>,
     desk: Desk<A, T, C>,
     blanks: ChargeBlanks,
+    fetches: Fetches<S>,
 ) -> (
     Mutex<Locked<S, D, B>>,
     Mutex<SharedDesk<S, A, T, C>>,
@@ -122,6 +127,7 @@ where
     C: Clock,
     requires site { publisher.catalogue ≡ S.catalogue }
     requires first { publisher_state B.log publisher ≡ S.first }
+    requires histories { map D.history (disks_of publisher.maps) ≡ S.histories }
     requires disks { faults_over D.faults (disks_of publisher.maps) ≡ S.disk_faults }
     requires supplied { IsSupplied T.Texts S.text S.hosts desk }
     requires texts { T.faults desk.texts ≡ S.text_faults }
@@ -133,6 +139,7 @@ where
     requires failures { (blanks.failures.name ≡ S.failures) × (blanks.failures.parts ≡ S.shares) }
     requires made { (blanks.made.name ≡ S.made) × (blanks.made.parts ≡ S.shares) }
     requires versions { (blanks.versions.name ≡ S.versions) × (blanks.versions.parts ≡ S.shares + 1) }
+    requires fetches { fetches ≡ [] }
     requires some { 0 < S.shares }
     ensures charges { result.2 ≡ free_of_charge S.shares }
 {
@@ -144,6 +151,7 @@ where
         blanks.made,
         installed,
         own,
+        fetches.front().again(),
     );
     let (desk, charges) = lock_desk(
         desk,
@@ -151,6 +159,7 @@ where
         blanks.orders,
         blanks.sources,
         fetched,
+        fetches,
         debits,
     );
     (publisher, desk, charges)
@@ -164,9 +173,11 @@ fn lock_publisher<S: Site + Accounts, D: Disk, B: Tell>(
     made: Blank,
     installed: Share<FetchedVersions<S>>,
     versions: Share<FetchedVersions<S>>,
+    known: FetchesFront<S>,
 ) -> (Mutex<Locked<S, D, B>>, Debits<S>)
     requires site { publisher.catalogue ≡ S.catalogue }
     requires first { publisher_state B.log publisher ≡ S.first }
+    requires histories { map D.history (disks_of publisher.maps) ≡ S.histories }
     requires disks { faults_over D.faults (disks_of publisher.maps) ≡ S.disk_faults }
     requires failures { (failures.name ≡ S.failures) × (failures.parts ≡ S.shares) }
     requires made { (made.name ≡ S.made) × (made.parts ≡ S.shares) }
@@ -177,7 +188,7 @@ fn lock_publisher<S: Site + Accounts, D: Disk, B: Tell>(
 {
     let (failures, own_failures) = failures.open::<FailedFiles<S>>();
     let (made, own_made) = made.open::<BuiltVersions<S>>();
-    let locked = Locked::new(publisher, failures, made, installed);
+    let locked = Locked::new(publisher, failures, made, installed, known);
     (
         Mutex::new(locked),
         Debits::new(own_failures, own_made, versions),
@@ -191,6 +202,7 @@ fn lock_desk<S: Site + Accounts + Supplies, A: Dial, T: Texts, C: Clock>(
     orders: Blank,
     sources: Blank,
     fetched: Book<FetchedVersions<S>>,
+    fetches: Fetches<S>,
     debits: Debits<S>,
 ) -> (Mutex<SharedDesk<S, A, T, C>>, Charges<S>)
     requires supplied { IsSupplied T.Texts S.text S.hosts desk }
@@ -200,7 +212,7 @@ fn lock_desk<S: Site + Accounts + Supplies, A: Dial, T: Texts, C: Clock>(
     requires unread { (unread.name ≡ S.unread) × (unread.parts ≡ S.shares) }
     requires orders { (orders.name ≡ S.orders) × (orders.parts ≡ S.shares) }
     requires sources { (sources.name ≡ S.sources) × (sources.parts ≡ S.shares) }
-    requires fetched { fetched.total ≡ 0 }
+    requires fetched { (fetched.total ≡ 0) × (fetches ≡ []) }
     requires debits { debits ≡ no_debit S.shares }
     requires some { 0 < S.shares }
     ensures { result.1 ≡ free_of_charge S.shares }
@@ -208,7 +220,7 @@ fn lock_desk<S: Site + Accounts + Supplies, A: Dial, T: Texts, C: Clock>(
     let (unread, own_unread) = unread.open::<UnreadTexts<S>>();
     let (orders, own_orders) = orders.open::<ReachedOrders<S>>();
     let (sources, own_sources) = sources.open::<FailedSources<S>>();
-    let shared = SharedDesk::new(desk, unread, orders, sources, fetched);
+    let shared = SharedDesk::new(desk, unread, orders, sources, fetched, fetches);
     (
         Mutex::new(shared),
         Charges::new(own_unread, own_orders, own_sources, debits),
@@ -217,7 +229,8 @@ fn lock_desk<S: Site + Accounts + Supplies, A: Dial, T: Texts, C: Clock>(
 
 /// The disks, the writer, the desk and what was counted, once nobody works under the locks any more. What was counted
 /// is covered: FILEs by the faults of texts and disks, orders and failed sources by the wires and faults of the dial,
-/// and what was shown by the makes and by the wires that gave a version.
+/// and what was shown by the makes and by the wires that gave a version. Each version that was shown, or that a crash
+/// leaves at some moment, was built, or came by a wire.
 pub(crate) fn unlock<S, D, B, A, T, C>(
     publisher: Mutex<Locked<S, D, B>>,
     desk: Mutex<SharedDesk<S, A, T, C>>,
@@ -243,14 +256,24 @@ where
         result.3.outcomes.source }
     ensures origins { IsStart S.first → AreTold D.history result.0.items → ComesFrom D.history S.built S.first
         S.catalogue (B.log result.1) result.0.items result.3.made S.wires (A.past result.2.dial) }
+    ensures traced { IsStart S.first → EachComesFrom D.history S.built S.catalogue S.first.log (B.log result.1)
+        S.histories result.0.items S.wires (A.past result.2.dial) }
     ensures dialed { IsUsedForTransfers S.hosts S.catalogue.maps (dial_told S.wires S.letters S.dial_faults)
         (dial_by A.Dial result.2.dial) }
 {
     let (totals, charges, front) = account.into_parts();
     let (mut unread, mut reached, mut failed, mut debits) = charges.into_shares();
-    let (disks, writer, mut versions) = take_apart(publisher.into_inner(), &front, &mut debits);
-    let desk = desk
-        .into_inner()
-        .close(&mut unread, &mut reached, &mut failed, &mut versions);
+    let (disks, writer, mut versions, fetches) = take_apart(
+        publisher.into_inner(),
+        &front,
+        &mut debits,
+    );
+    let desk = desk.into_inner().close(
+        &mut unread,
+        &mut reached,
+        &mut failed,
+        &mut versions,
+        &fetches,
+    );
     (disks, writer, desk, totals)
 }

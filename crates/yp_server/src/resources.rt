@@ -11,7 +11,7 @@ ghost use Rattle.yp_publisher.specs.Rising.{IsRisingLog};
 ghost use Rattle.yp_publisher.specs.inside.Rising.{IsStart};
 ghost use Rattle.yp_publisher.specs.Grown.{AreTold};
 ghost use Rattle.yp_publisher.specs.sharing.Failures.{disks_of, faults_over};
-ghost use Rattle.yp_server.specs.Origins.{Stems};
+ghost use Rattle.yp_server.specs.Origins.{LeavesTraced, Stems};
 
 use crate::spec::{ServeRefused, ServerResources};
 use std::alloc::Global;
@@ -21,7 +21,7 @@ use yp_board::{Show, Tell};
 use yp_host::Desk;
 use yp_io::{Disk, NoMemory};
 use yp_publisher::Publisher;
-use yp_publisher::sharing::{Accounts, Debits, FetchedVersions, Locked, Site};
+use yp_publisher::sharing::{Accounts, Debits, FetchedVersions, FetchesFront, Locked, Site};
 use yp_rpc::Room;
 
 /// What is handed back where memory has run out.
@@ -63,14 +63,15 @@ fn disassemble<D: Disk, B: Show>(publisher: Publisher<D, B>) -> (Vec<D>, B)
     publisher.into_parts()
 }
 
-/// The disks of the maps, the writer, of whose log this is a front, and what stands for the fetched versions that were
-/// installed. What was charged is covered by the faults of the disks, and by the built versions that were shown. From a
-/// start the log rises, where the disks tell what a crash may leave of them.
+/// The disks of the maps, the writer, of whose log this is a front, what stands for the fetched versions that were
+/// installed, and a front of their log. What was charged is covered by the faults of the disks, and by the built
+/// versions that were shown. From a start the log rises, where the disks tell what a crash may leave of them, and each
+/// version that a crash leaves or that was shown was built or fetched.
 pub(crate) fn take_apart<S: Site + Accounts, D: Disk, B: Tell>(
     mut locked: Locked<S, D, B>,
     front: &B::Front,
     charge: &mut Debits<S>,
-) -> (Vec<D>, B, Share<FetchedVersions<S>>)
+) -> (Vec<D>, B, Share<FetchedVersions<S>>, FetchesFront<S>)
     ensures stand { DisksStand D.history S.catalogue (B.log result.1) result.0.items }
     ensures grown { IsFront (B.kept front.now) (B.log result.1) }
     ensures covered { All (DiskTellsFaults D.history D.faults) result.0.items
@@ -78,11 +79,13 @@ pub(crate) fn take_apart<S: Site + Accounts, D: Disk, B: Tell>(
     ensures rises { IsStart S.first → AreTold D.history result.0.items → IsRisingLog (B.log result.1) }
     ensures sourced { (made : ℕ) → made ≤ charge.old.made → IsStart S.first → AreTold D.history result.0.items
         → Stems D.history S.built S.first S.catalogue (B.log result.1) result.0.items made result.2.amount }
+    ensures traced { IsStart S.first → LeavesTraced D.history S.built result.3 S.catalogue S.first.log
+        (B.log result.1) S.histories result.0.items }
 {
     locked.covers(front);
-    let (publisher, versions) = locked.close(charge);
+    let (publisher, versions, fetches) = locked.close(charge);
     let (disks, board) = disassemble(publisher);
-    (disks, board, versions)
+    (disks, board, versions, fetches)
 }
 
 /// The memory of workers: for the records and replies of each worker of connections, and for a datagram and its reply

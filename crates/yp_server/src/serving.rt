@@ -21,7 +21,7 @@ ghost use Rattle.yp_transfer.specs.inside.Dials.{dial_by};
 ghost use Rattle.yp_host.specs.workers.Uses.{IsUsedForTransfers};
 ghost use Rattle.yp_host.specs.inside.workers.Uses.{dial_told};
 ghost use Rattle.yp_server.specs.Counting.{count_totals, CountsAll, FilesAreCovered};
-ghost use Rattle.yp_server.specs.Origins.{ComesFrom};
+ghost use Rattle.yp_server.specs.Origins.{ComesFrom, EachComesFrom};
 
 use crate::locks::{Blanks, lock_up, unlock};
 use crate::preparing::{WorkerMaker, WorkerResources};
@@ -136,6 +136,15 @@ where
         (B.log served.writer) served.disks.items served.totals.made
         (A.past resources.desk.dial) (A.past served.desk.dial)) }
 
+    // Each version that was shown was new behind the log before it: it was built, or a wire gave it. At each moment a
+    // crash leaves of each map what it might have left at the start, or bytes that stand for what was shown of it or
+    // for a version that was new; and a map that is behind at the end is behind a version that is new.
+    ensures traced { IfOk result (λ served. IsStart (publisher_state B.log resources.publisher)
+        → EachComesFrom D.history (IsBuiltAsNamed (T.text resources.desk.texts) resources.publisher.catalogue)
+        resources.publisher.catalogue (B.log resources.publisher.board) (B.log served.writer)
+        (map D.history (disks_of resources.publisher.maps)) served.disks.items
+        (A.past resources.desk.dial) (A.past served.desk.dial)) }
+
     // Whom the dial asked, what for, and whom it told what: it was used for transfers of the maps alone.
     ensures dialed { IfOk result (λ served. IsUsedForTransfers resources.desk.hosts resources.publisher.catalogue.maps
         (dial_by A.Dial resources.desk.dial) (dial_by A.Dial served.desk.dial)) }
@@ -229,6 +238,8 @@ where
         × (A.letters resources.desk.dial ≡ J.letters) }
     requires disks { faults_over D.faults (disks_of resources.publisher.maps) ≡ J.disk_faults }
     requires first { publisher_state B.log resources.publisher ≡ J.first }
+    requires histories { map D.history (disks_of resources.publisher.maps) ≡ J.histories }
+    requires fetches { blanks.fetches ≡ J.fetched }
     ensures gone { IfOk result (λ served. IsListenerState J.opening (opening_by L.Hall served.listen)
         served.tally.connections served.tally.listen_fault 0 1) }
     ensures datagrams { IfOk result (λ served. ServesInboxes
@@ -257,6 +268,8 @@ where
     ensures origins { IfOk result (λ served. IsStart J.first → AreTold D.history served.disks.items
         → ComesFrom D.history J.built J.first J.catalogue (B.log served.writer) served.disks.items
         served.totals.made J.wires (A.past served.desk.dial)) }
+    ensures traced { IfOk result (λ served. IsStart J.first → EachComesFrom D.history J.built J.catalogue J.first.log
+        (B.log served.writer) J.histories served.disks.items J.wires (A.past served.desk.dial)) }
     ensures dialed { IfOk result (λ served. IsUsedForTransfers J.hosts J.catalogue.maps
         (dial_told J.wires J.letters J.dial_faults) (dial_by A.Dial served.desk.dial)) }
     ensures refused { IfErr result (λ refused. (refused.desk ≡ resources.desk) × (refused.listen ≡ resources.listen)
@@ -266,6 +279,14 @@ where
     let Ok(staff) = Staff::new(setting.alloc, memory.all_buffers.len(), memory.rooms.len()) else {
         return Err(refuse(resources));
     };
+    let Blanks {
+        listener,
+        charges,
+        fetches,
+    } = blanks;
+    let Some(fetches) = fetches.named::<J>() else {
+        return Err(refuse(resources));
+    };
     let ServerResources {
         publisher,
         readers,
@@ -273,7 +294,7 @@ where
         listen,
         inboxes,
     } = resources;
-    let (publisher, desk, charges) = lock_up::<J, D, B, A, T, C>(publisher, desk, blanks.charges);
+    let (publisher, desk, charges) = lock_up::<J, D, B, A, T, C>(publisher, desk, charges, fetches);
     let place = WorkerMaker {
         alloc: setting.alloc,
         rt: setting.rt,
@@ -293,7 +314,7 @@ where
         staff,
         worker_resources,
         listen,
-        blanks.listener,
+        listener,
         charges,
     );
     let (disks, writer, desk, totals) = unlock(publisher, desk, account);

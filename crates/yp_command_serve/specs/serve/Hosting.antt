@@ -25,7 +25,7 @@ use Rattle.yp_host.specs.workers.Uses.{IsUsedForTransfers}
 use Rattle.yp_worker.specs.Receptions.{ListenTells, IsListenerState, opening_by, terms_of}
 use Rattle.yp_server.specs.Serving.{conduct_at, ServesInboxes, DisksStand}
 use Rattle.yp_server.specs.Counting.{count_totals, CountsAll, FilesAreCovered}
-use Rattle.yp_server.specs.Origins.{ComesFrom}
+use Rattle.yp_server.specs.Origins.{ComesFrom, EachComesFrom}
 use Rattle.yp_command_serve.specs.declared.serve.serve.Doors.{Doors}
 use Rattle.yp_command_serve.specs.declared.serve.tally.Hosted.{Hosted}
 
@@ -91,8 +91,10 @@ first_of maps = record { log = starts 0 (versions maps); standings = map (λ kep
 -- the wires that give no version. At least as many versions were shown as makes were answered SUCC, each made of the
 -- text of its map, or of netgroups that the log shows up to there, behind what was shown of the map. The other versions
 -- that were shown, with the maps that are behind a version that wasn't built so, are at most as many as the wires that
--- give a version. The dial was used for transfers of the maps alone: to fetch one from a host of the table, and to tell
--- a caller.
+-- give a version. Each version that was shown was new behind the log before it: it was built so, or a wire gave it. At
+-- each moment a crash leaves of each map what it might have left once it was loaded, or bytes that stand for what was
+-- shown of it or for a version that was new. The dial was used for transfers of the maps alone: to fetch one from a host
+-- of the table, and to tell a caller.
 pub record IsAccounted {D : Type 0} (history : D → Option History) (faults : D → ℕ) (setup : ServeSetup)
     (first : PublisherState)
     (maps : List (StoredMap D)) (most : ℕ) (hosted : Hosted) (old new : ServerTells) (log : Log)
@@ -105,6 +107,8 @@ pub record IsAccounted {D : Type 0} (history : D → Option History) (faults : D
       hosted.totals.outcomes.source
   pub origins : AreTold history disks → ComesFrom history (IsBuiltAsNamed setup.text setup.catalogue) first
       setup.catalogue log disks hosted.totals.made old.supply.dial.past new.supply.dial.past
+  pub traced : EachComesFrom history (IsBuiltAsNamed setup.text setup.catalogue) setup.catalogue first.log log
+      (map history (disks_of maps)) disks old.supply.dial.past new.supply.dial.past
   pub dialed : IsUsedForTransfers setup.hosts setup.catalogue.maps old.supply.dial new.supply.dial
 
 -- Maps that were loaded were served, and what their files stood for was shown before the first caller came. What was

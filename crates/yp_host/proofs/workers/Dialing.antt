@@ -105,29 +105,29 @@ IsUnasked count =
 -- what counts at most one for a fetch, and that by a wire with P
 module _ (P : Connected → Type 0) (count : FetchOutcome → ℕ) (unasked : IsUnasked count)
     (untold : (peer : Peer) (output : Option (List ℕ)) → P (connected peer None output))
-    (by_bytes : (wanted : Wanted) (peer : Peer) (stream : List ℕ) (output : Option (List ℕ)) (outcome : FetchOutcome)
-    → Fetched wanted (place_of 1 0 stream) outcome → (count outcome ≡ 0) ⊎ P (connected peer (Some stream) output))
-    (few : (outcome : FetchOutcome) → (count outcome ≡ 0) ⊎ (count outcome ≡ 1)) where
-  by_wire : (peer : Peer) (wanted : Wanted) (outcome : FetchOutcome) (first last : ClientState) → IsFirst first
+    (few : (outcome : FetchOutcome) → (count outcome ≡ 0) ⊎ (count outcome ≡ 1)) (wanted : Wanted) (outcome : FetchOutcome)
+    (by_bytes : (peer : Peer) (stream : List ℕ) (output : Option (List ℕ))
+    → Fetched wanted (place_of 1 0 stream) outcome → (count outcome ≡ 0) ⊎ P (connected peer (Some stream) output)) where
+  by_wire : (peer : Peer) (first last : ClientState) → IsFirst first
       → IsFetched wanted outcome first last → (input : Option (List ℕ)) → first.wire.input ≡ input
       → (count outcome ≡ 0) ⊎ P (connected peer input first.wire.output)
-  by_wire peer wanted outcome first last begins fetched None is = inr (untold peer first.wire.output)
-  by_wire peer wanted outcome first last begins fetched (Some stream) is = elim (fetched stream is) [
-    | inl one ↦ by_bytes wanted peer stream first.wire.output outcome (from_first wanted outcome first stream begins one)
+  by_wire peer first last begins fetched None is = inr (untold peer first.wire.output)
+  by_wire peer first last begins fetched (Some stream) is = elim (fetched stream is) [
+    | inl one ↦ by_bytes peer stream first.wire.output (from_first wanted outcome first stream begins one)
     | inr other ↦ elim other [
       | inl fails ↦ inl (ap count fails.0 ∙ unasked.0)
       | inr memory ↦ inl (ap count memory ∙ unasked.3)
     ]
   ]
 
-  counts_once : (outcome : FetchOutcome) (dialed : Connected) → (count outcome ≡ 0) ⊎ P dialed
+  counts_once : (dialed : Connected) → (count outcome ≡ 0) ⊎ P dialed
       → (count outcome ≡ 0) ⊎ ((count outcome ≡ 1) × P dialed)
-  counts_once outcome dialed which = elim (few outcome) [
+  counts_once dialed which = elim (few outcome) [
     | inl none ↦ inl none
     | inr one ↦ elim which [ inl none ↦ inl none | inr holds ↦ inr (one, holds) ]
   ]
 
-  module _ (start : Option Wires) (counted : ℕ) (wanted : Wanted) (outcome : FetchOutcome) (old new : Dialing)
+  module _ (start : Option Wires) (counted : ℕ) (old new : Dialing)
       (covers : CoversBy P start old.past counted) where
     same : count outcome ≡ 0 → new.past ≡ old.past → CoversBy P start new.past (counted + count outcome)
     same none past =
@@ -139,8 +139,8 @@ module _ (P : Connected → Type 0) (count : FetchOutcome → ℕ) (unasked : Is
     by_peer peer goes = elim goes [
       | inl none ↦ same (ap count none.0 ∙ unasked.0) none.1.none
       | inr wire ↦ covers_wire P (count outcome) (connected peer wire.first.wire.input wire.first.wire.output) wire.last.wire
-          (counts_once outcome (connected peer wire.first.wire.input wire.first.wire.output)
-          (by_wire peer wanted outcome wire.first wire.last wire.dialed.begins wire.fetched wire.first.wire.input refl))
+          (counts_once (connected peer wire.first.wire.input wire.first.wire.output)
+          (by_wire peer wire.first wire.last wire.dialed.begins wire.fetched wire.first.wire.input refl))
           counted start old.past wire.dialed.middle new.past wire.dialed.comes wire.dialed.goes_back covers
     ]
 
@@ -161,6 +161,18 @@ module _ (P : Connected → Type 0) where
   pub covers_none : (start : Option Wires) → CoversBy P start start 0
   covers_none None = tt
   covers_none (Some start) = λ fair. record { gained = []; came = sym (append-nil start.came); fair = fair; enough = refl }
+
+  -- none of another kind
+  pub covers_no_others : (Q : Connected → Type 0) (start now : Option Wires) (count : ℕ) → CoversBy Q start now count
+      → CoversBy P start now 0
+  covers_no_others Q None now count covers = tt
+  covers_no_others Q (Some start) None count covers = covers
+  covers_no_others Q (Some start) (Some now) count covers = λ fair. let was = covers fair in record {
+    gained = was.gained;
+    came = was.came;
+    fair = was.fair;
+    enough = at_least_none P was.gained;
+  }
 
   -- fewer are covered, too
   pub covers_fewer : (start now : Option Wires) (fewer more : ℕ) → fewer ≤ more → CoversBy P start now more

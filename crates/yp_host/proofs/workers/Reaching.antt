@@ -101,5 +101,5 @@ pub fetched_orders : (start : Option Wires) (orders : ℕ) (wanted : Wanted) (ou
     → CoversOrders start old.past orders → (hosts : HostList) (source : List ℕ) → FetchesFrom hosts source wanted outcome old new
     → CoversOrders start new.past (orders + orders_in outcome)
 fetched_orders start orders wanted outcome old new covers hosts source fetches =
-    fetched_counts BeginsWithOrder orders_in (refl, refl, refl, refl) (λ peer output. tt) by_order few_orders
-    start orders wanted outcome old new covers hosts source fetches
+    fetched_counts BeginsWithOrder orders_in (refl, refl, refl, refl) (λ peer output. tt) few_orders wanted outcome
+    (λ peer stream output. by_order wanted peer stream output outcome) start orders old new covers hosts source fetches

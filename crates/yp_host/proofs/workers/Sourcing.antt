@@ -19,7 +19,7 @@ use Rattle.yp_host.proofs.workers.Leading.{Leads, leads, to_version, to_fault, o
 
 -- ---- a version
 
-few_versions : (outcome : FetchOutcome) → (versions_in outcome ≡ 0) ⊎ (versions_in outcome ≡ 1)
+pub few_versions : (outcome : FetchOutcome) → (versions_in outcome ≡ 0) ⊎ (versions_in outcome ≡ 1)
 few_versions (Ok version) = inr refl
 few_versions (Err why) = inl refl
 
@@ -42,8 +42,8 @@ pub fetched_versions : (start : Option Wires) (versions : ℕ) (wanted : Wanted)
     → CoversBy IsGood start old.past versions → (hosts : HostList) (source : List ℕ) → FetchesFrom hosts source wanted outcome old new
     → CoversBy IsGood start new.past (versions + versions_in outcome)
 fetched_versions start versions wanted outcome old new covers hosts source fetches =
-    fetched_counts IsGood versions_in (refl, refl, refl, refl) (λ peer output. tt) good few_versions
-    start versions wanted outcome old new covers hosts source fetches
+    fetched_counts IsGood versions_in (refl, refl, refl, refl) (λ peer output. tt) few_versions wanted outcome
+    (λ peer stream output. good wanted peer stream output outcome) start versions old new covers hosts source fetches
 
 -- ---- a source that failed
 

@@ -1,15 +1,19 @@
 -- The status of a map that was fetched.
-use Rattle.std.proofs.Common.{◌≡◌, ◌≢◌, ℕ, false, Option, None, Some, option_map, inr, subst}
+use Rattle.std.proofs.Common.{◌≡◌, ◌≢◌, ℕ, false, List, Option, None, Some, option_map, inr, refl, subst}
 use Rattle.std.specs.Prelude.{slice_get}
 use Rattle.yp_io.specs.Dials.{Dialing}
 use Rattle.yp_messages.specs.declared.transfer.XfrStat.{XfrStat}
+use Rattle.yp_messages.specs.declared.transfer.XfrStat.TheVariants.{Rsrc}
 use Rattle.yp_board.specs.Catalogues.{Catalogue, Name}
 use Rattle.yp_board.specs.Logs.{Log, shown}
 use Rattle.yp_answer.specs.Transfer.{Taken}
+use Rattle.yp_version.specs.Versions.{MapVersion}
+use Rattle.yp_publisher.specs.declared.install.InstallFault.TheVariants as fault
+use Rattle.yp_publisher.specs.declared.sharing.locked.ShareFault.TheVariants.{Unfit}
 use Rattle.yp_transfer.specs.Dialing.{FetchesFrom}
 use Rattle.yp_transfer.specs.Fetching.{wanted_of, FetchOutcome}
 use Rattle.yp_transfer.specs.HostTable.{HostList, find}
-use Rattle.yp_host.specs.inside.workers.Statuses.{InstallsAs, HasStatus}
+use Rattle.yp_host.specs.inside.workers.Statuses.{IsInstalledAs, InstallsAs, HasStatus}
 
 -- a map by this name was fetched behind the order that is shown of it, and what came of it was installed
 pub fetched_as : (served : Catalogue) (hosts : HostList) (taken : Taken) (name : Name) (behind : Option ℕ)
@@ -33,3 +37,8 @@ fetched_as served hosts taken name behind outcome stat old new before after name
         installs = installs;
       },
     )
+
+-- a version that isn't known to be fetched is as one for which memory ran out
+pub not_known : (own : List ℕ) (number : ℕ) (version : MapVersion) (old new : Log)
+    → IsInstalledAs own number version Rsrc old new
+not_known own number version old new = inr (Unfit fault.NoMemory, refl, tt)

@@ -1,9 +1,10 @@
 -- The wires that a dial gained, and how many of them begin with an order, give a version, or give none.
-use Rattle.std.specs.Prelude.{◌≡◌, ◌⊎◌, ℕ, suc, ◌+◌, ◌<◌, ◌≤◌, List, [], ◌∷◌, ◌++◌, length, Option, None, Some}
+use Rattle.std.specs.Prelude.{◌≡◌, ◌⊎◌, ℕ, suc, ◌+◌, ◌<◌, ◌≤◌, List, [], ◌∷◌, ◌++◌, length, Option, None, Some, Contains}
 use Rattle.std.specs.Prelude.{IfSome, Ok, ⊤}
 use Rattle.yp_io.specs.Counts.{last_count}
 use Rattle.yp_io.specs.Dials.{Connected, Wires}
 use Rattle.yp_version.specs.Versions.{MapVersion}
+use Rattle.yp_publisher.specs.sharing.Tracing.{FetchLog}
 use Rattle.yp_client.specs.Limits.{reply_max}
 use Rattle.yp_client.specs.Results.{order_of}
 use Rattle.yp_transfer.specs.Fetching.{Wanted}
@@ -33,6 +34,16 @@ pub record BytesGiveVersion (stream : List ℕ) : Type 0 where
   pub version : MapVersion
   pub fetched : Fetched wanted (place_of 1 0 stream) (Ok version)
 
+-- Bytes give this version, where none is shown.
+pub record BytesGive (version : MapVersion) (stream : List ℕ) : Type 0 where
+  pub wanted : Wanted
+  pub unshown : wanted.shown ≡ None
+  pub fetched : Fetched wanted (place_of 1 0 stream) (Ok version)
+
+-- What came by a wire gives this version, where it is told.
+abbrev pub GivesVersion : MapVersion → Connected → Type 0
+GivesVersion version wire = IfSome wire.input (BytesGive version)
+
 -- What came by a wire gives a version, where it is told.
 abbrev pub IsGood : Connected → Type 0
 IsGood wire = IfSome wire.input BytesGiveVersion
@@ -56,6 +67,14 @@ abbrev pub CoversBy : (Connected → Type 0) → Option Wires → Option Wires �
 CoversBy P None now count = ⊤
 CoversBy P (Some old) None count = length old.back ≤ length old.came → ⊥
 CoversBy P (Some old) (Some now) count = length old.back ≤ length old.came → GainsAtLeast P old now count
+
+-- Since then a wire came of the dial that gives this version, where the dial told its wires.
+abbrev pub CameByWire : Option Wires → Option Wires → MapVersion → Type 0
+CameByWire old new version = CoversBy (GivesVersion version) old new 1
+
+-- Since then such a wire came for each of these versions.
+abbrev pub AllCameByWire : Option Wires → Option Wires → FetchLog → Type 0
+AllCameByWire old new fetches = (version : MapVersion) → Contains fetches version → CameByWire old new version
 
 -- At least as many wires that begin with an order came of the dial as orders were reached.
 abbrev pub CoversOrders : Option Wires → Option Wires → ℕ → Type 0

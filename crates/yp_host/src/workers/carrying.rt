@@ -1,13 +1,13 @@
 //! A transfer that a worker carries out.
 
-ghost use Rattle.std.specs.Prelude.{◌≡◌, ◌≢◌, ◌<◌, ◌≤◌, length, option_map, Err, IsSome};
+ghost use Rattle.std.specs.Prelude.{◌≡◌, ◌≢◌, ◌<◌, ◌≤◌, length, option_map, Ok, Err, IsSome};
 ghost use Rattle.yp_answer.specs.inside.Transfer.{taken_view};
 ghost use Rattle.yp_publisher.specs.sharing.Shares.{Learns};
 ghost use Rattle.yp_host.specs.workers.Workers.{IsCarriedTo, IsInstalledTo};
 ghost use Rattle.yp_host.specs.inside.workers.Charges.{ChargesMore, cost_of_install, cost_of_transfer};
 ghost use Rattle.yp_host.specs.inside.workers.Charges.{files_at, orders_at, sources_at};
 ghost use Rattle.yp_host.specs.inside.workers.Statuses.{HasStatus, IsInstalledAs};
-ghost use Rattle.yp_host.specs.inside.workers.Wires.{orders_in, sources_in, IsAgedBy};
+ghost use Rattle.yp_host.specs.inside.workers.Wires.{orders_in, sources_in, IsAgedBy, IsNoted};
 
 use crate::workers::charges::Charges;
 use crate::workers::desk::{SharedDesk, Supplies};
@@ -20,7 +20,7 @@ use yp_board::{Tell, View};
 use yp_io::{Clock, Dial, Disk, Peer, Texts};
 use yp_messages::XfrStat;
 use yp_publisher::Origin;
-use yp_publisher::sharing::{Accounts, Locked, Site, install_shared};
+use yp_publisher::sharing::{Accounts, FetchesFront, Locked, Site, install_shared};
 use yp_transfer::{Asker, XfrFault};
 use yp_version::{Order, Version};
 
@@ -97,15 +97,18 @@ where
 {
     let name = reader.catalog().name(job.map);
     let shown = order_of(reader.held(job.map));
+    let mut known = None;
     let fetched = desk
         .lock(rt)
-        .fetch(alloc, rt, job.source, name, shown, charges);
+        .fetch(alloc, rt, job.source, name, shown, &mut known, charges);
     let shown = order_of(reader.held(job.map));
     match fetched {
         None => (Group::NoAddress, XfrStat::Maddr),
         Some(Err(fault)) => (failed_group(&fault, shown), fault.stat()),
         Some(Ok(version)) => {
-            install_for(alloc, rt, publisher, reader, charges, job.map, version)
+            install_for(
+                alloc, rt, publisher, reader, charges, job.map, version, known,
+            )
         },
     }
 }
@@ -133,7 +136,9 @@ fn failed_group(fault: &XfrFault, shown: Option<Order>) -> Group
     }
 }
 
-/// Installs a version that was fetched: what that came to, and its status.
+/// Installs a version that was fetched: what that came to, and its status. Where it isn't known to be fetched, that is
+/// as if memory had run out.
+#[tactic(auto, using(crate::proofs::workers::Stating::not_known))]
 fn install_for<S, D, B, R>(
     alloc: Global,
     rt: &R,
@@ -142,6 +147,7 @@ fn install_for<S, D, B, R>(
     charges: &mut Charges<S>,
     map: u32,
     version: Version,
+    known: Option<FetchesFront<S>>,
 ) -> (Group, XfrStat)
 where
     S: Site + Accounts + Supplies,
@@ -150,6 +156,7 @@ where
     R: RandomSource + Wait,
     requires map { map < length S.catalogue.maps }
     requires fetched { 0 < charges.old.versions }
+    requires known { IsNoted (Ok version) known }
     ensures outcome { IsInstalledTo S.catalogue.own map result.0
         (B.Reader.seen reader.old).known (B.Reader.seen reader.new).known }
     ensures status { IsInstalledAs S.catalogue.own map version result.1
@@ -157,6 +164,9 @@ where
     ensures learned { Learns (B.Reader.seen reader.old) (B.Reader.seen reader.new) }
     ensures charged { ChargesMore (cost_of_install result.0) charges.old charges.new }
 {
+    let Some(known) = known else {
+        return (Group::NoMemory, XfrStat::Rsrc);
+    };
     let stat = match install_shared(
         alloc,
         rt,
@@ -165,6 +175,7 @@ where
         map,
         version,
         Origin::Fetched,
+        Some(known),
         &mut charges.debits,
     ) {
         Ok(()) => XfrStat::Succ,

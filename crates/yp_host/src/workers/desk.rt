@@ -1,7 +1,7 @@
 //! A desk that threads share, under one lock.
 
-ghost use Rattle.std.specs.Prelude.{◌≡◌, ℕ, ◌+◌, ◌<◌, ◌≤◌, ◌↔◌, None, length, option_map, IfSome, IfOk, IfErr};
-ghost use Rattle.std.specs.Prelude.{IsNone, false};
+ghost use Rattle.std.specs.Prelude.{◌≡◌, ◌⊎◌, ℕ, ◌+◌, ◌<◌, ◌≤◌, ◌↔◌, ◌∷◌, ◌++◌, None, length, option_map, IfSome, IfOk, IfErr};
+ghost use Rattle.std.specs.Prelude.{IsNone, [], false};
 ghost use Rattle.std.specs.Option.{option_map_or};
 ghost use Rattle.yp_texts.specs.After.{HasLaterOrder};
 ghost use Rattle.yp_answer.specs.Causes.{IsAnew, task_with};
@@ -18,8 +18,8 @@ ghost use Rattle.yp_host.specs.Anew.{IsUnbuilt};
 ghost use Rattle.yp_host.specs.workers.Desks.{texts_alone};
 ghost use Rattle.yp_host.specs.inside.workers.Desks.{telling_texts, IsSupplied};
 ghost use Rattle.yp_host.specs.inside.workers.Charges.{CoversUnread, unread_in};
-ghost use Rattle.yp_host.specs.workers.Wires.{CoversBy, CoversOrders, CoversSources, IsGood};
-ghost use Rattle.yp_host.specs.inside.workers.Wires.{IsAgedBy};
+ghost use Rattle.yp_host.specs.workers.Wires.{AllCameByWire, CoversBy, CoversOrders, CoversSources, IsGood};
+ghost use Rattle.yp_host.specs.inside.workers.Wires.{IsAgedBy, IsNoted};
 ghost use Rattle.yp_host.specs.inside.workers.Wires.{orders_in, sources_in, versions_in};
 ghost use Rattle.yp_board.specs.Catalogues.{name_view};
 ghost use Rattle.yp_host.specs.workers.Uses.{IsAmong, IsUsedForTransfers};
@@ -35,7 +35,7 @@ use yp_answer::MakeJob;
 use yp_board::{Catalog, MapName};
 use yp_io::{Clock, Dial, Texts};
 use yp_messages::XfrStat;
-use yp_publisher::sharing::{Accounts, FetchedVersions, Site};
+use yp_publisher::sharing::{Accounts, FetchedVersions, Fetches, FetchesFront, Site};
 use yp_transfer::laws::fetched_is_one;
 use yp_transfer::{Asker, XfrFault, fetch_from, tell_back};
 use yp_version::{Order, Version};
@@ -135,8 +135,8 @@ impl<S: Accounts + Supplies> Ledger for FailedSources<S> {
 }
 
 /// A desk of a site, for a lock to keep, with the books of the texts that weren't read, of the orders that were
-/// reached, of the sources that failed and of the versions that were fetched since it is shared. It is seen as that
-/// desk.
+/// reached, of the sources that failed and of the versions that were fetched since it is shared, and with the log of
+/// these versions. It is seen as that desk.
 #[derive(Drop)]
 pub struct SharedDesk<S: Site + Accounts + Supplies, A: Dial, T: Texts, C: Clock> {
     desk: Desk<A, T, C>,
@@ -144,13 +144,14 @@ pub struct SharedDesk<S: Site + Accounts + Supplies, A: Dial, T: Texts, C: Clock
     orders: Book<ReachedOrders<S>>,
     sources: Book<FailedSources<S>>,
     versions: Book<FetchedVersions<S>>,
+    fetches: Fetches<S>,
 }
 
 impl<S: Site + Accounts + Supplies, A: Dial, T: Texts, C: Clock> Model for SharedDesk<S, A, T, C> {
     ghost use Rattle.yp_host.specs.declared.desk.Desk.{Desk};
     ghost use Rattle.yp_host.specs.inside.workers.Desks.{IsSupplied};
     ghost use Rattle.yp_host.specs.inside.workers.Charges.{CoversUnread};
-    ghost use Rattle.yp_host.specs.workers.Wires.{CoversBy, CoversOrders, CoversSources, IsGood};
+    ghost use Rattle.yp_host.specs.workers.Wires.{AllCameByWire, CoversBy, CoversOrders, CoversSources, IsGood};
     ghost use Rattle.yp_transfer.specs.inside.Dials.{dial_by};
     ghost use Rattle.yp_host.specs.workers.Uses.{IsUsedForTransfers};
     ghost use Rattle.yp_host.specs.inside.workers.Uses.{dial_told};
@@ -164,23 +165,27 @@ impl<S: Site + Accounts + Supplies, A: Dial, T: Texts, C: Clock> Model for Share
         × CoversOrders S.wires (A.past d.desk.dial) d.orders.total
         × CoversSources S.wires (A.past d.desk.dial) S.dial_faults (A.faults d.desk.dial) d.sources.total
         × CoversBy IsGood S.wires (A.past d.desk.dial) d.versions.total
+        × AllCameByWire S.wires (A.past d.desk.dial) d.fetches
         × IsUsedForTransfers S.hosts S.catalogue.maps (dial_told S.wires S.letters S.dial_faults)
         (dial_by A.Dial d.desk.dial) };
 }
 
 impl<S: Site + Accounts + Supplies, A: Dial, T: Texts, C: Clock> SharedDesk<S, A, T, C> {
-    /// A desk that has what its site says, with the books of what is counted from now on.
+    /// A desk that has what its site says, with the books of what is counted from now on, and the log of what is
+    /// fetched.
     pub fn new(
         desk: Desk<A, T, C>,
         unread: Book<UnreadTexts<S>>,
         orders: Book<ReachedOrders<S>>,
         sources: Book<FailedSources<S>>,
         versions: Book<FetchedVersions<S>>,
+        fetches: Fetches<S>,
     ) -> SharedDesk<S, A, T, C>
         requires supplied { IsSupplied T.Texts S.text S.hosts desk }
         requires before { (T.faults desk.texts ≡ S.text_faults) × (A.past desk.dial ≡ S.wires)
             × (A.faults desk.dial ≡ S.dial_faults) × (A.letters desk.dial ≡ S.letters) }
-        requires none { (unread.total ≡ 0) × (orders.total ≡ 0) × (sources.total ≡ 0) × (versions.total ≡ 0) }
+        requires none { (unread.total ≡ 0) × (orders.total ≡ 0) × (sources.total ≡ 0) × (versions.total ≡ 0)
+            × (fetches ≡ []) }
         ensures { result ≡ desk }
     {
         SharedDesk {
@@ -189,18 +194,21 @@ impl<S: Site + Accounts + Supplies, A: Dial, T: Texts, C: Clock> SharedDesk<S, A
             orders,
             sources,
             versions,
+            fetches,
         }
     }
 
     /// The desk, once the lock is left. What a caller was charged with is covered by the faults of its texts, and by
-    /// the wires and the faults of its dial. No more versions were fetched than wires came that give one. Its dial was
-    /// used for transfers of the maps of its site alone.
+    /// the wires and the faults of its dial. No more versions were fetched than wires came that give one, and for each
+    /// that is known to be fetched there came one that gives it. Its dial was used for transfers of the maps of its
+    /// site alone.
     pub fn close(
         self,
         unread: &mut Share<UnreadTexts<S>>,
         orders: &mut Share<ReachedOrders<S>>,
         sources: &mut Share<FailedSources<S>>,
         versions: &mut Share<FetchedVersions<S>>,
+        known: &FetchesFront<S>,
     ) -> Desk<A, T, C>
         ensures desk { result ≡ self }
         ensures supplied { IsSupplied T.Texts S.text S.hosts result }
@@ -209,6 +217,7 @@ impl<S: Site + Accounts + Supplies, A: Dial, T: Texts, C: Clock> SharedDesk<S, A
         ensures sources { (n : ℕ) → n ≤ sources.old.amount
             → CoversSources S.wires (A.past result.dial) S.dial_faults (A.faults result.dial) n }
         ensures versions { (n : ℕ) → n ≤ versions.old.amount → CoversBy IsGood S.wires (A.past result.dial) n }
+        ensures known { AllCameByWire S.wires (A.past result.dial) known.now }
         ensures dialed { IsUsedForTransfers S.hosts S.catalogue.maps (dial_told S.wires S.letters S.dial_faults)
             (dial_by A.Dial result.dial) }
     {
@@ -217,12 +226,14 @@ impl<S: Site + Accounts + Supplies, A: Dial, T: Texts, C: Clock> SharedDesk<S, A
         shared.orders.audit(orders);
         shared.sources.audit(sources);
         shared.versions.audit(versions);
+        shared.fetches.covers(known);
         let SharedDesk {
             desk,
             unread: _,
             orders: _,
             sources: _,
             versions: _,
+            fetches: _,
         } = shared;
         desk
     }
@@ -256,7 +267,8 @@ impl<S: Site + Accounts + Supplies, A: Dial, T: Texts, C: Clock> SharedDesk<S, A
     }
 
     /// Fetches a map of the site from a source, and gives the wire back, or answers `None` exactly where the source has
-    /// no address. An order that is reached is charged, and so is a source that failed, and a version that came.
+    /// no address. An order that is reached is charged, and so is a source that failed, and a version that came, which
+    /// is known to be fetched then, where its log takes it.
     pub(crate) fn fetch(
         &mut self,
         alloc: Global,
@@ -264,6 +276,7 @@ impl<S: Site + Accounts + Supplies, A: Dial, T: Texts, C: Clock> SharedDesk<S, A
         source: &[u8],
         name: &MapName,
         shown: Option<Order>,
+        known: &mut Option<FetchesFront<S>>,
         charges: &mut Charges<S>,
     ) -> Option<Result<Version, XfrFault>>
         requires named { 0 < length source.now }
@@ -275,6 +288,7 @@ impl<S: Site + Accounts + Supplies, A: Dial, T: Texts, C: Clock> SharedDesk<S, A
             (wanted_of (name_view name.now).0 (name_view name.now).1 shown false) outcome
             (wires_told (dial_by A.Dial self.old.dial)) (wires_told (dial_by A.Dial self.new.dial))) }
         ensures aged { IfSome result (IsAgedBy shown) }
+        ensures noted { IfSome result (λ outcome. IsNoted outcome known.new) }
         ensures charged { charges.new ≡ record charges.old {
           orders = charges.old.orders + option_map_or orders_in result 0;
           sources = charges.old.sources + option_map_or sources_in result 0;
@@ -297,6 +311,7 @@ impl<S: Site + Accounts + Supplies, A: Dial, T: Texts, C: Clock> SharedDesk<S, A
         self.orders.add(&mut charges.orders, orders_in(&fetched));
         self.sources.add(&mut charges.sources, sources_in(&fetched));
         charge_version(&mut self.versions, charges, &fetched);
+        *known = note(&mut self.fetches, &fetched);
         Some(fetched)
     }
 
@@ -307,6 +322,26 @@ impl<S: Site + Accounts + Supplies, A: Dial, T: Texts, C: Clock> SharedDesk<S, A
     {
         tell_back(&mut self.desk.dial, asker, stat);
     }
+}
+
+/// Adds a version to the log of what was fetched, where one was: the log then, if it takes it.
+#[tactic(auto, using(crate::proofs::workers::Noting::noted_last))]
+fn note<S: Accounts>(
+    fetches: &mut Fetches<S>,
+    fetched: &Result<Version, XfrFault>,
+) -> Option<FetchesFront<S>>
+    ensures noted { IsNoted fetched.now result }
+    ensures added { IfOk fetched.now (λ version. (fetches.new ≡ fetches.old)
+        ⊎ (fetches.new ≡ fetches.old ++ version ∷ [])) }
+    ensures same { IfErr fetched.now (λ why. fetches.new ≡ fetches.old) }
+{
+    let Ok(version) = fetched else {
+        return None;
+    };
+    if !fetches.push(version) {
+        return None;
+    }
+    Some(fetches.front().again())
 }
 
 /// Charges a version, where one was fetched.

@@ -109,6 +109,7 @@ where
         job.map,
         version,
         Origin::Built,
+        None,
         &mut charges.debits,
     ) {
         Ok(()) => Some(XfrStat::Succ),

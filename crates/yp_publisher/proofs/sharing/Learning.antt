@@ -1,5 +1,6 @@
 -- What a reader learns.
-use Rattle.std.proofs.Common.{◌≡◌, ℕ, List, sym, ◌∙◌, ap, subst}
+use Rattle.std.proofs.Common.{◌≡◌, ℕ, List, [], Result, Ok, Err, OnOk, OnErr, refl, sym, ◌∙◌, ap, subst}
+use Rattle.std.proofs.lemmas.List.{append-nil}
 use Rattle.yp_version.specs.Versions.{MapVersion}
 use Rattle.yp_board.specs.Logs.{Log}
 use Rattle.yp_board.specs.Views.{Seen, IsFront}
@@ -17,6 +18,13 @@ learned old new log front told =
       same = told ∙ ap (λ (l : Log). record old { known = l }) (sym knows);
       grown = subst (λ (l : Log). IsFront old.known l) (sym knows) front;
     }
+
+-- what it is told, or nothing
+pub told_or_not : {T E V : Type 0} (r : Result T E) (seen : V → Seen) (old new : V) (log : Log) → IsFront (seen old).known log
+    → OnOk r (seen new ≡ record (seen old) { known = log }) → OnErr r (new ≡ old) → Learns (seen old) (seen new)
+told_or_not (Ok done) seen old new log front told same = learned (seen old) (seen new) log front told
+told_or_not {T} {E} {V} (Err fault) seen old new log front told same =
+    subst (λ (v : V). Learns (seen old) (seen v)) (sym same) (record { same = refl; grown = ([], sym (append-nil (seen old).known)) })
 
 -- what is installed was built of what was shown up to a later log, too
 pub there_later : (Is : Building) (old new : Log) (number : ℕ) (own : List ℕ) (version : MapVersion) (origin : Origin)

@@ -381,7 +381,7 @@ nothing_first None other none = refl
 nothing_first (Some why) other none = absurd cc
 
 -- a version that nothing stands against follows what is shown of its level map
-follows_shown : {D B : Type 0} (keeping : Keeping D B) (number : ℕ) (offered : OfferedVersion) (published : Published D B)
+pub follows_shown : {D B : Type 0} (keeping : Keeping D B) (number : ℕ) (offered : OfferedVersion) (published : Published D B)
     (kept : StoredMap D) → slice_get published.maps number ≡ Some kept → kept.standing ≡ Level
     → Shows (keeping.log published.board) (versions published.maps)
     → install_refusal published.catalogue.own offered kept ≡ None

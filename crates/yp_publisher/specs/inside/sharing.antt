@@ -3,3 +3,5 @@ pub mod Failures
 pub mod Moments
 pub mod Sources
 pub mod Debits
+pub mod Tracing
+pub mod Fetches

@@ -1,6 +1,6 @@
 //! What lies under the lock.
 
-ghost use Rattle.std.specs.Prelude.{◌≡◌, ℕ, ◌+◌, ◌<◌, ◌≤◌, false, length, option_map, OnOk, OnErr, IfErr, None};
+ghost use Rattle.std.specs.Prelude.{◌≡◌, ℕ, ◌+◌, ◌<◌, ◌≤◌, false, length, map, option_map, OnOk, OnErr, IfErr, None};
 ghost use Rattle.std.specs.Arc.{arc_value};
 ghost use Rattle.std.specs.Option.{option_map_or};
 ghost use Rattle.yp_board.specs.Logs.{shown};
@@ -20,9 +20,12 @@ ghost use Rattle.yp_publisher.specs.inside.sharing.Failures.{failures_in, failur
 ghost use Rattle.yp_publisher.specs.inside.sharing.Debits.{DebitIsCharged};
 ghost use Rattle.yp_publisher.specs.sharing.Sources.{IsSourced};
 ghost use Rattle.yp_publisher.specs.inside.sharing.Sources.{IsBuiltThere, fetched_in};
+ghost use Rattle.yp_publisher.specs.sharing.Tracing.{IsNewBehind, Traces};
+ghost use Rattle.yp_publisher.specs.inside.sharing.Tracing.{IsKnownFetched};
 
 use crate::laws::log_rises;
 use crate::sharing::debits::Debits;
+use crate::sharing::fetches::FetchesFront;
 use crate::{InstallFault, Origin, Publisher};
 use std::alloc::Global;
 use std::marker::{Brand, Model, PhantomData};
@@ -48,10 +51,13 @@ impl Site for Brand {
     ghost catalogue = { record { own = []; maps = [] } };
 }
 
-/// How a site stood before its publisher was shared, how often its disks had failed, and the ledgers of what is counted
-/// since then. Each call of a program that shares a publisher picks it.
+/// How a site stood before its publisher was shared, what its disks told and how often they had failed, the ledgers of
+/// what is counted since then, and the log of what is fetched since then. Each call of a program that shares a publisher
+/// picks it.
 pub trait Accounts {
-    ghost use Rattle.std.specs.Prelude.{ℕ, Option};
+    ghost use Rattle.std.specs.Prelude.{ℕ, List, Option};
+    ghost use Rattle.logbook.specs.Pages.{Book};
+    ghost use Rattle.yp_io.specs.Disk.{History};
     ghost use Rattle.yp_version.specs.Versions.{MapVersion};
     ghost use Rattle.yp_board.specs.Logs.{Log};
     ghost use Rattle.yp_publisher.specs.Rising.{PublisherState};
@@ -61,6 +67,9 @@ pub trait Accounts {
 
     /// What was shown, and how each map stood.
     ghost first: { PublisherState };
+
+    /// What its disks told, in the order of the maps.
+    ghost histories: { List (Option History) };
 
     /// How often its disks had failed.
     ghost disk_faults: { ℕ };
@@ -74,6 +83,9 @@ pub trait Accounts {
     /// The name of the ledger of versions that were fetched.
     ghost versions: { ℕ };
 
+    /// The book whose history is the log of those versions.
+    ghost fetched: { Book };
+
     /// Into how many parts its ledgers are cut.
     ghost shares: { ℕ };
 }
@@ -85,6 +97,8 @@ impl Accounts for Brand {
 
     ghost first = { record { log = []; standings = [] } };
 
+    ghost histories = { [] };
+
     ghost disk_faults = { 0 };
 
     ghost failures = { 0 };
@@ -92,6 +106,8 @@ impl Accounts for Brand {
     ghost made = { 0 };
 
     ghost versions = { 0 };
+
+    ghost fetched = { record { number = 0; log_name = 0; cells_name = 0 } };
 
     ghost shares = { 0 };
 }
@@ -147,14 +163,15 @@ pub enum ShareFault {
 }
 
 /// A publisher of the maps that are served, for a lock to keep, with the books of the files that failed and of the
-/// built versions that were shown since it is shared, and with what stands for the fetched versions that were
-/// installed. It is seen as that publisher.
+/// built versions that were shown since it is shared, with what stands for the fetched versions that were installed, and
+/// with a front of the log of fetched versions that has them. It is seen as that publisher.
 #[derive(Drop)]
 pub struct Locked<S: Site + Accounts, D: Disk, B: Show> {
     publisher: Publisher<D, B>,
     failures: Book<FailedFiles<S>>,
     made: Book<BuiltVersions<S>>,
     versions: Share<FetchedVersions<S>>,
+    fetches: FetchesFront<S>,
 }
 
 impl<S: Site + Accounts, D: Disk, B: Show> Model for Locked<S, D, B> {
@@ -164,6 +181,7 @@ impl<S: Site + Accounts, D: Disk, B: Show> Model for Locked<S, D, B> {
     ghost use Rattle.yp_publisher.specs.inside.sharing.Failures.{Covers};
     ghost use Rattle.yp_publisher.specs.inside.sharing.Moments.{IsLed};
     ghost use Rattle.yp_publisher.specs.inside.sharing.Sources.{IsSourcedAt};
+    ghost use Rattle.yp_publisher.specs.inside.sharing.Tracing.{IsTracedAt};
 
     ghost Value = { Published D B };
 
@@ -173,20 +191,23 @@ impl<S: Site + Accounts, D: Disk, B: Show> Model for Locked<S, D, B> {
         × Covers D.history D.faults S.disk_faults l.publisher.maps l.failures.total
         × IsLed (keeping_of D.history D.faults B.log) S.first l.publisher
         × IsSourcedAt (keeping_of D.history D.faults B.log) S.built S.first l.publisher l.made.total l.versions.amount
+        × IsTracedAt (keeping_of D.history D.faults B.log) S.built l.fetches S.first S.histories l.publisher
         × (0 < l.versions.parts) };
 }
 
 impl<S: Site + Accounts, D: Disk, B: Show> Locked<S, D, B> {
-    /// A publisher of the maps that are served, with the books of what is counted from now on, and a part of the ledger
-    /// of fetched versions.
+    /// A publisher of the maps that are served, with the books of what is counted from now on, a part of the ledger of
+    /// fetched versions, and a front of their log.
     pub fn new(
         publisher: Publisher<D, B>,
         failures: Book<FailedFiles<S>>,
         made: Book<BuiltVersions<S>>,
         versions: Share<FetchedVersions<S>>,
+        fetches: FetchesFront<S>,
     ) -> Locked<S, D, B>
         requires site { publisher.catalogue ≡ S.catalogue }
         requires first { publisher_state B.log publisher ≡ S.first }
+        requires histories { map D.history (disks_of publisher.maps) ≡ S.histories }
         requires before { faults_over D.faults (disks_of publisher.maps) ≡ S.disk_faults }
         requires none { (failures.total ≡ 0) × (made.total ≡ 0) }
         requires part { 0 < versions.parts }
@@ -197,15 +218,20 @@ impl<S: Site + Accounts, D: Disk, B: Show> Locked<S, D, B> {
             failures,
             made,
             versions,
+            fetches,
         }
     }
 
-    /// The publisher, once the lock is left, and what stands for the fetched versions that were installed. The failed
-    /// files that a caller was charged with are at most as many as the faults of its disks. From a start, over disks
-    /// that tell what a crash may leave of them, the orders of each map rise in the log; at least as many built
-    /// versions were shown as the caller was charged with; and the other versions that were shown, with those that maps
-    /// are behind, are at most as many as were fetched.
-    pub fn close(self, charge: &mut Debits<S>) -> (Publisher<D, B>, Share<FetchedVersions<S>>)
+    /// The publisher, once the lock is left, what stands for the fetched versions that were installed, and a front of
+    /// the log of fetched versions that has them. The failed files that a caller was charged with are at most as many
+    /// as the faults of its disks. From a start, over disks that tell what a crash may leave of them, the orders of
+    /// each map rise in the log; at least as many built versions were shown as the caller was charged with; and the
+    /// other versions that were shown, with those that maps are behind, are at most as many as were fetched. Each
+    /// version was built or fetched, and so was what a crash leaves of a map at any moment, if it wasn't shown.
+    pub fn close(
+        self,
+        charge: &mut Debits<S>,
+    ) -> (Publisher<D, B>, Share<FetchedVersions<S>>, FetchesFront<S>)
         ensures publisher { result.0 ≡ self }
         ensures catalogue { result.0.catalogue ≡ S.catalogue }
         ensures covered { Covers D.history D.faults S.disk_faults result.0.maps charge.old.failures }
@@ -214,6 +240,8 @@ impl<S: Site + Accounts, D: Disk, B: Show> Locked<S, D, B> {
         ensures sourced { (made : ℕ) → made ≤ charge.old.made → IsStart S.first
             → AreTold D.history (disks_of result.0.maps)
             → IsSourced S.built S.first (publisher_state B.log result.0) made result.1.amount }
+        ensures traced { IsStart S.first → Traces D.history (IsNewBehind S.built result.2) S.first.log
+            (B.log result.0.board) S.histories result.0.maps }
     {
         log_rises();
         let Locked {
@@ -221,16 +249,18 @@ impl<S: Site + Accounts, D: Disk, B: Show> Locked<S, D, B> {
             mut failures,
             mut made,
             versions,
+            fetches,
         } = self;
         failures.audit(&mut charge.failures);
         made.audit(&mut charge.made);
-        (publisher, versions)
+        (publisher, versions, fetches)
     }
 
     /// Stores a version of a map, and then shows it. A map that is behind is opened again first. The version is marked
     /// as the one that is shown then, and has to have a higher order. At each moment of the call a crash leaves a file
     /// that stands as the map stood, or for that version. Where its file failed, that is charged, and so is a built
-    /// version that is shown. What stands for a fetched version goes over to the publisher.
+    /// version that is shown. What stands for a fetched version goes over to the publisher, and so does a front of the
+    /// log of fetched versions that has it.
     pub fn install(
         &mut self,
         alloc: Global,
@@ -238,11 +268,13 @@ impl<S: Site + Accounts, D: Disk, B: Show> Locked<S, D, B> {
         map: u32,
         version: Version,
         origin: Origin,
+        known: Option<FetchesFront<S>>,
         charge: &mut Debits<S>,
     ) -> Result<(), ShareFault>
         requires map { map < length S.catalogue.maps }
         requires built { IsBuiltThere S.built (B.log self.old.board) map S.catalogue.own version origin }
         requires fetched { fetched_in origin ≤ charge.old.versions }
+        requires known { IsKnownFetched version origin known }
         ensures installed { OnOk result (OpensAndInstalls (keeping_of D.history D.faults B.log) map version origin
             self.old self.new) }
         ensures refused { IfErr result (λ fault. IsNotInstalled (keeping_of D.history D.faults B.log) map version
@@ -260,6 +292,7 @@ impl<S: Site + Accounts, D: Disk, B: Show> Locked<S, D, B> {
             charge.old charge.new }
     {
         let _catalog = self.publisher.catalog();
+        self.fetches = self.fetches.with_known(known);
         let installed = open_and_offer(alloc, rt, &mut self.publisher, map, version, origin);
         self.failures
             .add(&mut charge.failures, failures_of(&installed));
@@ -301,12 +334,14 @@ impl<S: Site + Accounts, D: Disk, B: Tell> Locked<S, D, B> {
         map: u32,
         version: Version,
         origin: Origin,
+        known: Option<FetchesFront<S>>,
         charge: &mut Debits<S>,
     ) -> Result<(), ShareFault>
         requires map { map < length S.catalogue.maps }
         requires built { IsBuiltThere S.built (B.Reader.seen reader.old).known
             map S.catalogue.own version origin }
         requires fetched { fetched_in origin ≤ charge.old.versions }
+        requires known { IsKnownFetched version origin known }
         ensures shown { OnOk result (IsShownBehind S.catalogue.own map version origin
             (B.Reader.seen reader.old).known (B.Reader.seen reader.new).known) }
         ensures reason { IfErr result (λ fault. IsReason S.catalogue.own map version origin fault
@@ -317,7 +352,7 @@ impl<S: Site + Accounts, D: Disk, B: Tell> Locked<S, D, B> {
     {
         // It needn't know what was shown before, but that this begins with all that it knows.
         let _ = self.tell_to(reader);
-        let installed = self.install(alloc, rt, map, version, origin, charge);
+        let installed = self.install(alloc, rt, map, version, origin, known, charge);
         match self.tell_to(reader) {
             Ok(()) => installed,
             Err(NoMemory) => Err(ShareFault::Untold),

@@ -6,9 +6,11 @@ ghost use Rattle.yp_publisher.specs.inside.sharing.Shares.{IsReason};
 ghost use Rattle.yp_publisher.specs.inside.sharing.Failures.{failures_of, made_by};
 ghost use Rattle.yp_publisher.specs.inside.sharing.Debits.{DebitIsCharged};
 ghost use Rattle.yp_publisher.specs.inside.sharing.Sources.{IsBuiltThere, fetched_in};
+ghost use Rattle.yp_publisher.specs.inside.sharing.Tracing.{IsKnownFetched};
 
 use crate::Origin;
 use crate::sharing::debits::Debits;
+use crate::sharing::fetches::FetchesFront;
 use crate::sharing::locked::{Accounts, Locked, ShareFault, Site};
 use std::alloc::Global;
 use std::random::RandomSource;
@@ -22,7 +24,7 @@ use yp_version::Version;
 ///
 /// The version is shown behind all that the reader knew. Where it isn't, the reader knows why, or memory ran out, or
 /// the map's file failed, which is charged. So is a built version that the reader knows then, and what stands for a
-/// fetched one goes over to the publisher.
+/// fetched one goes over to the publisher, with a front of the log of fetched versions that has it.
 pub fn install_shared<S: Site + Accounts, D: Disk, B: Tell, R: RandomSource + Wait>(
     alloc: Global,
     rt: &R,
@@ -31,11 +33,13 @@ pub fn install_shared<S: Site + Accounts, D: Disk, B: Tell, R: RandomSource + Wa
     map: u32,
     version: Version,
     origin: Origin,
+    known: Option<FetchesFront<S>>,
     charge: &mut Debits<S>,
 ) -> Result<(), ShareFault>
     requires map { map < length S.catalogue.maps }
     requires built { IsBuiltThere S.built (B.Reader.seen reader.old).known map S.catalogue.own version origin }
     requires fetched { fetched_in origin ≤ charge.old.versions }
+    requires known { IsKnownFetched version origin known }
     ensures shown { OnOk result (IsShownBehind S.catalogue.own map version origin
         (B.Reader.seen reader.old).known (B.Reader.seen reader.new).known) }
     ensures reason { IfErr result (λ fault. IsReason S.catalogue.own map version origin fault
@@ -45,7 +49,7 @@ pub fn install_shared<S: Site + Accounts, D: Disk, B: Tell, R: RandomSource + Wa
         charge.old charge.new }
 {
     let mut locked = shared.lock(rt);
-    locked.install_for(alloc, rt, reader, map, version, origin, charge)
+    locked.install_for(alloc, rt, reader, map, version, origin, known, charge)
 }
 
 /// Lets a reader of the board know all that was shown, in any thread. It waits for the lock. After a refusal the reader

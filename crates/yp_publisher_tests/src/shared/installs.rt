@@ -1,13 +1,14 @@
 //! Installs and tellings under one lock, in one thread.
 
-ghost use Rattle.std.specs.Prelude.{◌≡◌, ℕ, ◌+◌, ◌<◌, ◌≤◌, length, Option};
-ghost use Rattle.yp_memory.specs.inside.MemDisk.{Platter};
+ghost use Rattle.std.specs.Prelude.{◌≡◌, ℕ, ◌+◌, ◌<◌, ◌≤◌, length, map, Option, Some};
+ghost use Rattle.yp_memory.specs.inside.MemDisk.{Platter, history_of};
 ghost use Rattle.yp_version.specs.Versions.{MapVersion};
 ghost use Rattle.yp_board.specs.Logs.{Log};
 ghost use Rattle.yp_publisher.specs.Rising.{publisher_state};
 ghost use Rattle.yp_board.specs.inside.readers.Boards.{Written};
 ghost use Rattle.yp_publisher.specs.sharing.Failures.{disks_of, faults_over};
 ghost use Rattle.yp_publisher.specs.inside.sharing.Sources.{fetched_in};
+ghost use Rattle.yp_publisher.specs.inside.sharing.Tracing.{IsKnownFetched};
 
 use crate::given::{assert_same, held, one_of, version};
 use crate::shared::maps::*;
@@ -21,10 +22,11 @@ use yp_board::Tell;
 use yp_board::readers::{Naming, Opened, Reader, Writer};
 use yp_memory::MemDisk;
 use yp_publisher::sharing::{
-    Accounts, BuiltVersions, Debits, FailedFiles, FetchedVersions, Locked, ShareFault, Site,
-    install_shared, tell_shared,
+    Accounts, BuiltVersions, Debits, FailedFiles, FetchedVersions, Fetches, FetchesFront, Locked,
+    OpenedFetches, ShareFault, Site, install_shared, tell_shared,
 };
 use yp_publisher::{InstallFault, Origin};
+use yp_version::Version;
 
 // The maps, and where they are under their lock.
 type Kept<'r, S, J, R> = Locked<S, MemDisk, Writer<J, &'r R>>;
@@ -142,6 +144,7 @@ fn played<J: Naming, R: Wait + RandomSource + Abort>(
         failures,
         made,
         versions,
+        OpenedFetches::new(),
         &mut reader,
         &mut other,
         rows,
@@ -157,6 +160,7 @@ fn play_all<'r, J: Naming, S: Site + Accounts, R: Wait + RandomSource + Abort>(
     failures: Blank,
     made: Blank,
     versions: Blank,
+    fetches: OpenedFetches,
     reader: &mut Reader<J>,
     other: &mut Reader<J>,
     rows: &[Row],
@@ -167,16 +171,27 @@ fn play_all<'r, J: Naming, S: Site + Accounts, R: Wait + RandomSource + Abort>(
     requires any { (log : Log) → (number : ℕ) → (last : Option MapVersion) → (version : MapVersion)
         → S.built log number last version }
     requires first { publisher_state (λ (w : Written). w.log) maps ≡ S.first }
+    requires histories { map (λ (p : Platter). Some (history_of p)) (disks_of maps.maps) ≡ S.histories }
     requires disks { faults_over (λ (p : Platter). p.faults) (disks_of maps.maps) ≡ S.disk_faults }
     requires names { (failures.name ≡ S.failures) × (made.name ≡ S.made) × (versions.name ≡ S.versions) }
     requires parts { (failures.parts ≡ S.shares) × (made.parts ≡ S.shares) × (versions.parts ≡ S.shares + 1) }
     requires two { S.shares ≡ 2 }
+    requires fetches { fetches ≡ S.fetched }
 {
-    let (locked, mut charge, mut fetches) = open_all::<J, S, R>(maps, failures, made, versions);
+    let log = fetches.named::<S>().expect(rt, "a log");
+    let (locked, mut charge, book) = open_all::<J, S, R>(maps, failures, made, versions, &log);
     let shared = Mutex::new(locked);
-    play_part(rt, alloc, &shared, reader, &mut charge, &mut fetches, rows);
+    let mut fetched = Fetched { book, log };
+    play_part(rt, alloc, &shared, reader, &mut charge, &mut fetched, rows);
     assert_told(rt, &shared, other, told);
     close_all(shared.into_inner(), &mut charge, reader);
+}
+
+// What was fetched: how much, and which versions.
+#[derive(Drop)]
+struct Fetched<S: Accounts> {
+    book: Book<FetchedVersions<S>>,
+    log: Fetches<S>,
 }
 
 // The maps with what is counted of them, two parts of what a caller is charged with, and the book of fetched versions.
@@ -185,9 +200,11 @@ fn open_all<'r, J: Naming, S: Site + Accounts, R: Wait + RandomSource + Abort>(
     failures: Blank,
     made: Blank,
     versions: Blank,
+    log: &Fetches<S>,
 ) -> (Kept<'r, S, J, R>, Debits<S>, Book<FetchedVersions<S>>)
     requires site { maps.catalogue ≡ S.catalogue }
     requires first { publisher_state (λ (w : Written). w.log) maps ≡ S.first }
+    requires histories { map (λ (p : Platter). Some (history_of p)) (disks_of maps.maps) ≡ S.histories }
     requires disks { faults_over (λ (p : Platter). p.faults) (disks_of maps.maps) ≡ S.disk_faults }
     requires names { (failures.name ≡ S.failures) × (made.name ≡ S.made) × (versions.name ≡ S.versions) }
     requires parts { (failures.parts ≡ S.shares) × (made.parts ≡ S.shares) × (versions.parts ≡ S.shares + 1) }
@@ -199,7 +216,7 @@ fn open_all<'r, J: Naming, S: Site + Accounts, R: Wait + RandomSource + Abort>(
     let (fetches, mut versions) = versions.open::<FetchedVersions<S>>();
     // One part of the last stays under the lock.
     let kept = versions.split_off(1, 0);
-    let locked = Locked::new(maps, failed, shown, kept);
+    let locked = Locked::new(maps, failed, shown, kept, log.front().again());
     (locked, Debits::new(failures, made, versions), fetches)
 }
 
@@ -222,7 +239,7 @@ fn play_part<'r, J: Naming, S: Site + Accounts, R: Wait + RandomSource + Abort>(
     shared: &Shared<'r, S, J, R>,
     reader: &mut Reader<J>,
     charge: &mut Debits<S>,
-    fetches: &mut Book<FetchedVersions<S>>,
+    fetched: &mut Fetched<S>,
     rows: &[Row],
 )
     requires maps { 0 < length S.catalogue.maps }
@@ -232,7 +249,7 @@ fn play_part<'r, J: Naming, S: Site + Accounts, R: Wait + RandomSource + Abort>(
 {
     let mut mine = charge.split_off();
     for row in rows {
-        play(rt, alloc, shared, reader, &mut mine, fetches, row);
+        play(rt, alloc, shared, reader, &mut mine, fetched, row);
     }
     charge.merge(mine);
 }
@@ -244,7 +261,7 @@ fn play<'r, J: Naming, S: Site + Accounts, R: Wait + RandomSource + Abort>(
     shared: &Shared<'r, S, J, R>,
     reader: &mut Reader<J>,
     charge: &mut Debits<S>,
-    fetches: &mut Book<FetchedVersions<S>>,
+    fetched: &mut Fetched<S>,
     row: &Row,
 )
     requires maps { 0 < length S.catalogue.maps }
@@ -252,8 +269,11 @@ fn play<'r, J: Naming, S: Site + Accounts, R: Wait + RandomSource + Abort>(
         → S.built log number last version }
 {
     let (origin, order, outcome, after) = *row;
-    fetch(origin, charge, fetches);
-    let came = installed(rt, alloc, shared, reader, charge, origin, order);
+    let version = version(rt, alloc, order, b"m1");
+    let known = fetch(rt, origin, &version, charge, fetched);
+    let came = outcome_of(install_shared(
+        alloc, rt, shared, reader, 0, version, origin, known, charge,
+    ));
     assert_same(
         rt,
         &(came, held(reader, 0)),
@@ -262,37 +282,25 @@ fn play<'r, J: Naming, S: Site + Accounts, R: Wait + RandomSource + Abort>(
     );
 }
 
-// Tells the book of a version that is fetched.
-fn fetch<S: Accounts>(
+// Tells the book and the log of a version that is fetched.
+fn fetch<S: Accounts, R: Abort>(
+    rt: &R,
     origin: Origin,
+    version: &Version,
     charge: &mut Debits<S>,
-    fetches: &mut Book<FetchedVersions<S>>,
-)
-    ensures { fetched_in origin ≤ charge.new.versions }
+    fetched: &mut Fetched<S>,
+) -> Option<FetchesFront<S>>
+    ensures charged { fetched_in origin ≤ charge.new.versions }
+    ensures known { IsKnownFetched version.now origin result }
 {
     match origin {
-        Origin::Built => {}
-        Origin::Fetched => charge.fetched(fetches),
+        Origin::Built => None,
+        Origin::Fetched => {
+            charge.fetched(&mut fetched.book);
+            assert!(rt; fetched.log.push(version));
+            Some(fetched.log.front().again())
+        },
     }
-}
-
-// Offers a version of this order, and tells what came of it.
-fn installed<'r, J: Naming, S: Site + Accounts, R: Wait + RandomSource + Abort>(
-    rt: &'r R,
-    alloc: Global,
-    shared: &Shared<'r, S, J, R>,
-    reader: &mut Reader<J>,
-    charge: &mut Debits<S>,
-    origin: Origin,
-    order: u32,
-) -> Outcome
-    requires maps { 0 < length S.catalogue.maps }
-    requires any { (log : Log) → (number : ℕ) → (last : Option MapVersion) → (version : MapVersion)
-        → S.built log number last version }
-    requires fetched { fetched_in origin ≤ charge.old.versions }
-{
-    let version = version(rt, alloc, order, b"m1");
-    outcome_of(install_shared(alloc, rt, shared, reader, 0, version, origin, charge))
 }
 
 fn outcome_of(installed: Result<(), ShareFault>) -> Outcome {

@@ -1,7 +1,7 @@
 //! Two workers over one map.
 
-ghost use Rattle.std.specs.Prelude.{◌≡◌, All, Some};
-ghost use Rattle.yp_memory.specs.inside.MemDisk.{Platter};
+ghost use Rattle.std.specs.Prelude.{◌≡◌, All, Some, map};
+ghost use Rattle.yp_memory.specs.inside.MemDisk.{Platter, history_of};
 ghost use Rattle.yp_memory.specs.inside.MemDial.{wires_of};
 ghost use Rattle.yp_publisher.specs.Rising.{publisher_state};
 ghost use Rattle.yp_board.specs.inside.readers.Boards.{Written};
@@ -30,7 +30,7 @@ use yp_io::{Peer, Texts};
 use yp_memory::{MemDial, MemDisk, SetClock};
 use yp_messages::XfrStat;
 use yp_publisher::sharing::{
-    Accounts, BuiltVersions, Debits, FailedFiles, FetchedVersions, Locked, Site,
+    Accounts, BuiltVersions, Debits, FailedFiles, FetchedVersions, Locked, OpenedFetches, Site,
 };
 use yp_worker::{CatchUp, HandsOver};
 
@@ -203,7 +203,7 @@ pub fn staged<J: Naming, T: Texts + Drop, R: RandomSource + Wait + Abort>(
     under_locks::<Brand, J, T, R>(rt, alloc, publisher, readers, desk, Blanks::new(), script)
 }
 
-/// What the ledgers of a stage are opened from.
+/// What the ledgers of a stage are opened from, and the log of what is fetched.
 struct Blanks {
     unread: Blank,
     failures: Blank,
@@ -211,6 +211,7 @@ struct Blanks {
     sources: Blank,
     made: Blank,
     versions: Blank,
+    fetches: OpenedFetches,
 }
 
 impl Blanks {
@@ -230,6 +231,7 @@ impl Blanks {
             sources: Blank::new(4),
             made: Blank::new(4),
             versions: Blank::new(5),
+            fetches: OpenedFetches::new(),
         }
     }
 }
@@ -252,6 +254,7 @@ fn under_locks<
 ) -> Played
     requires site { publisher.catalogue ≡ S.catalogue }
     requires stood { publisher_state (λ (w : Written). w.log) publisher ≡ S.first }
+    requires histories { map (λ (p : Platter). Some (history_of p)) (disks_of publisher.maps) ≡ S.histories }
     requires disks { faults_over (λ (p : Platter). p.faults) (disks_of publisher.maps) ≡ S.disk_faults }
     requires builds { SiteBuilds S.text S.catalogue S.built }
     requires first { readers.0.catalogue ≡ S.catalogue }
@@ -266,6 +269,7 @@ fn under_locks<
     requires sources { (blanks.sources.name ≡ S.sources) × (blanks.sources.parts ≡ 4) }
     requires made { (blanks.made.name ≡ S.made) × (blanks.made.parts ≡ 4) }
     requires versions { (blanks.versions.name ≡ S.versions) × (blanks.versions.parts ≡ 5) }
+    requires fetches { blanks.fetches ≡ S.fetched }
 {
     let Blanks {
         unread,
@@ -274,6 +278,7 @@ fn under_locks<
         sources,
         made,
         versions,
+        fetches,
     } = blanks;
     let (unread, own_unread) = unread.open::<UnreadTexts<S>>();
     let (failures, own_failures) = failures.open::<FailedFiles<S>>();
@@ -284,8 +289,14 @@ fn under_locks<
     let publishers = own_versions.split_off(1, 0);
     let debits = Debits::new(own_failures, own_made, own_versions);
     let charges = Charges::new(own_unread, own_orders, own_sources, debits);
-    let maps: SharedMaps<S, J, &R> = Mutex::new(Locked::new(publisher, failures, made, publishers));
-    let tools: Tools<S, T> = Mutex::new(SharedDesk::new(desk, unread, orders, sources, versions));
+    let fetches = fetches.named::<S>().expect(rt, "a log");
+    let known = fetches.front().again();
+    let maps: SharedMaps<S, J, &R> = Mutex::new(Locked::new(
+        publisher, failures, made, publishers, known,
+    ));
+    let tools: Tools<S, T> = Mutex::new(SharedDesk::new(
+        desk, unread, orders, sources, versions, fetches,
+    ));
     let (came, account) = meet(rt, alloc, &maps, &tools, readers, charges, script);
     let (totals, desk) = closed(maps.into_inner(), tools.into_inner(), account);
     (came, totals, posted_by(rt, alloc, &desk.dial))
@@ -299,7 +310,13 @@ fn closed<S: Site + Accounts + Supplies, J: Naming, T: Texts + Drop, R: Wait + D
 ) -> (Totals, Desk<MemDial, T, SetClock>) {
     let (totals, charges, _) = account.into_parts();
     let (mut unread, mut orders, mut sources, mut debits) = charges.into_shares();
-    let (_, mut versions) = maps.close(&mut debits);
-    let desk = tools.close(&mut unread, &mut orders, &mut sources, &mut versions);
+    let (_, mut versions, known) = maps.close(&mut debits);
+    let desk = tools.close(
+        &mut unread,
+        &mut orders,
+        &mut sources,
+        &mut versions,
+        &known,
+    );
     (totals, desk)
 }

@@ -1,8 +1,9 @@
 -- The numbers of a dial's wires by what they gave.
-use Rattle.std.specs.Prelude.{◌≡◌, ℕ, Option, Some}
+use Rattle.std.specs.Prelude.{◌≡◌, ℕ, Contains, Option, Some}
 use Rattle.std.specs.Prelude.{Ok, Err, ⊤}
 use Rattle.yp_transfer.specs.declared.fault.XfrFault.TheVariants.{Age, NoMemory}
 use Rattle.yp_transfer.specs.Fetching.{FetchOutcome}
+use Rattle.yp_publisher.specs.sharing.Tracing.{FetchLog}
 
 -- how many orders were reached by a fetch: that of the version, or one that isn't over the one that is shown
 abbrev pub orders_in : FetchOutcome → ℕ
@@ -26,3 +27,8 @@ versions_in (Err why) = 0
 abbrev pub IsAgedBy : Option ℕ → FetchOutcome → Type 0
 IsAgedBy shown (Err (Age order offered)) = shown ≡ Some order
 IsAgedBy shown _ = ⊤
+
+-- A version that was fetched is one of those that are known to be fetched, if any are.
+abbrev pub IsNoted : FetchOutcome → Option FetchLog → Type 0
+IsNoted (Ok version) (Some fetches) = Contains fetches version
+IsNoted outcome known = ⊤

@@ -38,3 +38,10 @@ returns-clause-origins g c = λ start told.
       stems = c.take_apart-disks.ensures.sourced c.into_parts-charges.result.0.made (omega (arith, charged, debit)) start told;
       good = c.close-desk.ensures.versions c.take_apart-disks.result.2.amount (omega arith);
     }
+
+pub returns-clause-traced : goal.returns-clause-traced
+returns-clause-traced g c = λ start. record {
+  fetches = c.take_apart-disks.result.3;
+  traced = c.take_apart-disks.ensures.traced start;
+  came = c.close-desk.ensures.known;
+}

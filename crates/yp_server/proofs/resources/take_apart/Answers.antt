@@ -2,7 +2,7 @@ use Rattle.std.proofs.Common.{sym, subst}
 use Rattle.yp_publisher.specs.Rising.{IsRisingLog}
 use Rattle.yp_publisher.specs.Grown.{AreTold}
 use Rattle.yp_server.proofs.Covering.{covered}
-use Rattle.yp_server.proofs.Stemming.{stems}
+use Rattle.yp_server.proofs.Stemming.{stems, leaves_traced}
 use Rattle.yp_server.proofs.resources.take_apart.Goals as goal
 
 pub returns-clause-covered : goal.returns-clause-covered
@@ -23,3 +23,10 @@ returns-clause-sourced g c = λ made low start told.
     c.close-publisher.ensures.catalogue c.disassemble-disks.ensures.board c.disassemble-disks.ensures.stand.0
     c.disassemble-disks.ensures.stand.1
     (c.close-publisher.ensures.sourced made low start (subst (AreTold g.D.Disk.history) c.disassemble-disks.ensures.disks told))
+
+pub returns-clause-traced : goal.returns-clause-traced
+returns-clause-traced g c = λ start.
+    leaves_traced g.D.Disk.history g.S.Accounts.built g.S.Accounts.first g.S.Site.catalogue g.B.Show.log
+    c.close-publisher.result.2 g.S.Accounts.histories c.close-publisher.result.0 c.disassemble-disks.result.1
+    c.disassemble-disks.result.0.items c.close-publisher.ensures.catalogue c.disassemble-disks.ensures.board
+    c.disassemble-disks.ensures.stand.0 c.disassemble-disks.ensures.stand.1 (c.close-publisher.ensures.traced start)

@@ -1,3 +1,4 @@
+use Rattle.std.proofs.Common.{map}
 use Rattle.yp_worker.specs.Receptions.{opening_by}
 use Rattle.yp_publisher.specs.Rising.{publisher_state}
 use Rattle.yp_publisher.specs.sharing.Failures.{disks_of, faults_over}
@@ -38,9 +39,11 @@ abbrev pub ghosts-under_locks-J-Accounts : goal.ghosts-under_locks-J-Accounts
 ghosts-under_locks-J-Accounts g a = record {
   built = IsBuiltAsNamed (g.T.Texts.text a.resources.desk.texts) a.resources.publisher.catalogue;
   first = publisher_state g.B.Show.log a.resources.publisher;
+  histories = map g.D.Disk.history (disks_of a.resources.publisher.maps);
   disk_faults = faults_over g.D.Disk.faults (disks_of a.resources.publisher.maps);
   failures = a.blanks.charges.failures.name;
   made = a.blanks.charges.made.name;
   versions = a.blanks.charges.versions.name;
+  fetched = a.blanks.fetches;
   shares = a.blanks.charges.failures.parts;
 }

@@ -14,6 +14,8 @@ use Rattle.yp_transfer.specs.inside.Dials.{dial_by}
 use Rattle.yp_rpc.specs.inside.Turns.{box_by}
 use Rattle.yp_worker.specs.Receptions.{opening_by}
 use Rattle.yp_server.specs.Counting.{FilesAreCovered}
+use Rattle.yp_server.specs.Origins.{EachComesFrom}
+use Rattle.yp_host.specs.workers.Makings.{IsBuiltAsNamed}
 use Rattle.yp_command_serve.specs.serve.Hosting.{server_tells, supply_of}
 use Rattle.yp_command_serve.proofs.serve.Boxes.{served_long}
 use Rattle.yp_command_serve.proofs.serve.Served.{served_as, leaves_count}
@@ -85,6 +87,12 @@ returns-in-Ok-serve-clause-hosted g c =
         orders = did.orders;
         sources = did.sources;
         origins = did.origins made.start;
+        traced = subst (λ (m : List (StoredMap g.row.D.Denot)). EachComesFrom g.D.Disk.history
+            (IsBuiltAsNamed (g.T.Texts.text c.shared-desk.result.texts) c.publisher_of-publisher.result.catalogue)
+            c.publisher_of-publisher.result.catalogue c.publisher_of-publisher.result.board.log
+            c.in-Ok-serve.served.writer.log (map g.D.Disk.history (disks_of m)) c.in-Ok-serve.served.disks.items
+            (tells c.shared-desk.result.dial).past (tells c.in-Ok-serve.served.desk.dial).past)
+            (ap (λ (p : Published g.row.D.Denot Written). p.maps) made.publisher) (did.traced made.start);
         dialed = did.dialed;
       },
     )

@@ -1,4 +1,5 @@
-use Rattle.yp_memory.specs.inside.MemDisk.{Platter}
+use Rattle.std.specs.Prelude.{Some, map}
+use Rattle.yp_memory.specs.inside.MemDisk.{Platter, history_of}
 use Rattle.yp_publisher.specs.Rising.{publisher_state}
 use Rattle.yp_board.specs.inside.readers.Boards.{Written}
 use Rattle.yp_publisher.specs.sharing.Failures.{disks_of, faults_over}
@@ -12,9 +13,11 @@ abbrev pub ghosts-play_all-S-Accounts : goal.ghosts-play_all-S-Accounts
 ghosts-play_all-S-Accounts g a = record {
   built = λ log number last version. Unit {0};
   first = publisher_state (λ (w : Written). w.log) a.maps;
+  histories = map (λ (p : Platter). Some (history_of p)) (disks_of a.maps.maps);
   disk_faults = faults_over (λ (p : Platter). p.faults) (disks_of a.maps.maps);
   failures = a.failures.name;
   made = a.made.name;
   versions = a.versions.name;
+  fetched = a.fetches;
   shares = a.failures.parts;
 }

@@ -1,7 +1,7 @@
 -- The catalogue, and what the publisher and the desk have before they are shared.
-use Rattle.std.specs.Prelude.{Some}
+use Rattle.std.specs.Prelude.{Some, map}
 use Rattle.yp_memory.specs.inside.MemDial.{wires_of}
-use Rattle.yp_memory.specs.inside.MemDisk.{Platter}
+use Rattle.yp_memory.specs.inside.MemDisk.{Platter, history_of}
 use Rattle.yp_publisher.specs.Rising.{publisher_state}
 use Rattle.yp_board.specs.inside.readers.Boards.{Written}
 use Rattle.yp_publisher.specs.sharing.Failures.{disks_of, faults_over}
@@ -15,10 +15,12 @@ abbrev pub ghosts-under_locks-S-Accounts : goal.ghosts-under_locks-S-Accounts
 ghosts-under_locks-S-Accounts g a = record {
   built = IsBuiltAsNamed (g.T.Texts.text a.desk.texts) a.publisher.catalogue;
   first = publisher_state (λ (w : Written). w.log) a.publisher;
+  histories = map (λ (p : Platter). Some (history_of p)) (disks_of a.publisher.maps);
   disk_faults = faults_over (λ (p : Platter). p.faults) (disks_of a.publisher.maps);
   failures = a.blanks.failures.name;
   made = a.blanks.made.name;
   versions = a.blanks.versions.name;
+  fetched = a.blanks.fetches;
   shares = 4;
 }
 

@@ -2,6 +2,7 @@ use Rattle.std.proofs.Common.{arith}
 use Rattle.yp_host.specs.workers.Wires.{BeginsWithOrder, IsGood}
 use Rattle.yp_host.proofs.workers.Dialing.{covers_fewer}
 use Rattle.yp_host.proofs.workers.Sourcing.{sources_fewer}
+use Rattle.yp_host.proofs.workers.Noting.{all_known}
 use Rattle.yp_host.proofs.workers.desk.SharedDesk.close.Goals as goal
 
 pub returns-clause-orders : goal.returns-clause-orders
@@ -19,3 +20,8 @@ pub returns-clause-versions : goal.returns-clause-versions
 returns-clause-versions g c = λ n le.
     covers_fewer IsGood g.S.Supplies.wires (g.A.Dial.past c.shared.inside.desk.dial) n c.shared.inside.versions.total
     (omega (arith, le, c.audit-4.ensures.bound)) c.shared.invariant.4
+
+pub returns-clause-known : goal.returns-clause-known
+returns-clause-known g c =
+    all_known g.S.Supplies.wires (g.A.Dial.past c.shared.inside.desk.dial) c.args.known.now c.shared.inside.fetches
+    c.covers.ensures.front c.shared.invariant.5

@@ -10,6 +10,7 @@ use Rattle.yp_host.specs.inside.workers.Uses.{dial_told}
 use Rattle.yp_host.proofs.workers.Using.{used_more}
 use Rattle.yp_host.proofs.workers.Reaching.{fetched_orders}
 use Rattle.yp_host.proofs.workers.Sourcing.{fetched_sources, fetched_versions}
+use Rattle.yp_host.proofs.workers.Noting.{all_noted}
 use Rattle.yp_host.proofs.workers.Aging.{fetched_aged}
 use Rattle.yp_host.proofs.workers.desk.SharedDesk.fetch.Goals as goal
 
@@ -32,10 +33,13 @@ invariant_of-self g c =
           c.requires.named c.in_ok-find.field-0 c.in_ok-find.ensures fetches),
       rw c.charge_version.ensures.total (fetched_versions g.S.Supplies.wires c.self.inside.versions.total wanted fetched old new
           c.self.invariant.4 c.self.inside.desk.hosts c.args.source.now fetches),
+      all_noted g.S.Supplies.wires wanted old new c.self.inside.desk.hosts c.args.source.now c.self.inside.versions.total fetched
+          c.self.inside.fetches c.note.new.fetches fetches c.self.invariant.4 c.self.invariant.5 c.note.ensures.added
+          c.note.ensures.same,
       used_more g.S.Supplies.hosts g.S.Site.catalogue.maps
           (Fetching c.args.source.now (name_view c.args.name.now) c.args.shown fetched)
           (dial_told g.S.Supplies.wires g.S.Supplies.letters g.S.Supplies.dial_faults)
-          (tells c.self.inside.desk.dial) (tells c.fetch_from-fetched.new.dial) c.self.invariant.5 (
+          (tells c.self.inside.desk.dial) (tells c.fetch_from-fetched.new.dial) c.self.invariant.6 (
             c.requires.served,
             subst (λ (h : HostList). FetchesFrom h c.args.source.now
                 (wanted_of c.args.name.now.domain.items c.args.name.now.map.items c.args.shown false) fetched old new)

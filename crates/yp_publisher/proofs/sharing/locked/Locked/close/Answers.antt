@@ -4,6 +4,7 @@ use Rattle.yp_publisher.specs.inside.sharing.Debits.{Debit}
 use Rattle.yp_publisher.proofs.sharing.Failing.{covers_fewer}
 use Rattle.yp_publisher.proofs.sharing.Leading.{rises}
 use Rattle.yp_publisher.proofs.sharing.Sourcing.{sourced_at_last}
+use Rattle.yp_publisher.proofs.sharing.Tracing.{traced_at_last}
 use Rattle.yp_publisher.proofs.sharing.locked.Locked.close.Goals as goal
 
 pub returns-clause-covered : goal.returns-clause-covered
@@ -25,3 +26,8 @@ returns-clause-sourced g c =
     λ made le. sourced_at_last (keeping_of g.D.Disk.history g.D.Disk.faults g.B.Show.log) g.S.Accounts.built
     g.S.Accounts.first c.self.inside.publisher c.self.inside.made.total made c.self.inside.versions.amount
     (omega (arith, le, bound)) c.self.invariant.3
+
+pub returns-clause-traced : goal.returns-clause-traced
+returns-clause-traced g c =
+    traced_at_last (keeping_of g.D.Disk.history g.D.Disk.faults g.B.Show.log) g.S.Accounts.built c.self.inside.fetches
+    g.S.Accounts.first g.S.Accounts.histories c.self.inside.publisher c.self.invariant.4

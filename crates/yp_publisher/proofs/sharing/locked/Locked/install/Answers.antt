@@ -4,6 +4,7 @@ use Rattle.yp_publisher.specs.Keeping.{keeping_of}
 use Rattle.yp_publisher.proofs.sharing.Failing.{covers_after}
 use Rattle.yp_publisher.proofs.sharing.Leading.{led_after}
 use Rattle.yp_publisher.proofs.sharing.Sourcing.{sourced_after}
+use Rattle.yp_publisher.proofs.sharing.Tracing.{traced_after}
 use Rattle.yp_publisher.proofs.sharing.locked.Locked.install.Goals as goal
 
 pub invariant_of-self : goal.invariant_of-self
@@ -25,5 +26,11 @@ invariant_of-self g c =
           c.self.inside.publisher step.new.publisher step.result within
           (ap (λ (served : Catalogue). served.own) c.self.invariant.0) (rw c.self.view_is c.requires.built) step.ensures.installed
           step.ensures.refused c.self.invariant.3),
-      rw c.transfer.ensures.parts_given c.self.invariant.4,
+      traced_after (keeping_of g.D.Disk.history g.D.Disk.faults g.B.Show.log) g.S.Accounts.built c.self.inside.fetches
+          c.with_known.result g.S.Accounts.first g.S.Accounts.histories c.args.map c.args.version c.args.origin
+          g.S.Site.catalogue.own c.args.known c.self.inside.publisher step.new.publisher step.result within
+          c.catalog-catalog.ensures.shown (ap (λ (served : Catalogue). served.own) c.self.invariant.0)
+          (rw c.self.view_is c.requires.built) c.requires.known c.with_known.ensures.this c.with_known.ensures.that
+          step.ensures.installed step.ensures.refused c.self.invariant.4,
+      rw c.transfer.ensures.parts_given c.self.invariant.5,
     )

@@ -6,7 +6,7 @@ use Rattle.yp_publisher.specs.declared.install.Origin.{Origin}
 use Rattle.yp_publisher.specs.declared.install.Origin.TheVariants.{Built, Fetched}
 use Rattle.yp_publisher.specs.sharing.Sources.{Building}
 use Rattle.yp_publisher.specs.inside.sharing.Sources.{marked_behind, IsBuiltThere}
-use Rattle.yp_publisher_tests.proofs.shared.installs.installed.Goals as goal
+use Rattle.yp_publisher_tests.proofs.shared.installs.play.Goals as goal
 
 -- where whatever is offered as built is
 there : (Is : Building) (log : Log) (number : ℕ) (own : List ℕ) (version : MapVersion) (origin : Origin)
@@ -17,4 +17,4 @@ there Is log number own version Fetched any = tt
 
 pub install_shared-requires-clause-built : goal.install_shared-requires-clause-built
 install_shared-requires-clause-built g c =
-    there g.S.Accounts.built _ 0 g.S.Site.catalogue.own c.version-version.result c.args.origin c.requires.any
+    there g.S.Accounts.built _ 0 g.S.Site.catalogue.own c.version-version.result c.args.row.now.0 c.requires.any
