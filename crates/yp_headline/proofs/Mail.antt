@@ -16,9 +16,9 @@ use Rattle.yp_answer.specs.session.Hosts.{Conduct, Turn}
 use Rattle.yp_rpc.specs.Turns.{InboxTells, GainsAll, datagram_max}
 use Rattle.yp_rpc.specs.declared.turns.Ended.{Ended}
 use Rattle.yp_rpc.specs.declared.turns.Ended.TheVariants.{Done, Spent}
-use Rattle.yp_worker.specs.datagrams.Mailing.{AnswersMail}
+use Rattle.yp_worker.specs.datagrams.Mailing.{Awaited, AnswersMail, CarriesAll}
 use Rattle.yp_worker.specs.datagrams.Serving.{MailTurn, Dropped, Rested, Answered, reply_posts, posts_over, DoesTurn, DoesTurns, LosesAnswer, EndsTurns}
-use Rattle.yp_server.specs.Serving.{ServesDatagrams, ServesInboxes}
+use Rattle.yp_server.specs.Serving.{ServesDatagrams, EachServes, ServesInboxes}
 use Rattle.yp_headline.specs.World.{Datagram}
 use Rattle.yp_headline.specs.Serving.{Exchange, IsReply, AnswersInTurn, AreSent}
 use Rattle.yp_headline.specs.inside.Server.{heard, told_of, MayLoseLast, InboxIsServed, InboxesAreServed}
@@ -35,13 +35,13 @@ abbrev mails_of : List MailTurn → List Datagram
 mails_of [] = []
 mails_of (Dropped from bytes ∷ more) = record { peer = from; came = bytes; sent = None; lost = false } ∷ mails_of more
 mails_of (Rested ∷ more) = mails_of more
-mails_of (Answered from turn ∷ more) = mail_of false from turn ∷ mails_of more
+mails_of (Answered from turn behind ∷ more) = mail_of false from turn ∷ mails_of more
 
 abbrev exchanges_in : List MailTurn → List Exchange
 exchanges_in [] = []
 exchanges_in (Dropped from bytes ∷ more) = record { caller = from; call = bytes; reply = None } ∷ exchanges_in more
 exchanges_in (Rested ∷ more) = exchanges_in more
-exchanges_in (Answered from turn ∷ more) = exchange_of from turn ∷ exchanges_in more
+exchanges_in (Answered from turn behind ∷ more) = exchange_of from turn ∷ exchanges_in more
 
 heard_reply : (from : Peer) (reply : Option (List ℕ)) (events : List InboxEvent)
     → heard (reply_posts from reply ++ events) ≡ reply_posts from reply ++ heard events
@@ -54,7 +54,7 @@ told_over : (served : List MailTurn) (events : List InboxEvent)
 told_over [] events = refl
 told_over (Dropped from bytes ∷ more) events = ap (λ (l : List InboxEvent). Arrived from bytes ∷ l) (told_over more events)
 told_over (Rested ∷ more) events = told_over more events
-told_over (Answered from turn ∷ more) events =
+told_over (Answered from turn behind ∷ more) events =
     ap (λ (l : List InboxEvent). Arrived from turn.message ∷ l)
     (ap heard (append_assoc (reply_posts from turn.answer) (posts_over more) events)
     ∙ heard_reply from turn.answer (posts_over more ++ events)
@@ -72,14 +72,14 @@ sent_over : (served : List MailTurn) (mails : List Datagram) (exchanges : List E
 sent_over [] mails exchanges sent = sent
 sent_over (Dropped from bytes ∷ more) mails exchanges sent = (refl, refl, refl, sent_over more mails exchanges sent)
 sent_over (Rested ∷ more) mails exchanges sent = sent_over more mails exchanges sent
-sent_over (Answered from turn ∷ more) mails exchanges sent = (refl, refl, refl, sent_over more mails exchanges sent)
+sent_over (Answered from turn behind ∷ more) mails exchanges sent = (refl, refl, refl, sent_over more mails exchanges sent)
 
 kept_over : (loses : Bool) (served : List MailTurn) (mails : List Datagram) → MayLoseLast loses mails
     → MayLoseLast loses (mails_of served ++ mails)
 kept_over loses [] mails kept = kept
 kept_over loses (Dropped from bytes ∷ more) mails kept = (λ lost. absurd cc, kept_over loses more mails kept)
 kept_over loses (Rested ∷ more) mails kept = kept_over loses more mails kept
-kept_over loses (Answered from turn ∷ more) mails kept = (λ lost. absurd cc, kept_over loses more mails kept)
+kept_over loses (Answered from turn behind ∷ more) mails kept = (λ lost. absurd cc, kept_over loses more mails kept)
 
 -- ---- what they get
 
@@ -113,6 +113,16 @@ module _ {H T : Type 0} (conduct : Conduct H) (counted : H → T) where
         subst (λ (c : Catalogue). AnswersInTurn c Mail exchanges (known conduct new) log) link.catalogue follow,
       )
 
+  -- transfers that were carried out, before more is answered
+  before_carried : (transfers : List Awaited) (exchanges : List Exchange) (old new : H) (log : Log)
+      → CarriesAll conduct transfers old new → Follow exchanges new log → Follow exchanges old log
+  before_carried [] exchanges old new log carries follow = subst (λ (h : H). Follow exchanges h log) carries follow
+  before_carried (one ∷ more) exchanges old new log carries follow =
+      let next = carries.0 in
+      earlier (catalogue_of conduct old) Mail exchanges (known conduct old) (known conduct next) log carries.1.grown
+      (subst (λ (c : Catalogue). AnswersInTurn c Mail exchanges (known conduct next) log) carries.1.catalogue
+      (before_carried more exchanges next new log carries.2 follow))
+
   before_turn : (one : MailTurn) (more : List MailTurn) (exchanges : List Exchange) (old next : H) (log : Log)
       → DoesTurn conduct counted one old next → Follow (exchanges_in more ++ exchanges) next log
       → Follow (exchanges_in (one ∷ more) ++ exchanges) old log
@@ -131,8 +141,10 @@ module _ {H T : Type 0} (conduct : Conduct H) (counted : H → T) where
       let on = told_on conduct counted old next does in
       earlier (catalogue_of conduct old) Mail (exchanges_in more ++ exchanges) (known conduct old) (known conduct next) log on.grown
       (subst (λ (c : Catalogue). AnswersInTurn c Mail (exchanges_in more ++ exchanges) (known conduct next) log) on.catalogue follow)
-  before_turn (Answered from turn) more exchanges old next log does follow =
-      before_answered from turn (exchanges_in more ++ exchanges) old next log does.0 does.2 follow
+  before_turn (Answered from turn behind) more exchanges old next log does follow =
+      let did = does.1 in
+      before_answered from turn (exchanges_in more ++ exchanges) old did.mid log does.0 did.answers
+      (before_carried behind (exchanges_in more ++ exchanges) did.mid next log did.carries follow)
 
   all_turns : (served : List MailTurn) (exchanges : List Exchange) (old last : H) (log : Log)
       → DoesTurns conduct counted served old last → Follow exchanges last log
@@ -197,14 +209,17 @@ module _ {H T : Type 0} (conduct : Conduct H) (counted : H → T) where
 
   -- the datagrams of one inbox
   pub mail_served : (catalogue : Catalogue) (starts log : Log) (turns : ℕ) (fault loses : Bool) (before after : InboxTells)
-      → (fault ≡ true → loses ≡ true) → ServesDatagrams conduct counted catalogue starts log turns fault before after
+      (left carried : List Awaited) → (fault ≡ true → loses ≡ true)
+      → ServesDatagrams conduct counted catalogue starts log turns fault before after left carried
       → InboxIsServed catalogue starts log loses before.past after.past
-  mail_served catalogue starts log turns fault loses before after lossy serves old more was is =
+  mail_served catalogue starts log turns fault loses before after left carried lossy serves old more was is =
       let mail = serves.serves in
       let posts = mail.serves in
-      let last = last_of loses turns (length posts.served) serves.end posts.rest posts.last serves.new log
-      (λ failed. lossy (serves.fault_is ∙ failed)) posts.ends serves.shown in
-      let follow = subst (λ (h : H). Follow (exchanges_in posts.served ++ last.exchanges) h log) posts.carried
+      let ended = serves.ended.host in
+      let shown = before_carried serves.rest [] ended serves.new log serves.carries serves.shown in
+      let last = last_of loses turns (length posts.served) serves.end posts.rest posts.last ended log
+      (λ failed. lossy (serves.fault_is ∙ failed)) posts.ends shown in
+      let follow = before_carried posts.first (exchanges_in posts.served ++ last.exchanges) serves.old posts.ready log posts.carries
       (all_turns posts.served last.exchanges posts.ready posts.last log posts.does last.answered) in
       record {
         datagrams = mails_of posts.served ++ last.mails;
@@ -229,16 +244,24 @@ module _ {H T : Type 0} (conduct : Conduct H) (counted : H → T) where
   or_true true = refl
   or_true false = refl
 
+  each_served : (catalogue : Catalogue) (starts log : Log) (turns : ℕ) (fault loses : Bool) (before after : List InboxTells)
+      (left carried : List Awaited) → (fault ≡ true → loses ≡ true)
+      → EachServes conduct counted catalogue starts log turns fault before after left carried
+      → InboxesAreServed catalogue starts log loses (map (λ box. box.past) before) (map (λ box. box.past) after)
+  each_served catalogue starts log turns fault loses [] [] left carried lossy serves = tt
+  each_served catalogue starts log turns fault loses [] (new ∷ after) left carried lossy serves = absurd serves
+  each_served catalogue starts log turns fault loses (old ∷ before) [] left carried lossy serves = absurd serves
+  each_served catalogue starts log turns fault loses (old ∷ before) (new ∷ after) left carried lossy
+      (failed, others, is, left_here, left_there, left_is, carried_here, carried_there, carried_is, one, rest) = (
+        mail_served catalogue starts log turns failed loses old new left_here carried_here
+            (λ fails. lossy (is ∙ ap (λ (b : Bool). b || others) fails)) one,
+        each_served catalogue starts log turns others loses before after left_there carried_there
+            (λ fails. lossy (is ∙ ap (λ (b : Bool). failed || b) fails ∙ or_true failed)) rest,
+      )
+
   pub boxes_served : (catalogue : Catalogue) (starts log : Log) (turns : ℕ) (fault loses : Bool)
       (before after : List InboxTells) → (fault ≡ true → loses ≡ true)
       → ServesInboxes conduct counted catalogue starts log turns fault before after
       → InboxesAreServed catalogue starts log loses (map (λ box. box.past) before) (map (λ box. box.past) after)
-  boxes_served catalogue starts log turns fault loses [] [] lossy serves = tt
-  boxes_served catalogue starts log turns fault loses [] (new ∷ after) lossy serves = absurd serves
-  boxes_served catalogue starts log turns fault loses (old ∷ before) [] lossy serves = absurd serves
-  boxes_served catalogue starts log turns fault loses (old ∷ before) (new ∷ after) lossy serves = (
-    mail_served catalogue starts log turns serves.0 loses old new
-        (λ failed. lossy (serves.2 ∙ ap (λ (b : Bool). b || serves.1) failed)) serves.3,
-    boxes_served catalogue starts log turns serves.1 loses before after
-        (λ failed. lossy (serves.2 ∙ ap (λ (b : Bool). serves.0 || b) failed ∙ or_true serves.0)) serves.4,
-  )
+  boxes_served catalogue starts log turns fault loses before after lossy serves =
+      each_served catalogue starts log turns fault loses before after serves.left serves.carried lossy serves.each

@@ -2,9 +2,13 @@
 use denote.RattleType.{RattleType}
 use denote.Ref.{NamedLft}
 use denote.Param.Send.{IsSend, IsSync, sendable}
+use denote.Param.SendFields.{variants_send}
 use Rattle.std.proofs.Crossing.{crosses}
 use Rattle.std.proofs.sync.ledger.Share.TheSendSync.{the_send as share_send}
 use Rattle.std.proofs.sync.ledger.Book.TheSendSync.{the_send as book_send}
+use Rattle.atomic_table.proofs.shared.Shared.TheSendSync.{the_sync as table_sync}
+use Rattle.atomic_table.proofs.shared.Seat.TheSendSync.{the_send as seat_send}
+use Rattle.atomic_table.proofs.send_lease.SendLease.TheSendSync.{the_sync as lease_sync}
 use Rattle.std.specs.declared.sync.ledger.Ledger as ledger
 use Rattle.yp_io.specs.declared.hall.Hall as hall
 use Rattle.yp_io.specs.declared.hall.Watch as watch
@@ -23,6 +27,9 @@ use Rattle.yp_worker.specs.contracts.waiting.Waiting as Waiting
 use Rattle.yp_worker.specs.contracts.listening.Listening as Listening
 use Rattle.yp_worker.specs.contracts.listening.Pass as Pass
 use Rattle.yp_worker.specs.contracts.worker.Worker as Worker
+use Rattle.yp_worker.specs.contracts.datagrams.pending.PendingTransfers as PendingTransfers
+use Rattle.yp_worker.specs.contracts.datagrams.pending.TransferPass as TransferPass
+use Rattle.yp_worker.specs.contracts.datagrams.server.MailServer as MailServer
 use Rattle.yp_server.specs.contracts.datagrams.DatagramWorker as DatagramWorker
 use Rattle.yp_server.specs.contracts.workers.ConnectionWorker as ConnectionWorker
 use Rattle.yp_server.specs.contracts.workers.ServerWorker as ServerWorker
@@ -60,9 +67,24 @@ pass_send I E out ended = search (sendable, crosses, share_send) depth 60 fits 5
 pub worker_send : (H G : RattleType) → IsSend H → IsSend G → IsSend (Worker.the_row H G)
 worker_send H G host gate = search (sendable, crosses) depth 60 fits 50000
 
-pub datagram_worker_send : (I H Count : RattleType) (learners : catch_up.Ghosts H.Denot Count.Denot) (hosts : host.Ghosts H.Denot)
-    (views : view.Ghosts H.Denot) → IsSend I → IsSend H → IsSend (DatagramWorker.the_row I H Count learners hosts views)
-datagram_worker_send I H Count learners hosts views inbox host = search (sendable, crosses) depth 60 fits 50000
+transfer_pass_send : IsSend TransferPass.the_row
+transfer_pass_send = search (sendable, crosses, seat_send) depth 60 fits 50000
+
+pending_sync : (I : RattleType) (sites : site.Ghosts I.Denot) → IsSync (PendingTransfers.the_row I sites)
+pending_sync I sites = search (sendable, crosses, table_sync, lease_sync) depth 60 fits 50000
+
+mail_server_send : (a : NamedLft) (I H R Count : RattleType) (sites : site.Ghosts I.Denot) (learners : catch_up.Ghosts H.Denot Count.Denot)
+    (hosts : host.Ghosts H.Denot) (views : view.Ghosts H.Denot) → IsSend H → IsSync R
+    → IsSend (MailServer.the_row a I H R Count sites learners hosts views)
+mail_server_send a I H R Count sites learners hosts views host rt =
+    search (sendable, crosses, transfer_pass_send, pending_sync) depth 60 fits 50000
+
+pub datagram_worker_send : (a : NamedLft) (B I H R Count : RattleType) (sites : site.Ghosts I.Denot)
+    (learners : catch_up.Ghosts H.Denot Count.Denot) (hosts : host.Ghosts H.Denot)
+    (views : view.Ghosts H.Denot) → IsSend B → IsSend H → IsSync R
+    → IsSend (DatagramWorker.the_row a B I H R Count sites learners hosts views)
+datagram_worker_send a B I H R Count sites learners hosts views inbox host rt =
+    search (sendable, crosses, mail_server_send) depth 60 fits 50000
 
 pub connection_worker_send : (I E H G Sum Front Count : RattleType) (receptions : reception.Ghosts I.Denot)
     (sites : site.Ghosts I.Denot) (out : ledger.Ghosts I.Denot) (ended : ledger.Ghosts E.Denot)
@@ -72,13 +94,16 @@ pub connection_worker_send : (I E H G Sum Front Count : RattleType) (receptions 
 connection_worker_send I E H G Sum Front Count receptions sites out ended sums learners hosts views h gate =
     search (sendable, crosses, pass_send, worker_send) depth 60 fits 50000
 
-pub server_worker_send : (I E H G B Sum Front Count : RattleType) (receptions : reception.Ghosts I.Denot)
+pub server_worker_send : (a : NamedLft) (I E H G B R Sum Front Count : RattleType) (receptions : reception.Ghosts I.Denot)
     (sites : site.Ghosts I.Denot) (out : ledger.Ghosts I.Denot) (ended : ledger.Ghosts E.Denot)
     (sums : hands_over.Ghosts H.Denot Sum.Denot Front.Denot Count.Denot) (learners : catch_up.Ghosts H.Denot Count.Denot)
-    (hosts : host.Ghosts H.Denot) (views : view.Ghosts H.Denot) → IsSend H → IsSend G → IsSend B
-    → IsSend (ServerWorker.the_row I E H G B Sum Front Count receptions sites out ended sums learners hosts views)
-server_worker_send I E H G B Sum Front Count receptions sites out ended sums learners hosts views h gate inbox =
-    search (sendable, crosses, connection_worker_send, datagram_worker_send) depth 60 fits 50000
+    (hosts : host.Ghosts H.Denot) (views : view.Ghosts H.Denot) → IsSend H → IsSend G → IsSend B → IsSync R
+    → IsSend (ServerWorker.the_row a I E H G B R Sum Front Count receptions sites out ended sums learners hosts views)
+server_worker_send a I E H G B R Sum Front Count receptions sites out ended sums learners hosts views h gate inbox rt =
+    let connections = connection_worker_send I E H G Sum Front Count receptions sites out ended sums learners hosts views h gate in
+    let datagrams = datagram_worker_send a B I H R Count sites learners hosts views inbox h rt in
+    variants_send (ServerWorker.enum a I E H G B R Sum Front Count receptions sites out ended sums learners hosts views)
+    ((connections, tt), ((datagrams, tt), tt))
 
 pub lent_sync : (a : NamedLft) (I E H G L R Sum Front Count In Out Closer Waker Watch : RattleType)
     (receptions : reception.Ghosts I.Denot)

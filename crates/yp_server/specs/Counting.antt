@@ -1,5 +1,5 @@
 -- What the workers of a server counted together, and what covers it.
-use Rattle.std.specs.Prelude.{◌≡◌, ◌+◌, ◌<◌, ◌≤◌, ◌||◌, ℕ, Bool, false, List, [], ◌∷◌, fold, Option, IsSome}
+use Rattle.std.specs.Prelude.{◌≡◌, ◌+◌, ◌<◌, ◌≤◌, ◌||◌, ℕ, Bool, false, List, [], ◌∷◌, ◌++◌, fold, Option, IsSome}
 use Rattle.std.specs.List.{All}
 use Rattle.yp_io.specs.Counts.{last_count}
 use Rattle.yp_io.specs.Disk.{History}
@@ -11,6 +11,8 @@ use Rattle.yp_answer.specs.session.Hosts.{Conduct}
 use Rattle.yp_rpc.specs.Turns.{InboxTells}
 use Rattle.yp_publisher.specs.sharing.Failures.{faults_over}
 use Rattle.yp_worker.specs.Receptions.{Terms, ListenTells}
+use Rattle.yp_worker.specs.datagrams.Mailing.{Awaited}
+use Rattle.yp_worker.specs.datagrams.Queues.{WeighTheSame}
 use Rattle.yp_worker.specs.Summing.{Counting, SumsUp, counting_of}
 use Rattle.yp_host.specs.declared.workers.outcome.Totals.{Totals}
 use Rattle.yp_host.specs.workers.Workers.{WorkerState}
@@ -23,21 +25,35 @@ count_totals = counting_of totals_of no_totals totals_plus
 
 -- Datagrams were served by a host that had counted nothing yet, and has counted this then.
 pub record CountsDatagrams {H T : Type 0} (conduct : Conduct H) (counting : Counting H T) (catalogue : Catalogue)
-    (starts log : Log) (turns : ℕ) (fault : Bool) (before after : InboxTells) (count : T) : Type 0 where
-  pub served : ServesDatagrams conduct counting.counted catalogue starts log turns fault before after
+    (starts log : Log) (turns : ℕ) (fault : Bool) (before after : InboxTells) (left carried : List Awaited) (count : T)
+    : Type 0 where
+  pub served : ServesDatagrams conduct counting.counted catalogue starts log turns fault before after left carried
   pub from_none : counting.counted served.old ≡ counting.none
   pub counted : counting.counted served.new ≡ count
 
 -- Inboxes were served, each so, by a host that has counted this then. One of them has failed exactly where that is
 -- said.
-abbrev pub CountsInboxes : {H T : Type 0} → Conduct H → Counting H T → Catalogue → (starts log : Log) → (turns : ℕ)
-    → (fault : Bool) → (before after : List InboxTells) → (counts : List T) → Type 0
-CountsInboxes conduct counting catalogue starts log turns fault [] [] [] = fault ≡ false
-CountsInboxes conduct counting catalogue starts log turns fault (old ∷ before) (new ∷ after) (count ∷ counts) =
+abbrev pub EachCounts : {H T : Type 0} → Conduct H → Counting H T → Catalogue → (starts log : Log) → (turns : ℕ)
+    → (fault : Bool) → (before after : List InboxTells) → (left carried : List Awaited) → (counts : List T) → Type 0
+EachCounts conduct counting catalogue starts log turns fault [] [] left carried [] =
+    (fault ≡ false) × (left ≡ []) × (carried ≡ [])
+EachCounts conduct counting catalogue starts log turns fault (old ∷ before) (new ∷ after) left carried
+    (count ∷ counts) =
     (failed : Bool) × (others : Bool) × (fault ≡ failed || others)
-    × CountsDatagrams conduct counting catalogue starts log turns failed old new count
-    × CountsInboxes conduct counting catalogue starts log turns others before after counts
-CountsInboxes conduct counting catalogue starts log turns fault before after counts = ⊥
+    × (left_here : List Awaited) × (left_there : List Awaited) × (left ≡ left_here ++ left_there)
+    × (carried_here : List Awaited) × (carried_there : List Awaited) × (carried ≡ carried_here ++ carried_there)
+    × CountsDatagrams conduct counting catalogue starts log turns failed old new left_here carried_here count
+    × EachCounts conduct counting catalogue starts log turns others before after left_there carried_there counts
+EachCounts conduct counting catalogue starts log turns fault before after left carried counts = ⊥
+
+-- Inboxes were served, each so by a host of its own. All transfers that were left by one of the hosts were carried out
+-- by one of them.
+pub record CountsInboxes {H T : Type 0} (conduct : Conduct H) (counting : Counting H T) (catalogue : Catalogue)
+    (starts log : Log) (turns : ℕ) (fault : Bool) (before after : List InboxTells) (counts : List T) : Type 0 where
+  pub left : List Awaited
+  pub carried : List Awaited
+  pub each : EachCounts conduct counting catalogue starts log turns fault before after left carried counts
+  pub all : WeighTheSame left carried
 
 -- What all hosts did and counted: in the connections that workers served, of which so many records were read, and in
 -- the turns of the datagrams of each inbox. What was known at the end of each is a front of this log.

@@ -1,5 +1,6 @@
 -- What is served, and how the maps stand then.
-use Rattle.std.specs.Prelude.{◌≡◌, ◌⊎◌, ◌||◌, ℕ, Bool, false, List, [], ◌∷◌, map, length, Option, None, Result, is_err}
+use Rattle.std.specs.Prelude.{◌≡◌, ◌⊎◌, ◌||◌, ℕ, Bool, false, List, [], ◌∷◌, ◌++◌, map, length}
+use Rattle.std.specs.Prelude.{Option, None, Result, is_err}
 use Rattle.yp_io.specs.Counts.{HasRisen}
 use Rattle.yp_io.specs.Disk.{History}
 use Rattle.yp_io.specs.declared.stream.Failed.{Failed}
@@ -11,7 +12,8 @@ use Rattle.yp_transfer.specs.HostTable.{HostList}
 use Rattle.yp_answer.specs.session.Hosts.{Counts, Conduct, conduct_of}
 use Rattle.yp_rpc.specs.Turns.{InboxTells}
 use Rattle.yp_rpc.specs.declared.turns.Ended.{Ended}
-use Rattle.yp_worker.specs.datagrams.Mailing.{Mailing}
+use Rattle.yp_worker.specs.datagrams.Mailing.{QueueName, Awaited, Mailing, CarriesAll, nothing_held}
+use Rattle.yp_worker.specs.datagrams.Queues.{WeighTheSame}
 use Rattle.yp_worker.specs.datagrams.Serving.{ServesMail}
 use Rattle.yp_host.specs.workers.Desks.{texts_alone}
 use Rattle.yp_host.specs.workers.Workers.{WorkerState, counts_of, Stepped, WorkerMakesMap, WorkerTransfersMap}
@@ -29,9 +31,9 @@ pub record IsAtStart (catalogue : Catalogue) (starts : Log) (seen : Seen) : Type
   pub catalogue_is : seen.catalogue ≡ catalogue
   pub known : seen.known ≡ starts
 
--- a server of datagrams for which no transfer waits
-abbrev pub at_rest : {H : Type 0} → H → Mailing H
-at_rest host = record { host = host; waiting = None }
+-- a server of datagrams for which no transfer waits, with one part of a queue of transfers, in which it has left none
+abbrev pub at_rest : {H : Type 0} → QueueName → H → Mailing H
+at_rest queue host = record { host = host; waiting = None; holding = nothing_held queue 1 }
 
 -- nothing was counted yet
 abbrev pub no_counts : Counts
@@ -39,29 +41,50 @@ no_counts = record { files = 0; transfers = 0 }
 
 -- A host that knew these maps at the start, and had counted nothing, had so many turns of an inbox at most: each
 -- datagram of at most 8,192 bytes got its reply, or silence, on what the host then knew, before the next turn. All
--- turns were taken, or the inbox has failed, exactly where that is said. What the host knew then is a front of this
--- log.
+-- turns were taken, or the inbox has failed, exactly where that is said. Each transfer that a datagram took whose reply
+-- went out was left in a queue of all servers, and the host carried out these ones, of which some may have been carried
+-- out behind the turns. What the host knew then is a front of this log.
 pub record ServesDatagrams {H T : Type 0} (conduct : Conduct H) (counted : H → T) (catalogue : Catalogue)
-    (starts log : Log) (turns : ℕ) (fault : Bool) (before after : InboxTells) : Type 0 where
+    (starts log : Log) (turns : ℕ) (fault : Bool) (before after : InboxTells) (left carried : List Awaited)
+    : Type 0 where
+  pub queue : QueueName
   pub old : H
+  pub ended : Mailing H
+  pub rest : List Awaited
   pub new : H
   pub start : IsAtStart catalogue starts (conduct.seen old)
   pub fresh : conduct.counts old ≡ no_counts
   pub end : Result Ended Failed
   pub fault_is : fault ≡ is_err end
-  pub serves : ServesMail conduct counted turns end (at_rest old) (at_rest new) before after
+  pub serves : ServesMail conduct counted turns end (at_rest queue old) ended before after
+  pub carries : CarriesAll conduct rest ended.host new
+  pub left_is : left ≡ ended.holding.left
+  pub carried_is : carried ≡ ended.holding.took ++ rest
   pub shown : IsFront (conduct.seen new).known log
 
--- Inboxes were served, each so by a host of its own. One of them has failed exactly where that is said.
-abbrev pub ServesInboxes : {H T : Type 0} → Conduct H → (H → T) → Catalogue → (starts log : Log) → (turns : ℕ)
-    → (fault : Bool) → (before after : List InboxTells) → Type 0
-ServesInboxes conduct counted catalogue starts log turns fault [] [] = fault ≡ false
-ServesInboxes conduct counted catalogue starts log turns fault [] (new ∷ after) = ⊥
-ServesInboxes conduct counted catalogue starts log turns fault (old ∷ before) [] = ⊥
-ServesInboxes conduct counted catalogue starts log turns fault (old ∷ before) (new ∷ after) =
+-- Inboxes were served, each so by a host of its own, with the transfers that were left and carried out at each. One of
+-- them has failed exactly where that is said.
+abbrev pub EachServes : {H T : Type 0} → Conduct H → (H → T) → Catalogue → (starts log : Log) → (turns : ℕ)
+    → (fault : Bool) → (before after : List InboxTells) → (left carried : List Awaited) → Type 0
+EachServes conduct counted catalogue starts log turns fault [] [] left carried =
+    (fault ≡ false) × (left ≡ []) × (carried ≡ [])
+EachServes conduct counted catalogue starts log turns fault [] (new ∷ after) left carried = ⊥
+EachServes conduct counted catalogue starts log turns fault (old ∷ before) [] left carried = ⊥
+EachServes conduct counted catalogue starts log turns fault (old ∷ before) (new ∷ after) left carried =
     (failed : Bool) × (others : Bool) × (fault ≡ failed || others)
-    × ServesDatagrams conduct counted catalogue starts log turns failed old new
-    × ServesInboxes conduct counted catalogue starts log turns others before after
+    × (left_here : List Awaited) × (left_there : List Awaited) × (left ≡ left_here ++ left_there)
+    × (carried_here : List Awaited) × (carried_there : List Awaited) × (carried ≡ carried_here ++ carried_there)
+    × ServesDatagrams conduct counted catalogue starts log turns failed old new left_here carried_here
+    × EachServes conduct counted catalogue starts log turns others before after left_there carried_there
+
+-- Inboxes were served, each so by a host of its own, and one of them has failed exactly where that is said. All
+-- transfers that were left by one of the hosts were carried out by one of them.
+pub record ServesInboxes {H T : Type 0} (conduct : Conduct H) (counted : H → T) (catalogue : Catalogue)
+    (starts log : Log) (turns : ℕ) (fault : Bool) (before after : List InboxTells) : Type 0 where
+  pub left : List Awaited
+  pub carried : List Awaited
+  pub each : EachServes conduct counted catalogue starts log turns fault before after left carried
+  pub all : WeighTheSame left carried
 
 -- One of these counts has risen.
 abbrev pub SomeHasRisen : (before after : List ℕ) → Type 0

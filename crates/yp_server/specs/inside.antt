@@ -2,3 +2,4 @@ pub mod Serving
 pub mod Workers
 pub mod Counting
 pub mod Shares
+pub mod Handing

@@ -1,27 +1,30 @@
 //! The datagrams of inboxes, answered beside the connections.
 
-ghost use Rattle.std.specs.Prelude.{◌≡◌, ◌≤◌, ◌<◌, ◌||◌, ◌∷◌, ◌++◌, [], false, map, reverse, length, fold};
+ghost use Rattle.std.specs.Prelude.{◌≡◌, ◌≤◌, ◌<◌, ◌||◌, ◌∷◌, ◌++◌, [], false, map, reverse, length};
 ghost use Rattle.std.specs.Prelude.{vec_len, vec_capacity};
 ghost use Rattle.std.specs.List.{AllByRecursion, list_any};
-ghost use Rattle.yp_board.specs.Views.{IsFront};
 ghost use Rattle.yp_answer.specs.inside.session.Hosts.{conduct_by};
 ghost use Rattle.yp_rpc.specs.inside.Turns.{box_by};
-ghost use Rattle.yp_server.specs.Serving.{at_rest};
+ghost use Rattle.yp_worker.specs.Summing.{counting_of};
 ghost use Rattle.yp_server.specs.inside.Workers.{AnswersDatagrams};
+ghost use Rattle.yp_server.specs.inside.Handing.{HandsOverMail, HandsOverMails};
 
+use std::sync::Wait;
 use yp_io::Inbox;
+use yp_publisher::sharing::Site;
 use yp_rpc::Room;
-use yp_worker::datagrams::{MailServer, serve_mail};
+use yp_worker::datagrams::{MailServer, TransferPass, serve_mail};
 use yp_worker::{CatchUp, HandsOver};
 
-/// What the worker of datagrams works with: an inbox, the most turns of it, a reader of the maps, and the memory of a
-/// datagram and of its reply.
+/// What the worker of datagrams works with: an inbox, the most turns of it, a reader of the maps, the memory of a
+/// datagram and of its reply, and a part of the queue of transfers.
 #[derive(Drop)]
 pub(crate) struct DatagramResources<I, V> {
     pub(crate) inbox: I,
     pub(crate) turns: u64,
     pub(crate) reader: V,
     pub(crate) room: Room,
+    pub(crate) transfers: TransferPass,
 }
 
 /// The inbox that comes back of it, and whether that has failed.
@@ -53,20 +56,25 @@ impl<I: Drop> EndedInboxes<I> {
 
 /// A worker that answers the datagrams of an inbox, and whether that has failed.
 #[derive(Drop)]
-pub(crate) struct DatagramWorker<I, H: CatchUp> {
+pub(crate) struct DatagramWorker<'a, I, J: Site, H: CatchUp, R> {
     inbox: I,
-    server: MailServer<H>,
+    server: MailServer<'a, J, H, R>,
     room: Room,
     turns: u64,
     fault: bool,
 }
 
-impl<I: Inbox, H: CatchUp> DatagramWorker<I, H> {
-    /// A worker with this host, which has taken no turn yet.
-    pub(crate) fn new(inbox: I, host: H, room: Room, turns: u64) -> DatagramWorker<I, H>
+impl<'a, I: Inbox, J: Site, H: CatchUp, R: Wait> DatagramWorker<'a, I, J, H, R> {
+    /// A worker with this server, which has taken no turn yet.
+    pub(crate) fn new(
+        inbox: I,
+        server: MailServer<'a, J, H, R>,
+        room: Room,
+        turns: u64,
+    ) -> DatagramWorker<'a, I, J, H, R>
         ensures { result ≡ record {
           inbox = inbox;
-          server = at_rest host;
+          server = server.entry;
           room = room;
           turns = turns;
           fault = false;
@@ -74,7 +82,7 @@ impl<I: Inbox, H: CatchUp> DatagramWorker<I, H> {
     {
         DatagramWorker {
             inbox,
-            server: MailServer::new(host),
+            server,
             room,
             turns,
             fault: false,
@@ -95,52 +103,63 @@ impl<I: Inbox, H: CatchUp> DatagramWorker<I, H> {
     }
 }
 
-impl<I, H: HandsOver + Drop> DatagramWorker<I, H> {
-    /// Adds what its host has counted to a sum, and hands back what came of the inbox.
-    pub(crate) fn hand_over(self, sum: &mut H::Sum) -> EndedInbox<I>
-        ensures mailed { (result.inbox ≡ self.inbox) × (result.fault ≡ self.fault) }
-        ensures added { H.summed sum.new ≡ H.plus (H.summed sum.old) (H.counted self.server.host) }
-        ensures covered { IsFront (H.seen self.server.host).known (H.reached sum.new) }
-        ensures kept { IsFront (H.reached sum.old) (H.reached sum.new) }
+impl<'a, I, J: Site, H: HandsOver + Drop, R: Wait> DatagramWorker<'a, I, J, H, R> {
+    /// Takes in what workers that have handed over held of the queue of transfers, carries out what still waits there,
+    /// adds what its host has counted to a sum, and hands back what came of the inbox, and what all these held.
+    pub(crate) fn hand_over(
+        self,
+        others: TransferPass,
+        sum: &mut H::Sum,
+    ) -> (EndedInbox<I>, TransferPass)
+        requires queue { others.queue ≡ self.server.holding.queue }
+        ensures mailed { (result.0.inbox ≡ self.entry.inbox) × (result.0.fault ≡ self.entry.fault) }
+        ensures handed { HandsOverMail (conduct_by H.Host) (counting_of H.counted H.none H.plus) H.summed H.reached
+            self.entry.server others result.1 sum.old sum.new }
     {
         let DatagramWorker {
             inbox,
-            server,
+            mut server,
             room: _,
             turns: _,
             fault,
         } = self;
-        let mut host = server.into_host();
+        server.merge(others);
+        server.carry_rest();
+        let (mut host, pass) = server.into_parts();
         host.hand_over(sum);
-        EndedInbox { inbox, fault }
+        (EndedInbox { inbox, fault }, pass)
     }
 }
 
 /// Adds what the hosts of all workers of datagrams have counted to a sum, the last one's first, and hands back what
-/// came of their inboxes, which have room here.
-pub(crate) fn hand_over_all<I: Drop, H: HandsOver + Drop>(
-    mut datagram_workers: Vec<DatagramWorker<I, H>>,
+/// came of their inboxes, which have room here. All transfers that they left for each other are carried out then.
+pub(crate) fn hand_over_all<I: Drop, J: Site, H: HandsOver + Drop, R: Wait>(
+    mut datagram_workers: Vec<DatagramWorker<'_, I, J, H, R>>,
+    others: TransferPass,
     sum: &mut H::Sum,
     inboxes: Vec<I>,
-) -> EndedInboxes<I>
+) -> (EndedInboxes<I>, TransferPass)
     requires none { inboxes.items ≡ [] }
     requires room { length datagram_workers.items ≤ vec_capacity inboxes }
-    ensures inboxes { result.inboxes.items
-        ≡ map (λ datagram_worker. datagram_worker.inbox) (reverse datagram_workers.items) }
-    ensures fault { result.fault
-        ≡ list_any (λ datagram_worker. datagram_worker.fault) (reverse datagram_workers.items) }
-    ensures added { H.summed sum.new ≡ fold H.plus (H.summed sum.old)
-        (map (λ datagram_worker. H.counted datagram_worker.server.host) (reverse datagram_workers.items)) }
-    ensures covered { AllByRecursion (λ datagram_worker.
-        IsFront (H.seen datagram_worker.server.host).known (H.reached sum.new)) (reverse datagram_workers.items) }
-    ensures kept { IsFront (H.reached sum.old) (H.reached sum.new) }
+    requires queue { AllByRecursion (λ datagram_worker. datagram_worker.server.holding.queue ≡ others.queue)
+        datagram_workers.items }
+    ensures inboxes { result.0.inboxes.items
+        ≡ map (λ datagram_worker. datagram_worker.inbox) (reverse datagram_workers.entry.items) }
+    ensures fault { result.0.fault
+        ≡ list_any (λ datagram_worker. datagram_worker.fault) (reverse datagram_workers.entry.items) }
+    ensures handed { HandsOverMails (conduct_by H.Host) (counting_of H.counted H.none H.plus) H.summed H.reached
+        (map (λ datagram_worker. datagram_worker.server) (reverse datagram_workers.entry.items)) others result.1
+        sum.old sum.new }
 {
     let mut ended = EndedInboxes {
         inboxes,
         fault: false,
     };
+    let mut pass = others;
     while let Some(datagram_worker) = datagram_workers.pop() {
-        ended.add(datagram_worker.hand_over(sum));
+        let (one, held) = datagram_worker.hand_over(pass, sum);
+        pass = held;
+        ended.add(one);
     }
-    ended
+    (ended, pass)
 }

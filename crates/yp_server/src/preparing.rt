@@ -1,12 +1,14 @@
 //! Where workers work.
 
-ghost use Rattle.std.specs.Prelude.{◌≡◌, ◌≤◌, ◌<◌, ◌+◌, ℕ, [], ◌++◌, List, length, map, true, vec_capacity};
+ghost use Rattle.std.specs.Prelude.{◌≡◌, ◌≤◌, ◌<◌, ◌+◌, ◌^◌, ℕ, [], ◌++◌, List, length, map, true, vec_capacity};
 ghost use Rattle.std.specs.List.{All, AllZip};
 ghost use Rattle.yp_board.specs.Logs.{Log};
 ghost use Rattle.yp_board.specs.Views.{IsFront};
 ghost use Rattle.yp_board.specs.readers.Boards.{workers_max};
 ghost use Rattle.yp_worker.specs.Receptions.{IsListenerState, IsUnder, opening_by};
 ghost use Rattle.yp_worker.specs.inside.Receptions.{terms_by};
+ghost use Rattle.yp_worker.specs.datagrams.Mailing.{nothing_held};
+ghost use Rattle.yp_worker.specs.datagrams.Queues.{all_parts};
 ghost use Rattle.yp_host.specs.inside.workers.Makings.{SiteBuilds};
 ghost use Rattle.yp_host.specs.workers.Charges.{no_totals, totals_of};
 ghost use Rattle.yp_host.specs.workers.Workers.{WorkerState};
@@ -35,6 +37,7 @@ use yp_host::workers::{Account, Charges, Journal, SharedDesk, Supplies, WorkerHo
 use yp_io::{Clock, Dial, Disk, Hall, Inbox, Texts};
 use yp_publisher::sharing::{Accounts, Locked};
 use yp_rpc::Room;
+use yp_worker::datagrams::{MailServer, PendingTransfers, TransferPass};
 use yp_worker::{Gate, Listening, Pass, Reception, Tally, Worker};
 
 /// What workers work with: their memory, a reader for each, and the inboxes of those of datagrams, with the most turns
@@ -47,16 +50,18 @@ pub(crate) struct WorkerResources<I, V> {
     pub(crate) turns: u64,
 }
 
-/// What is left for workers that aren't made yet: of what they are charged by, and of what they hold of a listener.
+/// What is left for workers that aren't made yet: of what they are charged by, of what they hold of a listener, and of
+/// the queue of transfers.
 #[derive(Drop)]
 pub(crate) struct WorkerShares<J: Reception + Accounts + Supplies, E: Ledger> {
     charges: Charges<J>,
     out: Share<J>,
     ended: Share<E>,
+    transfers: TransferPass,
 }
 
-/// What each worker is lent: the locks of the publisher and of the desk, the journal, where there is one, the gate, and
-/// the most records of a connection.
+/// What each worker is lent: the locks of the publisher and of the desk, the queue of transfers that datagrams took,
+/// the journal, where there is one, the gate, and the most records of a connection.
 #[derive(Drop)]
 pub(crate) struct WorkerMaker<
     'a,
@@ -73,6 +78,7 @@ pub(crate) struct WorkerMaker<
     pub(crate) rt: &'a R,
     pub(crate) publisher: &'a Mutex<Locked<J, D, B>>,
     pub(crate) desk: &'a Mutex<SharedDesk<J, A, T, C>>,
+    pub(crate) pending: &'a PendingTransfers<J>,
     pub(crate) journal: Option<&'a Mutex<Journal>>,
     pub(crate) gate: &'a G,
     pub(crate) most: u64,
@@ -135,6 +141,7 @@ impl<
         ensures out { (shares.new.out.parts + 1 ≡ shares.old.out.parts) × (shares.new.out.amount ≡ 0) }
         ensures ended { (shares.new.ended.parts + 1 ≡ shares.old.ended.parts) × (shares.new.ended.amount ≡ 0) }
         ensures charges { shares.new.charges.parts + 1 ≡ shares.old.charges.parts }
+        ensures transfers { shares.new.transfers ≡ shares.old.transfers }
     {
         let worker = self.worker(reader, buffers, shares.charges.split_off(), carries);
         ConnectionWorker::new(
@@ -148,16 +155,18 @@ impl<
         &self,
         datagram_resources: DatagramResources<I, B::Reader>,
         charges: Charges<J>,
-    ) -> DatagramWorker<I, WorkerHost<'a, J, D, B, A, T, C, &'a R>>
+    ) -> DatagramWorker<'a, I, J, WorkerHost<'a, J, D, B, A, T, C, &'a R>, R>
         requires knows { IsAtStart J.catalogue J.starts (B.Reader.seen datagram_resources.reader) }
         requires builds { SiteBuilds J.text J.catalogue J.built }
-        ensures { result ≡ datagram_worker_of datagram_resources }
+        requires transfers { datagram_resources.transfers ≡ nothing_held self.now.pending.now 1 }
+        ensures { result ≡ datagram_worker_of self.now.pending.now datagram_resources }
     {
         let DatagramResources {
             inbox,
             turns,
             reader,
             room,
+            transfers,
         } = datagram_resources;
         let host = WorkerHost::new(
             self.alloc,
@@ -168,20 +177,22 @@ impl<
             charges,
             self.journal,
         );
-        DatagramWorker::new(inbox, host, room, turns)
+        let server = MailServer::new(host, self.pending, transfers, self.rt);
+        DatagramWorker::new(inbox, server, room, turns)
     }
 
     /// Makes a worker of each inbox, in their order.
     fn add_datagram_workers<E: Ledger, I: Inbox + Drop>(
         &self,
         all_workers: &mut Vec<
-            ServerWorker<J, E, WorkerHost<'a, J, D, B, A, T, C, &'a R>, &'a G, I>,
+            ServerWorker<'a, J, E, WorkerHost<'a, J, D, B, A, T, C, &'a R>, &'a G, I, R>,
         >,
         mut rooms: Vec<Room>,
         mut inboxes: Vec<I>,
         turns: u64,
         readers: &mut Vec<B::Reader>,
         charges: &mut Charges<J>,
+        transfers: &mut TransferPass,
     )
     where
         B::Reader: Drop,
@@ -192,15 +203,19 @@ impl<
         requires knows { All (λ reader. IsAtStart J.catalogue J.starts (B.Reader.seen reader)) readers.old.items }
         requires builds { SiteBuilds J.text J.catalogue J.built }
         requires charges { length inboxes.items < charges.old.parts }
-        ensures workers { (datagram_workers : List (DatagramWorker I (WorkerState B.Reader) Totals))
+        requires transfers { (transfers.old ≡ nothing_held self.now.pending.now transfers.old.parts)
+            × (length inboxes.items < transfers.old.parts) }
+        ensures workers { (datagram_workers : List (DatagramWorker I J (WorkerState B.Reader) R Totals))
             × (all_workers.new.items ≡ workers_of datagram_workers 0 before_work)
             × AllZip (BeginsMail (conduct_at B.Reader.seen B.Reader.stepped J.text J.hosts) count_totals J.catalogue
-            J.starts turns) inboxes.items datagram_workers }
+            J.starts self.now.pending.now turns) inboxes.items datagram_workers }
         ensures count { length all_workers.new.items ≡ length inboxes.items }
         ensures room { vec_capacity all_workers.new ≡ vec_capacity all_workers.old }
         ensures readers { length readers.new.items + length inboxes.items ≡ length readers.old.items }
         ensures knows { All (λ reader. IsAtStart J.catalogue J.starts (B.Reader.seen reader)) readers.new.items }
         ensures charges { charges.new.parts + length inboxes.items ≡ charges.old.parts }
+        ensures transfers { (transfers.new ≡ nothing_held self.now.pending.now transfers.new.parts)
+            × (transfers.new.parts + length inboxes.items ≡ transfers.old.parts) }
     {
         inboxes.reverse();
         while let Some(inbox) = inboxes.pop() {
@@ -215,6 +230,7 @@ impl<
                 turns,
                 reader,
                 room,
+                transfers: self.pending.split_off(transfers),
             };
             let datagram_worker = self.datagram_worker(datagram_resources, charges.split_off());
             all_workers.push_reserved(ServerWorker::Datagrams(datagram_worker));
@@ -226,7 +242,7 @@ impl<
     fn add_connection_workers<E: Ledger, I>(
         &self,
         all_workers: &mut Vec<
-            ServerWorker<J, E, WorkerHost<'a, J, D, B, A, T, C, &'a R>, &'a G, I>,
+            ServerWorker<'a, J, E, WorkerHost<'a, J, D, B, A, T, C, &'a R>, &'a G, I, R>,
         >,
         mut all_buffers: Vec<Buffers>,
         mut readers: Vec<B::Reader>,
@@ -243,6 +259,7 @@ impl<
         ensures all_workers { all_workers.new.items
             ≡ all_workers.old.items ++ connections_of (length all_buffers.items) before_work }
         ensures shares { SharesFor 0 0 shares.new }
+        ensures transfers { shares.new.transfers ≡ shares.old.transfers }
     {
         while let Some(buffers) = all_buffers.pop() {
             let Some(reader) = readers.pop() else {
@@ -258,7 +275,7 @@ impl<
     fn add_workers<E: Ledger, I: Inbox + Drop>(
         &self,
         all_workers: &mut Vec<
-            ServerWorker<J, E, WorkerHost<'a, J, D, B, A, T, C, &'a R>, &'a G, I>,
+            ServerWorker<'a, J, E, WorkerHost<'a, J, D, B, A, T, C, &'a R>, &'a G, I, R>,
         >,
         worker_resources: WorkerResources<I, B::Reader>,
         shares: &mut WorkerShares<J, E>,
@@ -277,12 +294,16 @@ impl<
             ≤ vec_capacity all_workers.old }
         requires shares { SharesFor (length worker_resources.memory.all_buffers.items)
             (length worker_resources.inboxes.items) shares.old }
-        ensures workers { (datagram_workers : List (DatagramWorker I (WorkerState B.Reader) Totals))
+        requires transfers { (shares.old.transfers ≡ nothing_held self.now.pending.now shares.old.transfers.parts)
+            × (length worker_resources.inboxes.items < shares.old.transfers.parts) }
+        ensures workers { (datagram_workers : List (DatagramWorker I J (WorkerState B.Reader) R Totals))
             × (all_workers.new.items ≡ workers_of datagram_workers
             (length worker_resources.memory.all_buffers.items) before_work)
             × AllZip (BeginsMail (conduct_at B.Reader.seen B.Reader.stepped J.text J.hosts) count_totals J.catalogue
-            J.starts worker_resources.turns) worker_resources.inboxes.items datagram_workers }
+            J.starts self.now.pending.now worker_resources.turns) worker_resources.inboxes.items datagram_workers }
         ensures shares { SharesFor 0 0 shares.new }
+        ensures transfers { (shares.new.transfers ≡ nothing_held self.now.pending.now shares.new.transfers.parts)
+            × (shares.new.transfers.parts + length worker_resources.inboxes.items ≡ shares.old.transfers.parts) }
     {
         let WorkerResources {
             memory,
@@ -298,6 +319,7 @@ impl<
             turns,
             &mut readers,
             &mut shares.charges,
+            &mut shares.transfers,
         );
         self.add_connection_workers(all_workers, all_buffers, readers, shares);
     }
@@ -318,11 +340,12 @@ impl<
     /// One of the workers does what takes long for the others.
     pub(crate) fn serve<E: Ledger + Send + Sync, L: Hall + Send, I: Inbox + Send + Drop>(
         &self,
-        mut staff: Staff<J, E, WorkerHost<'a, J, D, B, A, T, C, &'a R>, &'a G, I>,
+        mut staff: Staff<'a, J, E, WorkerHost<'a, J, D, B, A, T, C, &'a R>, &'a G, I, R>,
         worker_resources: WorkerResources<I, B::Reader>,
         listen: L,
         blanks: ListenerBlanks,
         charges: Charges<J>,
+        transfers: TransferPass,
     ) -> (L, Tally, EndedInboxes<I>, Account<J, B>)
     where
         B::Reader: Send + Drop,
@@ -357,6 +380,9 @@ impl<
             × (blanks.ended.parts ≡ length worker_resources.memory.all_buffers.items + 1) }
         requires charges { charges.parts ≡ length worker_resources.memory.all_buffers.items
             + length worker_resources.inboxes.items + 2 }
+        requires transfers { transfers ≡ nothing_held self.now.pending.now all_parts }
+        requires inboxes { (0 < length worker_resources.inboxes.items)
+            × (length worker_resources.inboxes.items < 2 ^ 32) }
         ensures kept { IsListenerState J.opening (opening_by L.Hall result.0) result.1.connections
             result.1.listen_fault 0 1 }
         ensures counted { (log : Log) → IsFront result.3.reached log
@@ -375,16 +401,18 @@ impl<
             charges,
             out,
             ended,
+            transfers,
         };
         self.add_workers(&mut staff.all_workers, worker_resources, &mut shares);
         let WorkerShares {
             charges,
             mut out,
             ended,
+            transfers,
         } = shares;
         let held = out.split_off(1, 0);
         let account = Account::new(charges, front);
         let listening = Listening::new(self.alloc, listen, book, ends, account, held, workers);
-        run_workers(self.rt, listening, staff, Pass::new(out, ended))
+        run_workers(self.rt, listening, staff, Pass::new(out, ended), transfers)
     }
 }

@@ -39,6 +39,7 @@ use yp_board::Tell;
 use yp_host::workers::{Journal, Supplies};
 use yp_io::{Clock, Dial, Disk, Hall, Inbox, Texts};
 use yp_publisher::sharing::Accounts;
+use yp_worker::datagrams::PendingTransfers;
 use yp_worker::{Gate, Reception};
 
 /// Serves the connections of a listener and the datagrams of inboxes, over maps and a desk that all workers share:
@@ -276,6 +277,9 @@ where
         × (refused.inboxes ≡ resources.inboxes)) }
     ensures disks { IfErr result (λ refused. refused.disks.items ≡ disks_of resources.publisher.maps) }
 {
+    let Ok((pending, transfers)) = PendingTransfers::<J>::new(setting.alloc) else {
+        return Err(refuse(resources));
+    };
     let Ok(staff) = Staff::new(setting.alloc, memory.all_buffers.len(), memory.rooms.len()) else {
         return Err(refuse(resources));
     };
@@ -300,6 +304,7 @@ where
         rt: setting.rt,
         publisher: &publisher,
         desk: &desk,
+        pending: &pending,
         journal: setting.journal,
         gate: setting.gate,
         most: setting.spec.most,
@@ -316,6 +321,7 @@ where
         listen,
         listener,
         charges,
+        transfers,
     );
     let (disks, writer, desk, totals) = unlock(publisher, desk, account);
     Ok(Served {

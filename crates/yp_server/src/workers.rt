@@ -1,6 +1,7 @@
 //! Workers that run side by side.
 
-ghost use Rattle.std.specs.Prelude.{◌≡◌, ◌<◌, ◌≤◌, ◌+◌, ◌^◌, ◌∷◌, ◌++◌, ℕ, [], List, length, map, reverse, true, vec_capacity, IfOk};
+ghost use Rattle.std.specs.Prelude.{◌≡◌, ◌<◌, ◌≤◌, ◌+◌, ◌^◌, ◌∷◌, ◌++◌, ℕ, [], List, length, map, reverse, true};
+ghost use Rattle.std.specs.Prelude.{vec_capacity, IfOk};
 ghost use Rattle.std.specs.List.{AllZip};
 ghost use Rattle.yp_board.specs.Logs.{Log};
 ghost use Rattle.yp_board.specs.Views.{IsFront};
@@ -8,6 +9,8 @@ ghost use Rattle.yp_answer.specs.inside.session.Hosts.{conduct_by};
 ghost use Rattle.yp_worker.specs.Receptions.{IsListenerState, IsUnder, opening_by};
 ghost use Rattle.yp_worker.specs.inside.Receptions.{terms_by};
 ghost use Rattle.yp_worker.specs.Summing.{counting_of};
+ghost use Rattle.yp_worker.specs.datagrams.Mailing.{nothing_held};
+ghost use Rattle.yp_worker.specs.datagrams.Queues.{all_parts};
 ghost use Rattle.yp_rpc.specs.inside.Turns.{box_by};
 ghost use Rattle.yp_server.specs.Counting.{CountsAll};
 ghost use Rattle.yp_server.specs.Serving.{SomeHasRisen};
@@ -23,6 +26,7 @@ use std::sync::ledger::Ledger;
 use std::sync::{Mutex, Wait};
 use std::thread::{Threads, for_each_mut};
 use yp_io::{Hall, Inbox, NoMemory};
+use yp_worker::datagrams::TransferPass;
 use yp_worker::laws::sums_reach_further;
 use yp_worker::{Gate, HandsOver, Listening, Pass, Reception, Tally, Worker};
 
@@ -104,32 +108,34 @@ impl<J: Reception, E: Ledger, H: HandsOver + Drop, G: Gate + Copy + Drop> Connec
 
 /// A place at which a server works: one of its connections, or one of its datagrams.
 #[derive(Drop)]
-pub(crate) enum ServerWorker<J: Reception, E: Ledger, H: HandsOver, G: Gate + Copy, I> {
+pub(crate) enum ServerWorker<'a, J: Reception, E: Ledger, H: HandsOver, G: Gate + Copy, I, R> {
     Connections(ConnectionWorker<J, E, H, G>),
-    Datagrams(DatagramWorker<I, H>),
+    Datagrams(DatagramWorker<'a, I, J, H, R>),
 }
 
 /// The workers of a server, with room for all of them, and room for what comes back of those of datagrams.
 #[derive(Drop)]
-pub(crate) struct Staff<J: Reception, E: Ledger, H: HandsOver, G: Gate + Copy, I> {
-    pub(crate) all_workers: Vec<ServerWorker<J, E, H, G, I>>,
-    pub(crate) datagram_workers: Vec<DatagramWorker<I, H>>,
+pub(crate) struct Staff<'a, J: Reception, E: Ledger, H: HandsOver, G: Gate + Copy, I, R> {
+    pub(crate) all_workers: Vec<ServerWorker<'a, J, E, H, G, I, R>>,
+    pub(crate) datagram_workers: Vec<DatagramWorker<'a, I, J, H, R>>,
     pub(crate) inboxes: Vec<I>,
 }
 
-impl<J: Reception, E: Ledger, H: HandsOver + Drop, G: Gate + Copy + Drop, I: Drop> Staff<
-    J,
-    E,
-    H,
-    G,
-    I,
-> {
+impl<
+    'a,
+    J: Reception,
+    E: Ledger,
+    H: HandsOver + Drop,
+    G: Gate + Copy + Drop,
+    I: Drop,
+    R: Wait,
+> Staff<'a, J, E, H, G, I, R> {
     /// No workers yet, with room for so many of connections and so many of datagrams.
     pub(crate) fn new(
         alloc: Global,
         workers: usize,
         inboxes: usize,
-    ) -> Result<Staff<J, E, H, G, I>, NoMemory>
+    ) -> Result<Staff<'a, J, E, H, G, I, R>, NoMemory>
         requires { workers + inboxes < 2 ^ 64 }
         ensures none { IfOk result (λ staff. (staff.all_workers.items ≡ []) × (staff.datagram_workers.items ≡ [])
             × (staff.inboxes.items ≡ [])) }
@@ -172,6 +178,7 @@ struct Lent<'a, J: Reception, E: Ledger, H: HandsOver, G, L: Hall, R> {
 
 impl<
     'a,
+    'b,
     J: Reception,
     E: Ledger,
     H: HandsOver,
@@ -179,10 +186,10 @@ impl<
     L: Hall,
     I: Inbox,
     R: Wait,
-> Work<ServerWorker<J, E, H, G, I>> for Lent<'a, J, E, H, G, L, R> {
+> Work<ServerWorker<'b, J, E, H, G, I, R>> for Lent<'a, J, E, H, G, L, R> {
     ghost works = { Works (AnswersDatagrams (conduct_by H.Host) H.counted (box_by I.Inbox) I.faults) };
 
-    fn work(&self, place: &mut ServerWorker<J, E, H, G, I>) {
+    fn work(&self, place: &mut ServerWorker<'b, J, E, H, G, I, R>) {
         match place {
             ServerWorker::Connections(connection_worker) => {
                 connection_worker.work(self.rt, self.listening)
@@ -198,8 +205,9 @@ impl<
 pub(crate) fn run_workers<J, E, H, G, L, I, R: Threads + Wait + Sync>(
     rt: &R,
     listening: Listening<J, E, H, L, G>,
-    staff: Staff<J, E, H, G, I>,
+    staff: Staff<'_, J, E, H, G, I, R>,
     mut pass: Pass<J, E>,
+    transfers: TransferPass,
 ) -> (L, Tally, EndedInboxes<I>, H::Sum)
 where
     J: Reception + Send + Sync,
@@ -215,26 +223,32 @@ where
     L::Closer: Send,
     L::Watch: Send,
     L::Waker: Send,
-    requires manned { (datagram_workers : List (DatagramWorker I H H.Count))
+    requires manned { (datagram_workers : List (DatagramWorker I J H R H.Count))
         × IsManned datagram_workers before_work J.parts staff.all_workers.items
         × (length datagram_workers ≤ vec_capacity staff.datagram_workers)
-        × (length datagram_workers ≤ vec_capacity staff.inboxes) }
+        × (length datagram_workers ≤ vec_capacity staff.inboxes)
+        × (inboxes : List I) × (turns : ℕ)
+        × AllZip (BeginsMail (conduct_by H.Host) (counting_of H.counted H.none H.plus) J.catalogue J.starts
+        transfers.queue turns) inboxes datagram_workers }
+    requires transfers { (0 < length (mails_in staff.all_workers.items))
+        × (transfers ≡ nothing_held transfers.queue transfers.parts)
+        × (transfers.parts + length (mails_in staff.all_workers.items) ≡ all_parts) }
     requires none { (staff.datagram_workers.items ≡ []) × (staff.inboxes.items ≡ []) }
     requires pass { pass ≡ before_work }
     ensures kept { IsListenerState J.opening (opening_by L.Hall result.0) result.1.connections result.1.listen_fault
         0 1 }
-    ensures counted { (inboxes : List I) → (datagram_workers : List (DatagramWorker I H H.Count))
-        → IsManned datagram_workers before_work J.parts staff.all_workers.items → (turns : ℕ)
-        → AllZip (BeginsMail (conduct_by H.Host) (counting_of H.counted H.none H.plus) J.catalogue J.starts turns)
-        inboxes datagram_workers
+    ensures counted { (inboxes : List I) → (datagram_workers : List (DatagramWorker I J H R H.Count))
+        → IsManned datagram_workers before_work J.parts staff.entry.all_workers.items → (turns : ℕ)
+        → AllZip (BeginsMail (conduct_by H.Host) (counting_of H.counted H.none H.plus) J.catalogue J.starts
+        transfers.queue turns) inboxes datagram_workers
         → (log : Log) → IsFront (H.reached result.3) log
         → CountsAll (conduct_by H.Host) (counting_of H.counted H.none H.plus) (terms_by J.Reception)
         J.opening (opening_by L.Hall result.0) result.1.calls log turns result.2.fault
         (map (box_by I.Inbox) inboxes) (map (box_by I.Inbox) result.2.inboxes.items) (H.summed result.3) }
-    ensures cause { (inboxes : List I) → (datagram_workers : List (DatagramWorker I H H.Count))
-        → IsManned datagram_workers before_work J.parts staff.all_workers.items → (turns : ℕ)
-        → AllZip (BeginsMail (conduct_by H.Host) (counting_of H.counted H.none H.plus) J.catalogue J.starts turns)
-        inboxes datagram_workers
+    ensures cause { (inboxes : List I) → (datagram_workers : List (DatagramWorker I J H R H.Count))
+        → IsManned datagram_workers before_work J.parts staff.entry.all_workers.items → (turns : ℕ)
+        → AllZip (BeginsMail (conduct_by H.Host) (counting_of H.counted H.none H.plus) J.catalogue J.starts
+        transfers.queue turns) inboxes datagram_workers
         → result.2.fault ≡ true → SomeHasRisen (map I.faults inboxes) (map I.faults result.2.inboxes.items) }
 {
     let Staff {
@@ -249,7 +263,7 @@ where
     pass.merge(maker.into_pass());
     let datagram_workers = gather(&mut pass, all_workers, datagram_workers);
     let (listen, tally, mut sum) = listening.close(&mut pass);
-    let mailed = hand_over_all(datagram_workers, &mut sum, inboxes);
+    let (mailed, _) = hand_over_all(datagram_workers, transfers, &mut sum, inboxes);
     sums_reach_further::<H>();
     (listen, tally, mailed, sum)
 }
@@ -258,7 +272,7 @@ where
 fn work_beside<J, E, H, G, L, I, R: Threads + Wait + Sync>(
     rt: &R,
     listening: &Mutex<Listening<J, E, H, L, G>>,
-    places: &mut [ServerWorker<J, E, H, G, I>],
+    places: &mut [ServerWorker<'_, J, E, H, G, I, R>],
 )
 where
     J: Reception + Send + Sync,
@@ -293,8 +307,8 @@ fn work_all<P: Send, W: Work<P> + Sync, R: Threads + Sync>(rt: &R, work: &W, pla
 }
 
 /// Takes the last worker of connections away.
-fn last_of<J, E, H, G, I>(
-    all_workers: &mut Vec<ServerWorker<J, E, H, G, I>>,
+fn last_of<J, E, H, G, I, R: Wait>(
+    all_workers: &mut Vec<ServerWorker<'_, J, E, H, G, I, R>>,
 ) -> ConnectionWorker<J, E, H, G>
 where
     J: Reception,
@@ -302,10 +316,10 @@ where
     H: HandsOver + Drop,
     G: Gate + Copy + Drop,
     I: Drop,
-    requires manned { (datagram_workers : List (DatagramWorker I H H.Count)) × (others : ℕ)
+    requires manned { (datagram_workers : List (DatagramWorker I J H R H.Count)) × (others : ℕ)
         × (all_workers.old.items ≡ workers_of datagram_workers (others + 1) after_work) }
     ensures last { result ≡ after_work }
-    ensures others { (datagram_workers : List (DatagramWorker I H H.Count)) → (others : ℕ)
+    ensures others { (datagram_workers : List (DatagramWorker I J H R H.Count)) → (others : ℕ)
         → all_workers.old.items ≡ workers_of datagram_workers (others + 1) after_work
         → all_workers.new.items ≡ workers_of datagram_workers others after_work }
 {
@@ -320,11 +334,11 @@ where
 
 /// Takes in what each worker of connections holds, and answers the workers of datagrams, which have room here, the last
 /// one first, once all have ended.
-fn gather<J, E, H, G, I>(
+fn gather<'a, J, E, H, G, I, R: Wait>(
     pass: &mut Pass<J, E>,
-    mut all_workers: Vec<ServerWorker<J, E, H, G, I>>,
-    mut datagram_workers: Vec<DatagramWorker<I, H>>,
-) -> Vec<DatagramWorker<I, H>>
+    mut all_workers: Vec<ServerWorker<'a, J, E, H, G, I, R>>,
+    mut datagram_workers: Vec<DatagramWorker<'a, I, J, H, R>>,
+) -> Vec<DatagramWorker<'a, I, J, H, R>>
 where
     J: Reception,
     E: Ledger,
@@ -333,10 +347,10 @@ where
     I: Drop,
     requires none { datagram_workers.items ≡ [] }
     requires room { length (mails_in all_workers.items) ≤ vec_capacity datagram_workers }
-    ensures datagram_workers { reverse result.items ≡ mails_in all_workers.items }
-    ensures parts { pass.new.parts ≡ pass.old.parts + (held_in all_workers.items).parts }
-    ensures out { pass.new.out ≡ pass.old.out + (held_in all_workers.items).out }
-    ensures ended { pass.new.ended ≡ pass.old.ended + (held_in all_workers.items).ended }
+    ensures datagram_workers { reverse result.items ≡ mails_in all_workers.entry.items }
+    ensures parts { pass.new.parts ≡ pass.old.parts + (held_in all_workers.entry.items).parts }
+    ensures out { pass.new.out ≡ pass.old.out + (held_in all_workers.entry.items).out }
+    ensures ended { pass.new.ended ≡ pass.old.ended + (held_in all_workers.entry.items).ended }
 {
     while let Some(server_worker) = all_workers.pop() {
         take_in(pass, &mut datagram_workers, server_worker);
@@ -345,10 +359,10 @@ where
 }
 
 /// Takes in what a worker of connections holds, or keeps one of datagrams, which has room here.
-fn take_in<J, E, H, G, I>(
+fn take_in<'a, J, E, H, G, I, R: Wait>(
     pass: &mut Pass<J, E>,
-    datagram_workers: &mut Vec<DatagramWorker<I, H>>,
-    server_worker: ServerWorker<J, E, H, G, I>,
+    datagram_workers: &mut Vec<DatagramWorker<'a, I, J, H, R>>,
+    server_worker: ServerWorker<'a, J, E, H, G, I, R>,
 )
 where
     J: Reception,
@@ -359,11 +373,11 @@ where
     requires room { length datagram_workers.old.items + length (mails_in (server_worker ∷ []))
         ≤ vec_capacity datagram_workers.old }
     ensures datagram_workers { datagram_workers.new.items
-        ≡ datagram_workers.old.items ++ mails_in (server_worker ∷ []) }
+        ≡ datagram_workers.old.items ++ mails_in (server_worker.entry ∷ []) }
     ensures capacity { vec_capacity datagram_workers.new ≡ vec_capacity datagram_workers.old }
-    ensures parts { pass.new.parts ≡ pass.old.parts + (held_in (server_worker ∷ [])).parts }
-    ensures out { pass.new.out ≡ pass.old.out + (held_in (server_worker ∷ [])).out }
-    ensures ended { pass.new.ended ≡ pass.old.ended + (held_in (server_worker ∷ [])).ended }
+    ensures parts { pass.new.parts ≡ pass.old.parts + (held_in (server_worker.entry ∷ [])).parts }
+    ensures out { pass.new.out ≡ pass.old.out + (held_in (server_worker.entry ∷ [])).out }
+    ensures ended { pass.new.ended ≡ pass.old.ended + (held_in (server_worker.entry ∷ [])).ended }
 {
     match server_worker {
         ServerWorker::Connections(connection_worker) => pass.merge(connection_worker.into_pass()),

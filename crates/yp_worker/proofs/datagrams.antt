@@ -1,2 +1,4 @@
 mod Answering
+mod Carrying
+mod Queues
 mod Running

@@ -1,2 +1,3 @@
 pub mod Mailing
+pub mod Queues
 pub mod Serving

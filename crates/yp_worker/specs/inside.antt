@@ -4,3 +4,5 @@ pub mod Summing
 pub mod Laws
 pub mod Guests
 pub mod Listenings
+pub mod Mailing
+pub mod Queues

@@ -8,7 +8,8 @@ use Rattle.yp_rpc.specs.inside.Turns.{box_by}
 use Rattle.yp_board.specs.Catalogues.{Catalogue}
 use Rattle.yp_board.specs.Logs.{Log}
 use Rattle.yp_answer.specs.session.Hosts.{Conduct}
-use Rattle.yp_server.specs.Serving.{ServesInboxes, SomeHasRisen}
+use Rattle.yp_worker.specs.datagrams.Mailing.{Awaited}
+use Rattle.yp_server.specs.Serving.{EachServes, ServesInboxes, SomeHasRisen}
 use Rattle.yp_command_serve.specs.serve.Hosting.{EndTells, end_by}
 
 module _ {I : Type 0} (seen : inbox.Ghosts I) where
@@ -34,14 +35,22 @@ module _ {I : Type 0} (seen : inbox.Ghosts I) where
       ∙ ap (λ (l : List ℕ). l ++ seen.faults inbox ∷ []) (faults_of more)
 
 -- as many inboxes come back as were served
+each_long : {H T : Type 0} (conduct : Conduct H) (counted : H → T) (catalogue : Catalogue) (starts log : Log) (turns : ℕ)
+    (fault : Bool) (before after : List InboxTells) (left carried : List Awaited)
+    → EachServes conduct counted catalogue starts log turns fault before after left carried → length after ≡ length before
+each_long conduct counted catalogue starts log turns fault [] [] left carried serves = refl
+each_long conduct counted catalogue starts log turns fault [] (new ∷ after) left carried serves = absurd serves
+each_long conduct counted catalogue starts log turns fault (old ∷ before) [] left carried serves = absurd serves
+each_long conduct counted catalogue starts log turns fault (old ∷ before) (new ∷ after) left carried
+    (failed, others, is, left_here, left_there, left_is, carried_here, carried_there, carried_is, one, rest) =
+    let long = each_long conduct counted catalogue starts log turns others before after left_there carried_there rest in
+    omega (arith, long)
+
 pub served_long : {H T : Type 0} (conduct : Conduct H) (counted : H → T) (catalogue : Catalogue) (starts log : Log) (turns : ℕ)
     (fault : Bool) (before after : List InboxTells)
     → ServesInboxes conduct counted catalogue starts log turns fault before after → length after ≡ length before
-served_long conduct counted catalogue starts log turns fault [] [] serves = refl
-served_long conduct counted catalogue starts log turns fault [] (new ∷ after) serves = absurd serves
-served_long conduct counted catalogue starts log turns fault (old ∷ before) [] serves = absurd serves
-served_long conduct counted catalogue starts log turns fault (old ∷ before) (new ∷ after) (failed, others, is, one, rest) =
-    let long = served_long conduct counted catalogue starts log turns others before after rest in omega (arith, long)
+served_long conduct counted catalogue starts log turns fault before after serves =
+    each_long conduct counted catalogue starts log turns fault before after serves.left serves.carried serves.each
 
 -- where one of all counts rose, the last did, or one before it
 pub last_or_before : (olds news : List ℕ) (old new : ℕ) → length news ≡ length olds

@@ -1,18 +1,21 @@
 //! Datagrams of a server, by an inbox in memory.
 
-ghost use Rattle.std.specs.Prelude.{◌≤◌, length};
+ghost use Rattle.std.specs.Prelude.{◌≡◌, ◌≤◌, length};
 
 use crate::given::{NEVER, assert_same, named};
 use crate::worker::host::{TestHost, host_of};
 use std::alloc::Global;
+use std::marker::Brand;
 use std::process::Abort;
 use std::random::RandomSource;
+use std::sync::Wait;
 use yp_io::{Failed, Letter, Peer};
 use yp_memory::MemInbox;
+use yp_publisher::sharing::Site;
 use yp_rpc::{DATAGRAM_MAX, Ended, Handler, Room};
-use yp_worker::datagrams::{MailServer, serve_mail};
+use yp_worker::datagrams::{MailServer, PendingTransfers, serve_mail};
 
-const OWN_HOST: [u8; 4] = [127, 0, 0, 1];
+pub const OWN_HOST: [u8; 4] = [127, 0, 0, 1];
 
 const OTHER_HOST: [u8; 4] = [10, 0, 0, 9];
 
@@ -24,7 +27,7 @@ const OTHER_HOST: [u8; 4] = [10, 0, 0, 9];
 // isn't served. ALL and MAKE are of passwd.byname of `d`, and NAMED makes the same map by its name. These have replies
 // with RSRC, the status of a host that makes no map, and with REFUSED. XFR is of hosts.byname of `d` from the host
 // `m2`, with the transaction 9, and its reply has SUCC.
-static NAMES: &str = "\
+pub static NAMES: &str = "\
 NULL = 00000007 00000000 00000002 000186a4 00000002 00000000 00000000 00000000 00000000 00000000
 NULL_REPLY = 00000007 00000001 00000000 00000000 00000000 00000000
 MATCH = 00000001 00000000 00000002 000186a4 00000002 00000003 00000000 00000000 00000000 \
@@ -57,9 +60,9 @@ TO_701 = 7f000001 000002bd
 TO_OTHER = 0a000009 000002bc
 ";
 
-// A datagram: the address and port of its sender, its words, and its length with zeros behind them. One without words
-// is a quiet turn.
-type Mail = ([u8; 4], u16, &'static str, usize);
+/// A datagram: the address and port of its sender, its words, and its length with zeros behind them. One without words
+/// is a quiet turn.
+pub type Mail = ([u8; 4], u16, &'static str, usize);
 
 const QUIET: Mail = (OWN_HOST, 0, "", 0);
 
@@ -89,7 +92,8 @@ fn letter_of(rt: &impl Abort, alloc: Global, mail: &Mail) -> Letter {
     }
 }
 
-fn mail_of(rt: &impl Abort, alloc: Global, mail: &[Mail]) -> Vec<Option<Letter>> {
+/// Letters of these datagrams, and none for a quiet turn.
+pub fn mail_of(rt: &impl Abort, alloc: Global, mail: &[Mail]) -> Vec<Option<Letter>> {
     let mut letters = Vec::new(alloc);
     for datagram in mail {
         let letter = match datagram.2 {
@@ -105,8 +109,8 @@ fn extend(rt: &impl Abort, all: &mut Vec<u8>, bytes: &[u8]) {
     all.extend_from_slice(bytes).expect(rt, "memory for bytes");
 }
 
-// Letters one after the other, each behind the place that it goes to.
-fn sent(rt: &impl Abort, alloc: Global, letters: &[Letter]) -> Vec<u8> {
+/// Letters one after the other, each behind the place that it goes to.
+pub fn sent(rt: &impl Abort, alloc: Global, letters: &[Letter]) -> Vec<u8> {
     let mut all = Vec::new(alloc);
     for letter in letters {
         let port = u32::from(letter.peer.port);
@@ -120,21 +124,27 @@ fn sent(rt: &impl Abort, alloc: Global, letters: &[Letter]) -> Vec<u8> {
 // How turns end, how many were taken, how many transfers were carried out, and what was sent.
 type Came = (Result<Ended, Failed>, u64, u64, Vec<u8>);
 
-// Takes so many turns at most.
-fn serve_turns(
-    rt: &impl Abort,
+// Takes so many turns at most, with a host that shares its transfers with nobody.
+fn serve_turns<J: Site, R: Wait + Abort>(
+    rt: &R,
     alloc: Global,
     inbox: &mut MemInbox,
-    server: &mut MailServer<TestHost>,
+    host: TestHost,
     most: u64,
-) -> Result<Ended, Failed> {
+) -> (Result<Ended, Failed>, TestHost)
+    requires { host.board.catalogue ≡ J.catalogue }
+{
+    let (pending, pass) = PendingTransfers::<J>::new(alloc).expect(rt, "memory for transfers");
+    let mut server = MailServer::new(host, &pending, pass, rt);
     let mut room = Room::new(alloc).expect(rt, "memory for turns");
-    serve_mail(inbox, server, &mut room, most)
+    let ended = serve_mail(inbox, &mut server, &mut room, most);
+    let (host, _) = server.into_parts();
+    (ended, host)
 }
 
 // Takes turns of an inbox with these letters, of which this call fails.
-fn take_turns(
-    rt: &impl Abort,
+fn take_turns<R: Wait + Abort>(
+    rt: &R,
     alloc: Global,
     host: TestHost,
     mail: Vec<Option<Letter>>,
@@ -143,14 +153,13 @@ fn take_turns(
 ) -> Came {
     let failing = vec![in alloc; failing].expect(rt, "memory for a number");
     let mut inbox = MemInbox::new(alloc, mail, failing);
-    let mut server = MailServer::new(host);
-    let ended = serve_turns(rt, alloc, &mut inbox, &mut server, most);
+    let (ended, host) = serve_turns::<Brand, R>(rt, alloc, &mut inbox, host, most);
     let sent = sent(rt, alloc, inbox.letters());
-    (ended, inbox.turns(), server.into_host().transfers(), sent)
+    (ended, inbox.turns(), host.transfers(), sent)
 }
 
 // What comes of these datagrams, behind which others show these values.
-fn served<R: RandomSource + Abort>(
+fn served<R: RandomSource + Wait + Abort>(
     rt: &R,
     alloc: Global,
     shown: &[&[u8]],
@@ -163,7 +172,7 @@ fn served<R: RandomSource + Abort>(
     take_turns(rt, alloc, host, mail, failing, most)
 }
 
-fn try_row<R: RandomSource + Abort>(rt: &R, alloc: Global, row: &Row) {
+fn try_row<R: RandomSource + Wait + Abort>(rt: &R, alloc: Global, row: &Row) {
     let came = served(rt, alloc, row.shown, row.mail, row.failing, row.most);
     let sent = named(rt, alloc, NAMES, row.sent);
     let wanted = (row.ended, row.turns, row.transfers, sent);
@@ -223,7 +232,7 @@ static REPLIES: [Replies; 12] = [
     ("one over it", &[(OWN_HOST, 700, "NULL", 8_193)], ""),
 ];
 
-fn try_replies<R: RandomSource + Abort>(rt: &R, alloc: Global, row: &Replies) {
+fn try_replies<R: RandomSource + Wait + Abort>(rt: &R, alloc: Global, row: &Replies) {
     let (name, mail, sent) = row;
     let (_, _, _, came) = served(rt, alloc, &[], mail, NEVER, 2);
     assert_same(rt, &came, &named(rt, alloc, NAMES, sent), name);
@@ -400,7 +409,7 @@ fn turns_and_calls_that_fail(rt: HostRuntime) {
 }
 
 // Compares the reply to a MATCH of a value of so many bytes with these words, and so many bytes of the value.
-fn check_value<R: RandomSource + Abort>(
+fn check_value<R: RandomSource + Wait + Abort>(
     rt: &R,
     alloc: Global,
     len: usize,
@@ -424,7 +433,12 @@ fn the_longest_value(rt: HostRuntime) {
 }
 
 // Lets a server hear a call, and go on behind the reply where that is sent.
-fn hear(server: &mut MailServer<TestHost>, call: &[u8], buf: &mut [u8], is_sent: bool)
+fn hear<J: Site, R: Wait>(
+    server: &mut MailServer<'_, J, TestHost, R>,
+    call: &[u8],
+    buf: &mut [u8],
+    is_sent: bool,
+)
     requires { DATAGRAM_MAX ≤ length buf.old }
 {
     let peer = Peer {
@@ -439,12 +453,26 @@ fn hear(server: &mut MailServer<TestHost>, call: &[u8], buf: &mut [u8], is_sent:
 }
 
 // How many transfers were carried out for an XFR, before its reply is sent or behind that.
-fn transfers<R: RandomSource + Abort>(rt: &R, alloc: Global, is_sent: bool) -> u64 {
-    let call = named(rt, alloc, NAMES, "XFR");
+fn transfers_of<J: Site, R: Wait + Abort>(
+    rt: &R,
+    alloc: Global,
+    host: TestHost,
+    call: &[u8],
+    is_sent: bool,
+) -> u64
+    requires { host.board.catalogue ≡ J.catalogue }
+{
     let mut buf = vec![in alloc; 0; DATAGRAM_MAX].expect(rt, "memory for a reply");
-    let mut server = MailServer::new(host_of(rt, alloc, &[]));
-    hear(&mut server, &call, &mut buf, is_sent);
-    server.into_host().transfers()
+    let (pending, pass) = PendingTransfers::<J>::new(alloc).expect(rt, "memory for transfers");
+    let mut server = MailServer::new(host, &pending, pass, rt);
+    hear(&mut server, call, &mut buf, is_sent);
+    let (host, _) = server.into_parts();
+    host.transfers()
+}
+
+fn transfers<R: RandomSource + Wait + Abort>(rt: &R, alloc: Global, is_sent: bool) -> u64 {
+    let call = named(rt, alloc, NAMES, "XFR");
+    transfers_of::<Brand, R>(rt, alloc, host_of(rt, alloc, &[]), &call, is_sent)
 }
 
 #[test]

@@ -1,6 +1,5 @@
--- What a host did for a datagram, before and behind its reply.
+-- What a host did for a datagram, before its reply.
 use Rattle.std.proofs.Common.{◌≡◌, ◌<◌, zero, suc, take, Bool, true, false, ℕ, List, [], ◌++◌, Option, Some, None, refl, sym, ap, subst, ◌∙◌, append_assoc, arith}
-use Rattle.std.specs.Prelude.{option_map}
 use Rattle.std.proofs.lemmas.List.{append-nil}
 use Rattle.yp_io.specs.declared.stream.Peer.{Peer}
 use Rattle.yp_messages.specs.declared.transfer.XfrStat.{XfrStat}
@@ -12,9 +11,9 @@ use Rattle.yp_answer.specs.Maps.{maps_of}
 use Rattle.yp_answer.specs.Transfer.{Taken}
 use Rattle.yp_answer.specs.Reply.{Response, Silence, Bytes, Takes, Open, reply, asks, make_reply}
 use Rattle.yp_answer.specs.Answers.{StepsWhere}
-use Rattle.yp_answer.specs.session.Hosts.{Counts, Conduct, Fulfils, CarriesOut, Turn, CarriesWhere, Carries, Link, counts_where, counts_behind}
+use Rattle.yp_answer.specs.session.Hosts.{Counts, Conduct, Fulfils, Turn, CarriesWhere, Carries, Link, counts_where, counts_behind}
 use Rattle.yp_rpc.specs.inside.Turns.{reply_of}
-use Rattle.yp_worker.specs.datagrams.Mailing.{CarriesAwaited, AnswersMail}
+use Rattle.yp_worker.specs.datagrams.Mailing.{AnswersMail}
 
 -- a reply of some bytes at the front of a buffer
 pub reply_is : (len : ℕ) (buf : List ℕ) → 0 < len → reply_of len buf ≡ Some (take len buf)
@@ -81,76 +80,19 @@ module _ {H : Type 0} (conduct : Conduct H) (peer : Peer) where
   carried_counts (Open xid job) turn old new h = rw (h.2, h.3) h.4.counted
 
   -- a datagram's turn, from its link
-  pub answered : (turn : Turn) (old new : H) → Link conduct Datagram peer turn old new → AnswersMail conduct peer turn old new
-  answered turn old new link =
+  pub answered : (turn : Turn) (old new : H) → turn.flushed ≡ false → Link conduct Datagram peer turn old new
+      → AnswersMail conduct peer turn old new
+  answered turn old new is link =
       let response = reply Datagram (maps_of (conduct.seen link.mid)) peer turn.message in
       let went = later_then (conduct.seen old) (conduct.seen link.mid) (conduct.seen new)
       (stepped (asks Datagram turn.message) old link.mid link.step) (carried response turn link.mid new link.carried) in
       record {
         link = link;
+        unflushed = is;
         grown = went.grown;
         catalogue = went.catalogue;
         counts = carried_counts response turn link.mid new link.carried
             ∙ ap (λ (counts : Counts). counts_behind counts turn) link.uncounted;
-      }
-
-  -- ---- behind the reply
-
-  abbrev pub sent : Turn → Turn
-  sent turn = record turn { flushed = true }
-
-  none_waits : (taken : Option Taken) (old new : H) → taken ≡ None
-      → CarriesAwaited conduct (option_map (λ taken. (taken, peer)) taken) old new → new ≡ old
-  none_waits None old new is carries = carries
-  none_waits (Some taken) old new is carries = absurd cc
-
-  one_waits : (found : Option Taken) (taken : Taken) (old new : H) → found ≡ Some taken
-      → CarriesAwaited conduct (option_map (λ taken. (taken, peer)) found) old new → CarriesOut conduct taken peer old new
-  one_waits None taken old new is carries = absurd cc
-  one_waits (Some found) taken old new is carries =
-      let one : found ≡ taken = cc in
-      subst (λ (t : Taken). CarriesOut conduct t peer old new) one carries
-
-  unmoved : (flushed : Bool) (taken : Taken) (mid new : H) → flushed ≡ false → CarriesWhere flushed conduct taken peer mid new
-      → new ≡ mid
-  unmoved true taken mid new is h = absurd cc
-  unmoved false taken mid new is h = h
-
-  carried_behind : (response : Response) (turn : Turn) (mid new ready : H) → turn.flushed ≡ false
-      → Carries conduct peer response turn mid new
-      → CarriesAwaited conduct (option_map (λ taken. (taken, peer)) turn.taken) new ready
-      → Carries conduct peer response (sent turn) mid ready
-  carried_behind Silence turn mid new ready is h behind =
-      (h.0, h.1, h.2, none_waits turn.taken new ready h.2 behind ∙ h.3)
-  carried_behind (Bytes bytes) turn mid new ready is h behind =
-      (h.0, h.1, h.2, none_waits turn.taken new ready h.2 behind ∙ h.3)
-  carried_behind (Takes bytes taken) turn mid new ready is h behind =
-      let out = one_waits turn.taken taken new ready h.2 behind in (
-        h.0,
-        h.1,
-        h.2,
-        subst (λ (m : H). CarriesOut conduct taken peer m ready) (unmoved turn.flushed taken mid new is h.3) out,
-      )
-  carried_behind (Open xid job) turn mid new ready is h behind = (
-    h.0,
-    h.1,
-    h.2,
-    h.3,
-    subst (λ (n : H). Fulfils conduct job h.0 mid n) (sym (none_waits turn.taken new ready h.3 behind)) h.4,
-  )
-
-  -- a datagram's turn once its reply is out, and what waited is carried out
-  pub answers_sent : (turn : Turn) (old new ready : H) → turn.flushed ≡ false → AnswersMail conduct peer turn old new
-      → CarriesAwaited conduct (option_map (λ taken. (taken, peer)) turn.taken) new ready
-      → AnswersMail conduct peer (sent turn) old ready
-  answers_sent turn old new ready is answers behind =
-      let link = answers.link in
-      let response = reply Datagram (maps_of (conduct.seen link.mid)) peer turn.message in
-      answered (sent turn) old ready record {
-        mid = link.mid;
-        step = link.step;
-        uncounted = link.uncounted;
-        carried = carried_behind response turn link.mid new ready is link.carried behind;
       }
 
   -- ---- before the reply

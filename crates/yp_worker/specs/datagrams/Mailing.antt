@@ -1,5 +1,7 @@
 -- A server of datagrams: what it does at each moment of its turns.
-use Rattle.std.specs.Prelude.{◌≡◌, ℕ, false, List, Option, None, Some, Result, Ok, Err, option_map}
+use Rattle.std.specs.Prelude.{◌≡◌, ℕ, false, List, [], ◌∷◌, ◌++◌, Option, None, Result, Ok, Err}
+use Rattle.std.specs.Prelude.{option_map, option_to_list}
+use Rattle.atomic_table.specs.Seated.{TableId}
 use Rattle.yp_io.specs.declared.stream.Peer.{Peer}
 use Rattle.yp_io.specs.declared.stream.Failed.{Failed}
 use Rattle.yp_board.specs.Views.{IsFront}
@@ -14,38 +16,64 @@ use Rattle.yp_worker.specs.Working.{IsTold}
 abbrev pub Awaited : Type 0
 Awaited = Taken × Peer
 
--- a server: its host, and the transfer that waits until its reply is out
+-- which queue of transfers it is
+abbrev pub QueueName : Type 0
+QueueName = TableId
+
+-- what a server holds of the queue of transfers that it shares with others: which queue it is, its parts of the right
+-- to know the whole, the transfers that it left there, and those that it took over from there, each in that order
+pub record Holding : Type 0 where
+  pub queue : QueueName
+  pub parts : ℕ
+  pub left : List Awaited
+  pub took : List Awaited
+
+-- a server: its host, the transfer that waits until its reply is out, and what it holds of the queue
 pub record Mailing (H : Type 0) : Type 0 where
   pub host : H
   pub waiting : Option Awaited
+  pub holding : Holding
+
+-- so many parts of a queue, for a server that has left nothing there yet
+abbrev pub nothing_held : QueueName → ℕ → Holding
+nothing_held queue parts = record { queue = queue; parts = parts; left = []; took = [] }
+
+-- more transfers were left in the queue, and more were taken over
+abbrev pub held_behind : Holding → List Awaited → List Awaited → Holding
+held_behind holding left took = record holding { left = holding.left ++ left; took = holding.took ++ took }
 
 module _ {H : Type 0} (conduct : Conduct H) where
-  -- The transfer that waits is carried out for its caller, where there is one.
-  abbrev pub CarriesAwaited : Option Awaited → H → H → Type 0
-  CarriesAwaited None old new = new ≡ old
-  CarriesAwaited (Some awaited) old new = CarriesOut conduct awaited.0 awaited.1 old new
+  -- Transfers are carried out, one after the other, each for its caller.
+  abbrev pub CarriesAll : List Awaited → H → H → Type 0
+  CarriesAll [] old new = new ≡ old
+  CarriesAll (one ∷ more) old new = (next : H) × CarriesOut conduct one.0 one.1 old next × CarriesAll more next new
 
-  -- The transfer that waited, if one did, was carried out, and none waits any more.
+  -- The transfer that waited, if one did, was left in the queue, and none waits any more. Then the server carried out
+  -- what it took over from there, which may be this one and others, or none, where another server carries them out.
   pub record Clears (old new : Mailing H) : Type 0 where
-    pub carried : CarriesAwaited old.waiting old.host new.host
+    pub took : List Awaited
+    pub carries : CarriesAll took old.host new.host
+    pub idle : old.waiting ≡ None → took ≡ []
     pub cleared : new.waiting ≡ None
+    pub holding : new.holding ≡ held_behind old.holding (option_to_list old.waiting) took
 
-  -- A server wants turns alone. Before each, the transfer whose reply went out is carried out.
+  -- A server wants turns alone. Before each, the transfer whose reply went out is left in the queue.
   abbrev pub Goes : Mailing H → Want → Mailing H → Type 0
   Goes old Taking new = Clears old new
   Goes old want new = ⊥
 
-  -- What is left behind the last turn: a transfer whose reply went out is carried out. Where the inbox has failed no
-  -- such reply is left, and what waits is dropped.
+  -- What is left behind the last turn: a transfer whose reply went out is left in the queue. Where the inbox has failed
+  -- no such reply is left, and what waits is dropped.
   abbrev pub Closes : Result Ended Failed → Mailing H → Mailing H → Type 0
   Closes (Ok ended) old new = Clears old new
   Closes (Err why) old new = new ≡ record old { waiting = None }
 
   -- A datagram of a peer had its turn with the host: the reply is that on what it then knows, and a map that the
-  -- datagram asks for was made. A transfer that it asks for was carried out exactly where the reply went out. What was
-  -- known before is a front of what is known.
+  -- datagram asks for was made. A transfer that it asks for isn't carried out in the turn. What was known before is a
+  -- front of what is known.
   pub record AnswersMail (peer : Peer) (turn : Turn) (old new : H) : Type 0 where
     pub link : Link conduct Datagram peer turn old new
+    pub unflushed : turn.flushed ≡ false
     pub grown : IsFront (conduct.seen old).known (conduct.seen new).known
     pub catalogue : (conduct.seen new).catalogue ≡ (conduct.seen old).catalogue
     pub counts : conduct.counts new ≡ counts_behind (conduct.counts old) turn
@@ -55,9 +83,9 @@ module _ {H : Type 0} (conduct : Conduct H) where
     pub turn : Turn
     pub message_is : turn.message ≡ message
     pub answer_is : turn.answer ≡ answer
-    pub unsent : turn.flushed ≡ false
     pub answers : AnswersMail peer turn old.host new.host
     pub waits : new.waiting ≡ option_map (λ taken. (taken, peer)) turn.taken
+    pub holding : new.holding ≡ old.holding
 
 -- a host counts so
 module _ {H T : Type 0} (conduct : Conduct H) (counted : H → T) where
@@ -65,6 +93,7 @@ module _ {H T : Type 0} (conduct : Conduct H) (counted : H → T) where
   pub record Rests (old new : Mailing H) : Type 0 where
     pub told : IsTold conduct counted old.host new.host
     pub waiting : new.waiting ≡ old.waiting
+    pub holding : new.holding ≡ old.holding
 
   abbrev pub mail_ways : Ways (Mailing H)
   mail_ways = ways_of (Goes conduct) (Hears conduct) Rests

@@ -7,14 +7,16 @@ ghost use Rattle.yp_worker.specs.datagrams.Serving.{ServesMail};
 
 use crate::CatchUp;
 use crate::datagrams::server::MailServer;
+use std::sync::Wait;
 use yp_io::{Failed, Inbox};
+use yp_publisher::sharing::Site;
 use yp_rpc::{Ended, Room, take_turns};
 
 /// Takes turns of an inbox, at most so many, and answers each datagram to its sender before the next turn. It ends
 /// where all turns are taken, or where the inbox fails. A datagram of more than 8,192 bytes is dropped.
-pub fn serve_mail<I: Inbox, H: CatchUp>(
+pub fn serve_mail<I: Inbox, J: Site, H: CatchUp, R: Wait>(
     inbox: &mut I,
-    server: &mut MailServer<H>,
+    server: &mut MailServer<'_, J, H, R>,
     room: &mut Room,
     turns: u64,
 ) -> Result<Ended, Failed>

@@ -1,44 +1,57 @@
-use Rattle.std.proofs.Common.{◌≡◌, refl, ap, ◌∙◌, ◌||◌, length, reverse, arith}
-use Rattle.std.specs.List.{list_any}
+use Rattle.std.proofs.Common.{[], ◌∷◌, ◌≡◌, ◌++◌, ◌||◌, refl, ap, ◌∙◌, subst, length, reverse, arith}
 use Rattle.std.proofs.lemmas.List.{length_push}
-use Rattle.yp_server.proofs.Fronts.{front_self, front_then}
-use Rattle.yp_board.specs.Views.{IsFront}
-use Rattle.yp_server.proofs.Handing.{one_inbox, one_fault, one_count, one_front, none_left}
+use Rattle.std.specs.List.{AllByRecursion, list_any}
+use Rattle.yp_answer.specs.session.Hosts.{conduct_of}
+use Rattle.yp_worker.specs.Summing.{counting_of}
+use Rattle.yp_server.specs.inside.Handing.{HandsOverMails}
+use Rattle.yp_server.proofs.Handing.{rec_before, none_handed, one_handed, one_inbox, one_fault, one_server, all_servers}
 use Rattle.yp_server.proofs.datagrams.hand_over_all.Goals as goal
 
 pub loop-datagram_worker-init : goal.loop-datagram_worker-init
-loop-datagram_worker-init g c = record {
-  inboxes = rw c.requires.none refl;
-  fault = refl;
-  added = refl;
-  covered = λ log front all. all;
-  kept = front_self (g.H.HandsOver.reached c.args.sum.now);
-  room = rw c.requires.none (omega (arith, c.requires.room));
-}
+loop-datagram_worker-init g c =
+    let conduct = conduct_of g.H.View.seen g.H.Host.told g.H.Host.counts g.H.View.stepped g.H.Host.made g.H.Host.carried in
+    let counting = counting_of g.H.CatchUp.counted g.H.HandsOver.none g.H.HandsOver.plus in
+    record {
+      inboxes = rw c.requires.none refl;
+      fault = refl;
+      handed = ([], refl, none_handed conduct counting g.H.HandsOver.summed g.H.HandsOver.reached c.args.others c.args.sum.now);
+      queue = c.requires.queue;
+      room = rw c.requires.none (omega (arith, c.requires.room));
+    }
 
 pub loop-datagram_worker-preserved : goal.loop-datagram_worker-preserved
 loop-datagram_worker-preserved g c =
+    let conduct = conduct_of g.H.View.seen g.H.Host.told g.H.Host.counts g.H.View.stepped g.H.Host.made g.H.Host.carried in
+    let counting = counting_of g.H.CatchUp.counted g.H.HandsOver.none g.H.HandsOver.plus in
     let before = c.loop-datagram_worker.invariant in
-    let did = c.hand_over in
+    let did = c.hand_over-one in
     let added = c.add.ensures in
-    let longer = length_push c.loop-datagram_worker.ended.inboxes.items did.result.inbox in
+    let this = c.in-Some.datagram_worker in
+    let popped = c.in-Some.ensures.items in
+    let longer = length_push c.loop-datagram_worker.ended.inboxes.items did.result.0.inbox in
     let long = ap length added.inboxes in
     let shorter = c.in-Some.ensures.len in
     record {
-      inboxes = one_inbox _ _ c.in-Some.datagram_worker c.in-Some.ensures.items _ _ before.inboxes _ did.result.inbox added.inboxes did.ensures.mailed.0;
+      inboxes = one_inbox _ _ this popped _ _ before.inboxes _ did.result.0.inbox added.inboxes did.ensures.mailed.0;
       fault =
           ap (λ b. b || list_any (λ m. m.fault) (reverse c.pop.new.self.items)) added.fault
-          ∙ one_fault _ _ c.in-Some.datagram_worker c.in-Some.ensures.items c.loop-datagram_worker.ended.fault _ before.fault did.result.fault did.ensures.mailed.1;
-      added = one_count _ _ c.in-Some.datagram_worker c.in-Some.ensures.items g.H.CatchUp.counted g.H.HandsOver.plus _ _ before.added _ did.ensures.added;
-      covered = one_front _ _ c.in-Some.datagram_worker c.in-Some.ensures.items (λ h. (g.H.View.seen h).known) _ _ _ before.covered did.ensures.covered did.ensures.kept;
-      kept = front_then _ _ _ before.kept did.ensures.kept;
+          ∙ one_fault _ _ this popped c.loop-datagram_worker.ended.fault _ before.fault did.result.0.fault did.ensures.mailed.1;
+      handed = (
+        before.handed.0 ++ this.server ∷ [],
+        one_server _ _ this popped before.handed.0 _ before.handed.1,
+        one_handed conduct counting g.H.HandsOver.summed g.H.HandsOver.reached before.handed.0 this.server _ _ _ _ _ _ before.handed.2 did.ensures.handed,
+      );
+      queue = (rec_before (λ m. m.server.holding.queue ≡ c.args.others.queue) _ this
+          (subst (AllByRecursion (λ m. m.server.holding.queue ≡ c.args.others.queue)) popped before.queue)).0;
       room = omega (arith, longer, long, before.room, shorter, added.room);
     }
 
-pub returns-clause-covered : goal.returns-clause-covered
-returns-clause-covered g c =
+pub returns-clause-handed : goal.returns-clause-handed
+returns-clause-handed g c =
+    let conduct = conduct_of g.H.View.seen g.H.Host.told g.H.Host.counts g.H.View.stepped g.H.Host.made g.H.Host.carried in
+    let counting = counting_of g.H.CatchUp.counted g.H.HandsOver.none g.H.HandsOver.plus in
     let after = c.loop-datagram_worker.invariant in
-    let reached = g.H.HandsOver.reached c.loop-datagram_worker.sum in
     let none : length c.loop-datagram_worker.datagram_workers.items ≡ 0 = omega (arith, c.in_default.ensures.cases.0) in
-    after.covered reached (front_self reached)
-    (none_left (λ m. IsFront (g.H.View.seen m.server.host).known reached) c.loop-datagram_worker.datagram_workers.items none)
+    subst (λ l. HandsOverMails conduct counting g.H.HandsOver.summed g.H.HandsOver.reached l c.args.others c.loop-datagram_worker.pass c.args.sum.now c.loop-datagram_worker.sum)
+    (all_servers after.handed.0 _ c.loop-datagram_worker.datagram_workers.items none after.handed.1)
+    after.handed.2

@@ -1,7 +1,7 @@
-use Rattle.std.proofs.Common.{◌≡◌, ◌+◌, Bool, length, map, reverse, ap, sym, subst, ◌∙◌, arith}
-use Rattle.std.proofs.lemmas.List.{with_items_is, length-reverse}
+use Rattle.std.proofs.Common.{◌≡◌, ◌+◌, Bool, List, length, map, reverse, ap, sym, subst, ◌∙◌, arith}
+use Rattle.std.proofs.lemmas.List.{with_items_is, length-reverse, reverse-reverse}
 use Rattle.std.proofs.lemmas.Slice.Zip.{AllZip-long}
-use Rattle.std.specs.List.{AllZip, list_any}
+use Rattle.std.specs.List.{AllZip, AllByRecursion, list_any}
 use Rattle.yp_answer.specs.session.Hosts.{conduct_of}
 use Rattle.yp_rpc.specs.inside.Turns.{box_by}
 use Rattle.yp_worker.specs.Receptions.{opening_by, terms_of}
@@ -9,10 +9,14 @@ use Rattle.yp_worker.specs.inside.Receptions.{Passed}
 use Rattle.yp_worker.specs.Summing.{counting_of}
 use Rattle.yp_server.specs.declared.datagrams.DatagramWorker.{DatagramWorker}
 use Rattle.yp_server.specs.Serving.{SomeHasRisen}
-use Rattle.yp_server.specs.Counting.{CountsInboxes}
-use Rattle.yp_server.specs.inside.Workers.{AnswersDatagrams}
+use Rattle.yp_worker.specs.datagrams.Queues.{weigh}
+use Rattle.yp_server.specs.Counting.{EachCounts}
+use Rattle.yp_server.specs.inside.Counting.{BeginsMail}
+use Rattle.yp_server.specs.inside.Handing.{Handed, left_by, carried_by}
+use Rattle.yp_server.specs.inside.Workers.{AnswersDatagrams, workers_of, mails_in, held_in}
 use Rattle.yp_server.specs.inside.Serving.{before_work, after_work}
-use Rattle.yp_server.proofs.Fronts.{front_then, fronts_then, all_mailed, some_fails}
+use Rattle.yp_server.proofs.Fronts.{front_then, fronts_then, each_mailed, queues, parts_are, some_fails}
+use Rattle.yp_server.proofs.Handing.{rec_reverse}
 use Rattle.yp_server.proofs.Posted.{worked, mails_of, held_of}
 use Rattle.yp_server.proofs.workers.run_workers.Goals as goal
 
@@ -108,6 +112,27 @@ hand_over_all-mailed-requires-clause-room g c =
     let fits = c.requires.manned.3 in
     omega (arith, long, turned, count, fits)
 
+pub hand_over_all-mailed-requires-clause-queue : goal.hand_over_all-mailed-requires-clause-queue
+hand_over_all-mailed-requires-clause-queue g c =
+    let conduct = conduct_of g.H.View.seen g.H.Host.told g.H.Host.counts g.H.View.stepped g.H.Host.made g.H.Host.carried in
+    let counting = counting_of g.H.CatchUp.counted g.H.HandsOver.none g.H.HandsOver.plus in
+    let box = box_by g.I.Inbox in
+    let mails = AnswersDatagrams conduct g.H.CatchUp.counted box g.I.Inbox.faults in
+    let manned = c.requires.manned in
+    let was = manned.1 in
+    let places = c.work_beside.new.places in
+    let same = with_items_is c.args.staff.all_workers places (omega (arith, c.work_beside.ensures.count, c.deref_mut.ensures.len)) in
+    let all = worked mails manned.0 (was.others + 1) c.deref_mut.result.now places
+    (c.deref_mut.ensures.value ∙ was.workers_are) c.work_beside.ensures.count c.work_beside.ensures.works in
+    let left = c.last_of-maker.ensures.others all.0 was.others (same ∙ all.2) in
+    let these = c.gather-datagram_workers.ensures.datagram_workers ∙ mails_of all.0 was.others after_work _ left in
+    let begins = manned.6 in
+    let queue = c.args.transfers.queue in
+    let fit = queues conduct counting box g.I.Inbox.faults g.J.Site.catalogue g.J.Reception.starts queue manned.5 manned.4 manned.0 all.0 begins all.1 in
+    subst (AllByRecursion (λ (m : DatagramWorker g.row.I.Denot g.row.J.Denot g.row.H.Denot g.row.R.Denot g.row.H-Count.Denot). m.server.holding.queue ≡ queue))
+    (ap reverse (sym these) ∙ reverse-reverse c.gather-datagram_workers.result.items)
+    (rec_reverse (λ (m : DatagramWorker g.row.I.Denot g.row.J.Denot g.row.H.Denot g.row.R.Denot g.row.H-Count.Denot). m.server.holding.queue ≡ queue) all.0 fit)
+
 pub returns-clause-counted : goal.returns-clause-counted
 returns-clause-counted g c = λ inboxes datagram_workers was turns begins log reaches.
     let conduct = conduct_of g.H.View.seen g.H.Host.told g.H.Host.counts g.H.View.stepped g.H.Host.made g.H.Host.carried in
@@ -122,13 +147,26 @@ returns-clause-counted g c = λ inboxes datagram_workers was turns begins log re
     let ended = reverse c.gather-datagram_workers.result.items in
     let these : ended ≡ all.0 = c.gather-datagram_workers.ensures.datagram_workers ∙ mails_of all.0 was.others after_work _ left in
     let zip : AllZip mails datagram_workers ended = subst (λ l. AllZip mails datagram_workers l) (sym these) all.1 in
-    let handed = c.hand_over_all-mailed in
-    let reached = g.H.HandsOver.reached handed.new.sum in
+    let out = c.hand_over_all-mailed in
+    let handed = out.ensures.handed in
+    let reached = g.H.HandsOver.reached out.new.sum in
     let closed = c.close-listen.result.2 in
-    let fronts = fronts_then (λ (m : DatagramWorker g.row.I.Denot g.row.H.Denot g.row.H-Count.Denot). (g.H.View.seen m.server.host).known) reached log ended reaches handed.ensures.covered in
+    let fronts = fronts_then (λ (h : Handed g.row.H.Denot). (g.H.View.seen h.host).known) reached log handed.handed reaches handed.covered in
     let catalogue = g.J.Site.catalogue in
     let starts = g.J.Reception.starts in
-    let counts = map (λ (m : DatagramWorker g.row.I.Denot g.row.H.Denot g.row.H-Count.Denot). g.H.CatchUp.counted m.server.host) ended in
+    let queue = c.args.transfers.queue in
+    let counts = map (λ (h : Handed g.row.H.Denot). g.H.CatchUp.counted h.host) handed.handed in
+    let these_left = left_by handed.handed in
+    let these_carried = carried_by handed.handed in
+    let some = c.requires.transfers.0 in
+    let whole = c.requires.transfers.2 in
+    let none = c.requires.transfers.1 in
+    let parts = parts_are conduct counting box g.I.Inbox.faults catalogue starts queue turns inboxes datagram_workers ended handed.handed begins zip handed.servers_are in
+    let count = AllZip-long (BeginsMail conduct counting catalogue starts queue turns) inboxes datagram_workers begins in
+    let among = ap length (mails_of datagram_workers (was.others + 1) before_work _ was.workers_are) in
+    let p = parts.0 in
+    let q = parts.1 in
+    let r = handed.parts in
     record {
       connections = g.H.HandsOver.summed closed;
       datagrams = counts;
@@ -137,14 +175,26 @@ returns-clause-counted g c = λ inboxes datagram_workers was turns begins log re
           (opening_by g.L.Hall c.close-listen.result.0)
           c.close-listen.result.1.calls (g.H.HandsOver.summed closed)
           (g.H.HandsOver.reached closed) log c.close-listen.ensures.summed
-          (front_then (g.H.HandsOver.reached closed) reached log handed.ensures.kept reaches);
-      of_datagrams =
-          subst (λ (b : Bool). CountsInboxes conduct counting catalogue starts log turns b (map box inboxes) (map box handed.result.inboxes.items) counts)
-          (sym handed.ensures.fault)
-          (subst (λ l. CountsInboxes conduct counting catalogue starts log turns (list_any (λ (m : DatagramWorker g.row.I.Denot g.row.H.Denot g.row.H-Count.Denot). m.fault) ended) (map box inboxes) (map box l) counts)
-          (sym handed.ensures.inboxes)
-          (all_mailed conduct counting box g.I.Inbox.faults catalogue starts turns log inboxes datagram_workers ended begins zip fronts));
-      all_is = handed.ensures.added;
+          (front_then (g.H.HandsOver.reached closed) reached log handed.kept reaches);
+      of_datagrams = record {
+        left = these_left;
+        carried = these_carried;
+        each =
+            subst (λ (b : Bool). EachCounts conduct counting catalogue starts log turns b (map box inboxes) (map box out.result.0.inboxes.items) these_left these_carried counts)
+            (sym out.ensures.fault)
+            (subst (λ (l : List g.row.I.Denot). EachCounts conduct counting catalogue starts log turns (list_any (λ (m : DatagramWorker g.row.I.Denot g.row.J.Denot g.row.H.Denot g.row.R.Denot g.row.H-Count.Denot). m.fault) ended) (map box inboxes) (map box l) these_left these_carried counts)
+            (sym out.ensures.inboxes)
+            (each_mailed conduct counting box g.I.Inbox.faults catalogue starts queue turns log inboxes datagram_workers ended handed.handed begins zip
+            handed.servers_are handed.carries fronts));
+        all = λ weight.
+            let w = handed.all (omega (arith, q, count, among, some)) (omega (arith, r, p, count, among, whole)) weight in
+            let l = handed.left weight in
+            let t = handed.took weight in
+            let no_left = ap (λ k. weigh weight k.left) none in
+            let no_took = ap (λ k. weigh weight k.took) none in
+            omega (arith, w, l, t, no_left, no_took);
+      };
+      all_is = handed.added;
     }
 
 pub returns-clause-cause : goal.returns-clause-cause
@@ -162,6 +212,7 @@ returns-clause-cause g c = λ inboxes datagram_workers was turns begins fails.
     let these : ended ≡ all.0 = c.gather-datagram_workers.ensures.datagram_workers ∙ mails_of all.0 was.others after_work _ left in
     let zip : AllZip mails datagram_workers ended = subst (λ l. AllZip mails datagram_workers l) (sym these) all.1 in
     let handed = c.hand_over_all-mailed in
+    let queue = c.args.transfers.queue in
     subst (λ l. SomeHasRisen (map g.I.Inbox.faults inboxes) (map g.I.Inbox.faults l)) (sym handed.ensures.inboxes)
-    (some_fails conduct counting box g.I.Inbox.faults g.J.Site.catalogue g.J.Reception.starts turns inboxes datagram_workers ended
+    (some_fails conduct counting box g.I.Inbox.faults g.J.Site.catalogue g.J.Reception.starts queue turns inboxes datagram_workers ended
     begins zip (sym handed.ensures.fault ∙ fails))

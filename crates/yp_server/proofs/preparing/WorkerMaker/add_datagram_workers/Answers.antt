@@ -1,6 +1,7 @@
 use Rattle.std.proofs.Common.{◌≡◌, List, [], ◌∷◌, ◌++◌, refl, sym, ap, ◌∙◌, reverse, length, subst, arith}
 use Rattle.std.specs.List.{AllZip}
 use Rattle.std.proofs.lemmas.List.{length_push, length-reverse, reverse-reverse}
+use Rattle.yp_worker.specs.datagrams.Mailing.{Holding}
 use Rattle.yp_server.specs.declared.workers.ServerWorker.TheVariants.{Datagrams}
 use Rattle.yp_server.specs.Counting.{count_totals}
 use Rattle.yp_server.specs.Serving.{conduct_at, IsAtStart}
@@ -23,6 +24,7 @@ loop-inbox-init g c =
       readers = omega (arith, long);
       knows = c.requires.knows;
       charges = omega (arith, long);
+      transfers = (c.requires.transfers.0, omega (arith, long));
     }
 
 pub loop-inbox-preserved : goal.loop-inbox-preserved
@@ -34,9 +36,9 @@ loop-inbox-preserved g c =
     let made = c.datagram_worker-datagram_worker in
     let pushed = c.push_reserved.ensures.items in
     let longer = length_push c.loop-inbox.all_workers.items (Datagrams made.result) in
-    let less = c.split_off.ensures in
+    let less = c.split_off-in-Some.ensures in
     let begins = BeginsMail (conduct_at g.B.Reader.View.seen g.B.Reader.View.stepped g.J.Supplies.text g.J.Supplies.hosts) count_totals
-    g.J.Site.catalogue g.J.Reception.starts c.args.turns in
+    g.J.Site.catalogue g.J.Reception.starts c.args.self.now.pending.now c.args.turns in
     let knows = all_last (λ reader. IsAtStart g.J.Site.catalogue g.J.Reception.starts (g.B.Reader.View.seen reader)) _ _ _
     c.in-Some-pop-2.ensures.items before.knows in
     record {
@@ -63,6 +65,12 @@ loop-inbox-preserved g c =
       knows = all_before (λ reader. IsAtStart g.J.Site.catalogue g.J.Reception.starts (g.B.Reader.View.seen reader)) _ _ _
           c.in-Some-pop-2.ensures.items before.knows;
       charges = omega (arith, before.charges, one, less);
+      transfers =
+          let cut = c.split_off.ensures in
+          let parts = cut.parts in (
+            cut.same ∙ ap (λ (h : Holding). record h { parts = c.split_off.new.pass.parts }) before.transfers.0,
+            omega (arith, before.transfers.1, parts, one),
+          );
     }
 
 pub returns-clause-workers : goal.returns-clause-workers
@@ -70,7 +78,7 @@ returns-clause-workers g c =
     let after = c.loop-inbox.invariant.workers in
     let none : length c.loop-inbox.inboxes.items ≡ 0 = omega (arith, c.in_default.ensures.cases.0) in
     let begins = BeginsMail (conduct_at g.B.Reader.View.seen g.B.Reader.View.stepped g.J.Supplies.text g.J.Supplies.hosts) count_totals
-    g.J.Site.catalogue g.J.Reception.starts c.args.turns in (
+    g.J.Site.catalogue g.J.Reception.starts c.args.self.now.pending.now c.args.turns in (
       after.0,
       after.2,
       subst (λ l. AllZip begins l after.0) (all_inboxes after.1 c.loop-inbox.inboxes.items c.args.inboxes.items none after.3) after.4,

@@ -1,4 +1,5 @@
-use Rattle.std.proofs.Common.{length, arith}
+use Rattle.std.proofs.Common.{length, ap, sym, ◌∙◌, arith}
+use Rattle.yp_worker.specs.datagrams.Mailing.{nothing_held}
 use Rattle.yp_server.specs.inside.Serving.{before_work}
 use Rattle.yp_server.proofs.Posted.{others_behind}
 use Rattle.yp_server.proofs.preparing.WorkerMaker.add_workers.Goals as goal
@@ -27,3 +28,13 @@ add_connection_workers-requires-clause-room g c =
     let added = c.add_datagram_workers.ensures.count in
     let same = c.add_datagram_workers.ensures.room in
     omega (arith, fits, added, same)
+
+pub returns-clause-transfers : goal.returns-clause-transfers
+returns-clause-transfers g c =
+    let same = c.add_connection_workers.ensures.transfers in
+    let parts = ap (λ h. h.parts) same in
+    let cut = c.add_datagram_workers.ensures.transfers in
+    let less = cut.1 in (
+      same ∙ cut.0 ∙ ap (nothing_held c.args.self.now.pending.now) (sym parts),
+      omega (arith, parts, less),
+    )

@@ -1,12 +1,16 @@
-use Rattle.std.proofs.Common.{false, ap, ◌∙◌}
-use Rattle.yp_server.specs.Serving.{at_rest}
+use Rattle.std.proofs.Common.{None, false, ap, ◌∙◌}
+use Rattle.yp_server.specs.inside.Serving.{fresh_worker}
 use Rattle.yp_server.proofs.preparing.WorkerMaker.datagram_worker.Goals as goal
 
 pub returns : goal.returns
-returns g c = c.new.ensures ∙ ap (λ host. record {
-  inbox = c.args.datagram_resources.inbox;
-  server = at_rest host;
-  room = c.args.datagram_resources.room;
-  turns = c.args.datagram_resources.turns;
-  fault = false;
-}) c.new-host.ensures
+returns g c =
+    let resources = c.args.datagram_resources in
+    c.new.ensures ∙ ap (λ server. record {
+      inbox = resources.inbox;
+      server = server;
+      room = resources.room;
+      turns = resources.turns;
+      fault = false;
+    })
+    (c.new-server.ensures ∙ ap (λ host. record { host = host; waiting = None; holding = resources.transfers }) c.new-host.ensures
+    ∙ ap (λ holding. record { host = fresh_worker resources.reader; waiting = None; holding = holding }) c.requires.transfers)

@@ -1,11 +1,12 @@
 use Rattle.std.proofs.Common.{◌≡◌, ◌+◌, ◌-◌, ℕ, length, subst, ap, sym, ◌∙◌, arith}
+use Rattle.std.specs.List.{AllZip}
 use Rattle.std.proofs.lemmas.Slice.Zip.{AllZip-long}
+use Rattle.yp_worker.specs.datagrams.Mailing.{QueueName, Holding, nothing_held}
 use Rattle.yp_server.specs.inside.Serving.{before_work}
-use Rattle.yp_server.specs.inside.Workers.{workers_of}
 use Rattle.yp_server.specs.Counting.{count_totals}
 use Rattle.yp_server.specs.Serving.{conduct_at}
 use Rattle.yp_server.specs.inside.Counting.{BeginsMail}
-use Rattle.yp_server.proofs.Posted.{manned}
+use Rattle.yp_server.proofs.Posted.{manned, mails_of}
 use Rattle.yp_server.proofs.preparing.WorkerMaker.serve.Goals as goal
 
 pub run_workers-requires-clause-manned : goal.run_workers-requires-clause-manned
@@ -13,29 +14,68 @@ run_workers-requires-clause-manned g c κs within =
     let added = c.add_workers.ensures.workers in
     let parts = c.requires.out in
     let room = c.requires.room in
-    let count = AllZip-long (BeginsMail (conduct_at g.B.Reader.View.seen g.B.Reader.View.stepped g.J.Supplies.text g.J.Supplies.hosts) count_totals
-    g.J.Site.catalogue g.J.Reception.starts c.args.worker_resources.turns) c.args.worker_resources.inboxes.items added.0 added.2 in (
+    let inboxes = c.args.worker_resources.inboxes.items in
+    let turns = c.args.worker_resources.turns in
+    let conduct = conduct_at g.B.Reader.View.seen g.B.Reader.View.stepped g.J.Supplies.text g.J.Supplies.hosts in
+    let queue = ap (λ (h : Holding). h.queue) c.add_workers.ensures.transfers.0 in
+    let begin = subst (λ (q : QueueName). AllZip (BeginsMail conduct count_totals g.J.Site.catalogue g.J.Reception.starts q turns) inboxes added.0)
+    (sym queue) added.2 in
+    let count =
+    AllZip-long (BeginsMail conduct count_totals g.J.Site.catalogue g.J.Reception.starts c.args.self.now.pending.now turns) inboxes added.0 added.2 in (
       added.0,
       manned added.0 before_work (length c.args.worker_resources.memory.all_buffers.items) g.J.Ledger.parts _ c.requires.some.0
           (sym parts.1 ∙ parts.2) added.1,
       omega (arith, count, room.1),
       omega (arith, count, room.2),
+      inboxes,
+      turns,
+      begin,
+    )
+
+pub run_workers-requires-clause-transfers : goal.run_workers-requires-clause-transfers
+run_workers-requires-clause-transfers g c κs within =
+    let added = c.add_workers.ensures.workers in
+    let left = c.add_workers.new.shares.transfers in
+    let is = c.add_workers.ensures.transfers in
+    let inboxes = c.args.worker_resources.inboxes.items in
+    let begins = BeginsMail (conduct_at g.B.Reader.View.seen g.B.Reader.View.stepped g.J.Supplies.text g.J.Supplies.hosts) count_totals
+    g.J.Site.catalogue g.J.Reception.starts c.args.self.now.pending.now c.args.worker_resources.turns in
+    let queue = ap (λ h. h.queue) is.0 in
+    let count = AllZip-long begins inboxes added.0 added.2 in
+    let among =
+    ap length (mails_of added.0 (length c.args.worker_resources.memory.all_buffers.items) before_work _ added.1) in
+    let some = c.requires.inboxes.0 in (
+      omega (arith, some, count, among),
+      is.0 ∙ ap (λ q. nothing_held q left.parts) (sym queue),
+      omega (arith, count, among) ∙ is.1 ∙ ap (λ h. h.parts) c.requires.transfers,
     )
 
 pub returns-clause-counted : goal.returns-clause-counted
 returns-clause-counted g c =
     let added = c.add_workers.ensures.workers in
     let parts = c.requires.out in
-    c.run_workers.ensures.counted c.args.worker_resources.inboxes.items added.0
+    let inboxes = c.args.worker_resources.inboxes.items in
+    let turns = c.args.worker_resources.turns in
+    let conduct = conduct_at g.B.Reader.View.seen g.B.Reader.View.stepped g.J.Supplies.text g.J.Supplies.hosts in
+    let queue = ap (λ (h : Holding). h.queue) c.add_workers.ensures.transfers.0 in
+    let begin = subst (λ (q : QueueName). AllZip (BeginsMail conduct count_totals g.J.Site.catalogue g.J.Reception.starts q turns) inboxes added.0)
+    (sym queue) added.2 in
+    c.run_workers.ensures.counted inboxes added.0
     (manned added.0 before_work (length c.args.worker_resources.memory.all_buffers.items) g.J.Ledger.parts _ c.requires.some.0
     (sym parts.1 ∙ parts.2) added.1)
-    c.args.worker_resources.turns added.2
+    turns begin
 
 pub returns-clause-cause : goal.returns-clause-cause
 returns-clause-cause g c =
     let added = c.add_workers.ensures.workers in
     let parts = c.requires.out in
-    c.run_workers.ensures.cause c.args.worker_resources.inboxes.items added.0
+    let inboxes = c.args.worker_resources.inboxes.items in
+    let turns = c.args.worker_resources.turns in
+    let conduct = conduct_at g.B.Reader.View.seen g.B.Reader.View.stepped g.J.Supplies.text g.J.Supplies.hosts in
+    let queue = ap (λ (h : Holding). h.queue) c.add_workers.ensures.transfers.0 in
+    let begin = subst (λ (q : QueueName). AllZip (BeginsMail conduct count_totals g.J.Site.catalogue g.J.Reception.starts q turns) inboxes added.0)
+    (sym queue) added.2 in
+    c.run_workers.ensures.cause inboxes added.0
     (manned added.0 before_work (length c.args.worker_resources.memory.all_buffers.items) g.J.Ledger.parts _ c.requires.some.0
     (sym parts.1 ∙ parts.2) added.1)
-    c.args.worker_resources.turns added.2
+    turns begin
