@@ -10,6 +10,7 @@ use Rattle.yp_messages.specs.declared.transfer.XfrStat.{XfrStat}
 use Rattle.yp_messages.specs.declared.transfer.XfrStat.TheVariants as told
 use Rattle.yp_version.specs.Versions.{MapVersion}
 use Rattle.yp_headline.specs.inside.Tried.{somebody, version_with, order_reply, fetched_bytes, first_log, success_call, transfer_world, IsWrongTransfer}
+use Rattle.yp_headline.specs.inside.Files.{streamed}
 use Rattle.yp_headline.specs.inside.TriedFiles.{called_unasked, called_of}
 use Rattle.yp_headline.specs.World.{Dialed}
 use Rattle.yp_headline.specs.Fetching.{Gives}
@@ -60,20 +61,20 @@ only_entry map version (one ∷ two ∷ front, back, is) = absurd cc
 
 module _ (one : FirstIsOne) where
   -- the server gave its order alone
-  pub called_of_order : IsWrongTransfer (called_of (record { peer = somebody; came = sent (order_reply 1 9) } ∷ []))
+  pub called_of_order : IsWrongTransfer (called_of (streamed somebody (sent (order_reply 1 9)) ∷ []))
   called_of_order log transfers =
       let is = transfers.called_back.0 in
       let shows = is.shows (status_is is.taken.transid is.taken.prog is.stat is.says) in
-      let server = one_server (record { peer = somebody; came = sent (order_reply 1 9) }) shows.2.server shows.2.among in
-      order_alone one shows.2.fetched (subst (λ (d : Dialed). Gives d.came shows.2.fetched) server shows.2.gives)
+      let server = one_server (streamed somebody (sent (order_reply 1 9))) shows.2.server shows.2.among in
+      order_alone one shows.2.fetched (subst (λ (d : Dialed). Gives d shows.2.fetched) server shows.2.gives)
 
   -- it gave a version that the log hasn't
   pub called_unshown : Transfers transfer_world first_log → ⊥
   called_unshown transfers =
       let is = transfers.called_back.0 in
       let shows = is.shows (status_is is.taken.transid is.taken.prog is.stat is.says) in
-      let server = one_server (record { peer = somebody; came = fetched_bytes }) shows.2.server shows.2.among in
-      let given = gives_one one shows.2.fetched (subst (λ (d : Dialed). Gives d.came shows.2.fetched) server shows.2.gives) in
+      let server = one_server (streamed somebody fetched_bytes) shows.2.server shows.2.among in
+      let given = gives_one one shows.2.fetched (subst (λ (d : Dialed). Gives d shows.2.fetched) server shows.2.gives) in
       let entry = only_entry is.taken.map shows.0 shows.1 in
       let order : 7 ≡ 9 = sym (ap (λ (v : MapVersion). v.order) entry) ∙ ap (λ (v : MapVersion). v.order) shows.2.marked
       ∙ ap (λ (v : MapVersion). v.order) given in

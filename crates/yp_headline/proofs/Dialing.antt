@@ -37,6 +37,7 @@ use Rattle.yp_host.specs.Making.{MapIsMade, OffersBuilt, Tries}
 use Rattle.yp_host.specs.Transferring.{MapIsTransferred, request_for, asker_of}
 use Rattle.yp_host.specs.Connections.{Service, local_conduct, Transition, transition_of, transitions_of, GaveVersion}
 use Rattle.yp_headline.specs.Fetching.{Gives}
+use Rattle.yp_headline.specs.inside.Files.{streamed}
 use Rattle.yp_headline.proofs.Given.{fetched_gives}
 
 -- ---- a dial that tells its wires
@@ -155,7 +156,7 @@ fetched_by wanted (Ok peer) outcome old new by opened = ⊎_elim (λ fails. none
 pub record WireGave (old new : Option Wires) (version : MapVersion) : Type 0 where
   pub wire : Connected
   pub came : Came old new (wire ∷ [])
-  pub gave : (stream : List ℕ) → wire.input ≡ Some stream → Gives stream version
+  pub gave : (stream : List ℕ) → wire.input ≡ Some stream → Gives (streamed wire.peer stream) version
 
 -- one of which a version was fetched that was wanted
 pub record WireFetched (wanted : Wanted) (old new : Option Wires) (version : MapVersion) : Type 0 where
@@ -190,7 +191,7 @@ gave_by wanted address version old new by opened =
     record {
       wire = one.wire;
       came = one.came;
-      gave = λ stream input. fetched_gives wanted stream version (one.fetched stream input);
+      gave = λ stream input. fetched_gives wanted one.wire.peer stream version (one.fetched stream input);
     }
 
 -- ---- a call back
@@ -412,7 +413,7 @@ pub record Among (old new : Option Wires) (version : MapVersion) : Type 0 where
   pub wire : Connected
   pub back : List Connected
   pub came : Came old new (front ++ wire ∷ back)
-  pub gave : (stream : List ℕ) → wire.input ≡ Some stream → Gives stream version
+  pub gave : (stream : List ℕ) → wire.input ≡ Some stream → Gives (streamed wire.peer stream) version
 
 among_later : (a b c : Option Wires) (version : MapVersion) (more : List Connected) → Came a b more → Among b c version
     → Among a c version

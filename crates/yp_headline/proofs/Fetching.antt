@@ -1,12 +1,11 @@
 -- A world that is right: a map that is fetched behind a call, and then asked for.
-use Rattle.std.proofs.Common.{◌≡◌, ℕ, zero, suc, Bool, true, false, cond, List, [], ◌∷◌, ◌++◌, map, Some, refl, sym, subst, arith, inl, inr, append_assoc}
+use Rattle.std.proofs.Common.{◌≡◌, ℕ, zero, suc, Bool, true, false, cond, pos, List, [], ◌∷◌, ◌++◌, map, Some, refl, sym, subst, arith, inl, inr, append_assoc}
 use Rattle.std.specs.Prelude.{◌==◌}
 use Rattle.std.specs.List.Sorted.{IsStrictlyIncreasing}
 use Rattle.std.proofs.lemmas.List.{append-nil}
 use Rattle.std.proofs.lemmas.List.Elements.{All-nil, All-cons}
-use Rattle.yp_xdr.specs.Kind.{U32}
-use Rattle.yp_messages.specs.Messages.{name}
-use Rattle.yp_xdr.specs.Reading.{Remaining, word_at, content_at, opaque_at, bool_at}
+use Rattle.yp_messages.specs.Messages.{resp_order, resp_master}
+use Rattle.yp_xdr.specs.Reading.{Remaining, word_at, content_at, opaque_at, bool_at, one_of_at}
 use Rattle.yp_xdr.specs.Spelling.{fixed, opaque}
 use Rattle.yp_rpc.specs.Records.{Fragments, IsShort, sent, sent_within}
 use Rattle.yp_rpc.specs.Reply.{words}
@@ -18,7 +17,8 @@ use Rattle.yp_answer.specs.Numbers.{record_max}
 use Rattle.yp_answer.specs.Served.{maps_on}
 use Rattle.yp_answer.specs.Reply.{Response, Bytes, Takes, reply, xfr_reply}
 use Rattle.yp_headline.specs.inside.Tried.{somebody, version_with, match_call, match_reply, one_map, first_log, order_reply, master_reply, all_reply, fetched_bytes, xfr_call, fetched_log, its_transfer, transfer_world}
-use Rattle.yp_headline.specs.Fetching.{Says, SaysRows, Gives}
+use Rattle.yp_headline.specs.inside.Files.{streamed}
+use Rattle.yp_headline.specs.Fetching.{Reads, Says, RowsAre, Gives}
 use Rattle.yp_headline.specs.Serving.{IsReply}
 use Rattle.yp_headline.specs.Publishing.{IsFetched}
 use Rattle.yp_headline.specs.Headline.{Replies, Transfers}
@@ -31,40 +31,41 @@ use Rattle.yp_headline.proofs.Matched.{match_record}
 abbrev pub left_at : List ℕ → Remaining
 left_at bytes = record { at = 24; bytes = bytes }
 
-pub first_order : Says 1 U32 9 (order_reply 1 9)
-unfolding word_at content_at opaque_at
+pub first_order : Says 1 (Reads resp_order (pos 1, 9)) (order_reply 1 9)
+unfolding word_at content_at opaque_at one_of_at
 first_order = record {
   left = left_at (words (1 ∷ 9 ∷ []));
-  behind = record { at = 32; bytes = [] };
-  results = record { verifier = (0, []); head = refl };
-  value_is = refl;
+  verifier = (0, []);
+  head = refl;
+  results = (record { at = 32; bytes = [] }, refl);
 }
 
-pub its_master : Says 2 name (109 ∷ []) (master_reply 2)
-unfolding word_at content_at opaque_at
+pub its_master : Says 2 (Reads resp_master (pos 1, 109 ∷ [])) (master_reply 2)
+unfolding word_at content_at opaque_at one_of_at
 its_master = record {
   left = left_at (0 ∷ 0 ∷ 0 ∷ 1 ∷ 0 ∷ 0 ∷ 0 ∷ 1 ∷ 109 ∷ 0 ∷ 0 ∷ 0 ∷ []);
-  behind = record { at = 36; bytes = [] };
-  results = record { verifier = (0, []); head = refl };
-  value_is = refl;
+  verifier = (0, []);
+  head = refl;
+  results = (record { at = 36; bytes = [] }, refl);
 }
 
-pub second_order : Says 4 U32 9 (order_reply 4 9)
-unfolding word_at content_at opaque_at
+pub second_order : Says 4 (Reads resp_order (pos 1, 9)) (order_reply 4 9)
+unfolding word_at content_at opaque_at one_of_at
 second_order = record {
   left = left_at (words (1 ∷ 9 ∷ []));
-  behind = record { at = 32; bytes = [] };
-  results = record { verifier = (0, []); head = refl };
-  value_is = refl;
+  verifier = (0, []);
+  head = refl;
+  results = (record { at = 32; bytes = [] }, refl);
 }
 
-pub its_rows : SaysRows 3 ((107 ∷ [], 119 ∷ []) ∷ []) (all_reply 3)
-unfolding word_at content_at opaque_at bool_at
+pub its_rows : Says 3 (RowsAre ((107 ∷ [], 119 ∷ []) ∷ [])) (all_reply 3)
+unfolding word_at content_at opaque_at bool_at one_of_at
 its_rows = record {
   left = left_at (0 ∷ 0 ∷ 0 ∷ 1 ∷ 0 ∷ 0 ∷ 0 ∷ 1 ∷ 0 ∷ 0 ∷ 0 ∷ 1 ∷ 119 ∷ 0 ∷ 0 ∷ 0
       ∷ 0 ∷ 0 ∷ 0 ∷ 1 ∷ 107 ∷ 0 ∷ 0 ∷ 0 ∷ 0 ∷ 0 ∷ 0 ∷ 0 ∷ []);
-  results = record { verifier = (0, []); head = refl };
-  rows_are = (record { at = 48; bytes = 0 ∷ 0 ∷ 0 ∷ 0 ∷ [] }, refl, (record { at = 52; bytes = [] }, inl refl));
+  verifier = (0, []);
+  head = refl;
+  results = (record { at = 48; bytes = 0 ∷ 0 ∷ 0 ∷ 0 ∷ [] }, refl, inl (record { at = 52; bytes = [] }, refl));
 }
 
 pub order_record : Fragments reply_max (order_reply 1 9) (sent (order_reply 1 9))
@@ -123,23 +124,34 @@ again_record = record {
   };
 }
 
-pub gives : Gives fetched_bytes (version_with 9 119)
+pub gives : Gives (streamed somebody fetched_bytes) (version_with 9 119)
 gives = record {
   rows = (107 ∷ [], 119 ∷ []) ∷ [];
-  second = sent (master_reply 2) ++ (sent (all_reply 3) ++ sent (order_reply 4 9));
-  third = sent (all_reply 3) ++ sent (order_reply 4 9);
-  fourth = sent (order_reply 4 9);
-  rest = [];
-  says_order = record { reply = order_reply 1 9; first = sent (order_reply 1 9); fragments = order_record; whole = refl; says = first_order };
-  says_master = record { reply = master_reply 2; first = sent (master_reply 2); fragments = master_record; whole = refl; says = its_master };
-  says_rows = record { reply = all_reply 3; first = sent (all_reply 3); fragments = rows_record; whole = refl; says = its_rows };
-  says_again = record {
-    reply = order_reply 4 9;
-    first = sent (order_reply 4 9);
-    fragments = again_record;
-    whole = sym (append-nil (sent (order_reply 4 9)));
-    says = second_order;
-  };
+  order = order_reply 1 9;
+  master = master_reply 2;
+  others = all_reply 3 ∷ order_reply 4 9 ∷ [];
+  heard = (
+    sent (order_reply 1 9),
+    sent (master_reply 2) ++ (sent (all_reply 3) ++ sent (order_reply 4 9)),
+    refl,
+    order_record,
+    (
+      sent (master_reply 2),
+      sent (all_reply 3) ++ sent (order_reply 4 9),
+      refl,
+      master_record,
+      (
+        sent (all_reply 3),
+        sent (order_reply 4 9),
+        refl,
+        rows_record,
+        (sent (order_reply 4 9), [], sym (append-nil (sent (order_reply 4 9))), again_record, tt),
+      ),
+    ),
+  );
+  says_order = first_order;
+  says_master = its_master;
+  says_rows = (its_rows, second_order);
   not_secure = refl;
   listed = one_listed (107 ∷ [], 119 ∷ []);
 }
@@ -179,7 +191,7 @@ two_rise false = λ k within. absurd (omega (arith, within))
 
 fetched : IsFetched transfer_world (version_with 9 119)
 fetched = record {
-  server = record { peer = somebody; came = fetched_bytes };
+  server = streamed somebody fetched_bytes;
   among = ([], [], refl);
   fetched = version_with 9 119;
   gives = gives;

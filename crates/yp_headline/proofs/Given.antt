@@ -1,8 +1,7 @@
 -- What is fetched by bytes is what they give.
-use Rattle.std.proofs.Common.{◌≡◌, ℕ, ◌+◌, ◌%◌, ◌^◌, false, List, Option, Some, None, Result, Ok, Err, refl, sym, ap, ◌∙◌, subst, ⊎_elim, inl, inr, eqb}
+use Rattle.std.proofs.Common.{◌≡◌, ℕ, ◌+◌, ◌%◌, ◌^◌, false, List, [], ◌∷◌, Option, Some, None, Result, Ok, Err, refl, sym, ap, ◌∙◌, subst, ⊎_elim, inl, inr, eqb}
 use Rattle.std.proofs.lemmas.Bool.Decides.{eqb_tells}
-use Rattle.yp_xdr.specs.Kind.{U32}
-use Rattle.yp_messages.specs.Messages.{name}
+use Rattle.yp_io.specs.declared.stream.Peer.{Peer}
 use Rattle.yp_version.specs.Rows.{Row, listed}
 use Rattle.yp_version.specs.Versions.{MapVersion, unmarked}
 use Rattle.yp_version.specs.Drafts.{Draft, empty_draft, with_rows}
@@ -14,7 +13,8 @@ use Rattle.yp_transfer.specs.declared.fault.XfrFault.{XfrFault}
 use Rattle.yp_transfer.specs.Faults.{of_client}
 use Rattle.yp_transfer.specs.Fetching.{Wanted, FetchOutcome, Course, Unless, ByAnswer, AsksThen, InMemory, Gives as GivesDraft, AsksRows, against_names, against_order, against_master, against_second}
 use Rattle.yp_transfer.specs.Fetched.{StreamPlace, place_of, IsReplied, ReadsReply, by_bytes, rows_of, draft_of, Fetched}
-use Rattle.yp_headline.specs.Fetching.{Replied, Says, SaysRows, Gives}
+use Rattle.yp_headline.specs.Fetching.{Says, RowsAre, Gives}
+use Rattle.yp_headline.specs.inside.Files.{streamed}
 use Rattle.yp_headline.proofs.Said.{order_said, master_said, rows_said}
 use Rattle.yp_headline.proofs.Built.{rows_keep}
 use Rattle.yp_headline.proofs.Listing.{listed_is}
@@ -56,16 +56,9 @@ answered : {V : Type 0} (limit : ℕ) (said : ℕ → List ℕ → Result V Clie
 answered limit said follows version old new asks =
     answered_by limit said follows version old asks.middle new asks.answer asks.answered asks.goes_on
 
-replied_at : {V : Type 0} (limit : ℕ) (said : ℕ → List ℕ → Result V ClientFault) (value : V) (xid : ℕ)
-    (old new : StreamPlace) → IsReplied limit said (Ok value) old new → old.xid ≡ xid
-    → Replied limit (λ reply. said xid reply ≡ Ok value) old.bytes new.bytes
-replied_at limit said value xid old new is at = record {
-  reply = is.reply;
-  first = is.taken;
-  fragments = is.fragments;
-  whole = is.whole;
-  says = subst (λ n. said n is.reply ≡ Ok value) at is.says;
-}
+said_at : {V : Type 0} (limit : ℕ) (said : ℕ → List ℕ → Result V ClientFault) (value : V) (xid : ℕ)
+    (old new : StreamPlace) (is : IsReplied limit said (Ok value) old new) → old.xid ≡ xid → said xid is.reply ≡ Ok value
+said_at limit said value xid old new is at = subst (λ n. said n is.reply ≡ Ok value) at is.says
 
 -- ---- rows
 
@@ -75,43 +68,18 @@ draft_is draft after (Ok done) e = (cc, refl)
 draft_is draft after (Err fault) e = absurd cc
 
 -- the rows of a reply, and the draft that they make
-record Made (order : ℕ) (master : List ℕ) (draft : Draft) (bytes others : List ℕ) : Type 0 where
+record Made (order : ℕ) (master : List ℕ) (draft : Draft) (reply : List ℕ) : Type 0 where
   rows : List Row
-  replied : Replied all_max (SaysRows 3 rows) bytes others
+  says : Says 3 (RowsAre rows) reply
   draft_is_of : draft ≡ with_rows (empty_draft order master) rows
 
-rows_say : (order : ℕ) (master : List ℕ) (draft : Draft) (bytes others : List ℕ)
-    → Replied all_max (λ reply. rows_of (empty_draft order master) 3 reply ≡ Ok draft) bytes others
-    → Made order master draft bytes others
-rows_say order master draft bytes others is =
-    let said = all_said (empty_draft order master) 3 is.reply in
-    let both = draft_is said.draft draft said.end is.says in
-    let rows = rows_said (empty_draft order master) 3 is.reply both.1 in
-    record {
-      rows = rows.0;
-      replied = record { reply = is.reply; first = is.first; fragments = is.fragments; whole = is.whole; says = rows.1 };
-      draft_is_of = sym both.0 ∙ rows.2;
-    }
-
-says_order_of : (xid order : ℕ) (bytes others : List ℕ) → Replied reply_max (λ reply. order_of xid reply ≡ Ok order) bytes others
-    → Replied reply_max (Says xid U32 order) bytes others
-says_order_of xid order bytes others is = record {
-  reply = is.reply;
-  first = is.first;
-  fragments = is.fragments;
-  whole = is.whole;
-  says = order_said xid is.reply order is.says;
-}
-
-says_master_of : (xid : ℕ) (master bytes others : List ℕ) → Replied reply_max (λ reply. master_of xid reply ≡ Ok master) bytes others
-    → Replied reply_max (Says xid name master) bytes others
-says_master_of xid master bytes others is = record {
-  reply = is.reply;
-  first = is.first;
-  fragments = is.fragments;
-  whole = is.whole;
-  says = master_said xid is.reply master is.says;
-}
+rows_say : (order : ℕ) (master : List ℕ) (draft : Draft) (reply : List ℕ) → rows_of (empty_draft order master) 3 reply ≡ Ok draft
+    → Made order master draft reply
+rows_say order master draft reply is =
+    let said = all_said (empty_draft order master) 3 reply in
+    let both = draft_is said.draft draft said.end is in
+    let rows = rows_said (empty_draft order master) 3 reply both.1 in
+    record { rows = rows.0; says = rows.1; draft_is_of = sym both.0 ∙ rows.2 }
 
 none_of : (against : Option XfrFault) (follows : Course StreamPlace) (version : MapVersion) (old new : StreamPlace)
     → Unless against follows (Ok version) old new → against ≡ None
@@ -130,9 +98,9 @@ same_given a b is = cc
 
 -- ---- the whole
 
-pub fetched_gives : (wanted : Wanted) (stream : List ℕ) (version : MapVersion)
-    → Fetched wanted (place_of 1 0 stream) (Ok version) → Gives stream version
-fetched_gives wanted stream version fetched =
+pub fetched_gives : (wanted : Wanted) (peer : Peer) (stream : List ℕ) (version : MapVersion)
+    → Fetched wanted (place_of 1 0 stream) (Ok version) → Gives (streamed peer stream) version
+fetched_gives wanted peer stream version fetched =
     let first = place_of 1 0 stream in
     let asks = went_on (against_names wanted) _ version first fetched.0 fetched.1 in
     let one = answered reply_max order_of _ version first fetched.0 asks in
@@ -148,8 +116,8 @@ fetched_gives wanted stream version fetched =
     let second_xid : one.middle.xid ≡ 2 = one.replied.xid in
     let third_xid : two.middle.xid ≡ 3 = two.replied.xid ∙ ap (λ n. (n + 1) % 2 ^ 32) second_xid in
     let fourth_xid : three.middle.xid ≡ 4 = three.replied.xid ∙ ap (λ n. (n + 1) % 2 ^ 32) third_xid in
-    let rows = rows_say one.value two.value three.value two.middle.bytes three.middle.bytes
-    (replied_at all_max (rows_of (empty_draft one.value two.value)) three.value 3 two.middle three.middle three.replied
+    let rows = rows_say one.value two.value three.value three.replied.reply
+    (said_at all_max (rows_of (empty_draft one.value two.value)) three.value 3 two.middle three.middle three.replied
     third_xid) in
     let kept = rows_keep rows.rows (empty_draft one.value two.value) in
     let order : three.value.order ≡ one.value = ap (λ (d : Draft). d.order) rows.draft_is_of ∙ kept.0 in
@@ -163,21 +131,39 @@ fetched_gives wanted stream version fetched =
     ap (λ (v : MapVersion). v.master) version_is ∙ ap (λ (d : Draft). d.master) rows.draft_is_of ∙ kept.1 in
     record {
       rows = rows.rows;
-      second = one.middle.bytes;
-      third = two.middle.bytes;
-      fourth = three.middle.bytes;
-      rest = four.middle.bytes;
-      says_order = subst (λ (n : ℕ). Replied reply_max (Says 1 U32 n) stream one.middle.bytes) (sym order_is)
-          (says_order_of 1 one.value stream one.middle.bytes
-          (replied_at reply_max order_of one.value 1 first one.middle one.replied refl));
-      says_master = subst (λ (m : List ℕ). Replied reply_max (Says 2 name m) one.middle.bytes two.middle.bytes) (sym master_is)
-          (says_master_of 2 two.value one.middle.bytes two.middle.bytes
-          (replied_at reply_max master_of two.value 2 one.middle two.middle two.replied second_xid));
-      says_rows = rows.replied;
-      says_again = subst (λ (n : ℕ). Replied reply_max (Says 4 U32 n) three.middle.bytes four.middle.bytes)
-          (sym (order_is ∙ again))
-          (says_order_of 4 four.value three.middle.bytes four.middle.bytes
-          (replied_at reply_max order_of four.value 4 three.middle four.middle four.replied fourth_xid));
+      order = one.replied.reply;
+      master = two.replied.reply;
+      others = three.replied.reply ∷ four.replied.reply ∷ [];
+      heard = (
+        one.replied.taken,
+        one.middle.bytes,
+        one.replied.whole,
+        one.replied.fragments,
+        (
+          two.replied.taken,
+          two.middle.bytes,
+          two.replied.whole,
+          two.replied.fragments,
+          (
+            three.replied.taken,
+            three.middle.bytes,
+            three.replied.whole,
+            three.replied.fragments,
+            (four.replied.taken, four.middle.bytes, four.replied.whole, four.replied.fragments, tt),
+          ),
+        ),
+      );
+      says_order = order_said 1 one.replied.reply version.order
+          (one.replied.says ∙ ap (λ (n : ℕ). Ok n) (sym order_is));
+      says_master = master_said 2 two.replied.reply version.master
+          (said_at reply_max master_of two.value 2 one.middle two.middle two.replied second_xid
+          ∙ ap (λ (m : List ℕ). Ok m) (sym master_is));
+      says_rows = (
+        rows.says,
+        order_said 4 four.replied.reply version.order
+            (said_at reply_max order_of four.value 4 three.middle four.middle four.replied fourth_xid
+            ∙ ap (λ (n : ℕ). Ok n) (sym (order_is ∙ again))),
+      );
       not_secure = ap (λ (v : MapVersion). v.secure) version_is;
       listed = listed_is one.value two.value rows.rows version.rows
           (ap (λ (v : MapVersion). v.rows) version_is ∙ ap (λ (d : Draft). listed d.rows) rows.draft_is_of);

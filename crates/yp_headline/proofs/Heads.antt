@@ -13,7 +13,7 @@ use Rattle.yp_rpc.specs.Call.{auth_kind}
 use Rattle.yp_rpc.specs.declared.reply.ReplyHead.{ReplyHead}
 use Rattle.yp_rpc.specs.declared.reply.ReplyHead.TheVariants.{Success, ProgUnavail, ProgMismatch, ProcUnavail, GarbageArgs, SystemErr, RpcMismatch, AuthError}
 use Rattle.yp_rpc.specs.Read.{reply_kind, accepted_kind, denied_kind, versions_kind, HeadRead, mismatch_read, auth_error_read, by_accept_stat, accepted_read, by_reject_stat, denied_read, by_reply_stat, reply_at}
-use Rattle.yp_headline.specs.Fetching.{ResultsAre}
+use Rattle.yp_headline.specs.Fetching.{head_kind}
 
 pub same_int : (x y : ℤ) → int_eq x y ≡ true → x ≡ y
 same_int x y is = (Decides-int_eq x y).0 is
@@ -116,9 +116,14 @@ never_denied {P} left rest is =
     let b = bind_ok (reading U32 a.0.1) (λ stat. Ok (AuthError stat.0, stat.1)) (Success, rest) h in
     absurd (let e = ap (λ (r : ReplyHead × Remaining). r.0) (same_pair (AuthError b.0.0, b.0.1) (Success, rest) b.2) in cc)) a.2
 
+-- the head of a reply that is SUCCESS
+abbrev pub HasHead : ℕ → List ℕ → Remaining → Type 0
+HasHead xid reply left = (verifier : Value auth_kind)
+    × (reading head_kind (record { at = 0; bytes = reply }) ≡ Ok ((xid, (pos 1, (pos 0, (verifier, pos 0)))), left))
+
 -- the items of a head that is read as SUCCESS
 pub results_are : (reply : List ℕ) (xid : ℕ) (left : Remaining)
-    → reply_at (record { at = 0; bytes = reply }) ≡ Ok ((xid, Success), left) → ResultsAre xid reply left
+    → reply_at (record { at = 0; bytes = reply }) ≡ Ok ((xid, Success), left) → HasHead xid reply left
 results_are reply xid left is =
     let start : Remaining = record { at = 0; bytes = reply } in
     let a = bind_ok (reading reply_kind start) (λ front. by_reply_stat front.0.1.1 front.1 >>= λ head. Ok ((front.0.0, head.0), head.1))
@@ -131,7 +136,7 @@ results_are reply xid left is =
     let front = both_read U32 (Sequence (Enum (pos 1 ∷ [])) (Enum (pos 0 ∷ pos 1 ∷ []))) start a.0.0 a.0.1 a.1 in
     let kinds = both_read (Enum (pos 1 ∷ [])) (Enum (pos 0 ∷ pos 1 ∷ [])) front.0 a.0.0.1 a.0.1 front.2 in
     let one_is = of_one (pos 1) front.0 kinds.0 a.0.0.1.0 kinds.1 in
-    by_cond (int_eq a.0.0.1.1 (pos 0)) (accepted_read a.0.1) (denied_read a.0.1) (Ok (Success, left)) (ResultsAre xid reply left)
+    by_cond (int_eq a.0.0.1.1 (pos 0)) (accepted_read a.0.1) (denied_read a.0.1) (Ok (Success, left)) (HasHead xid reply left)
     (λ zero_is accepted.
     let d = bind_ok (reading accepted_kind a.0.1) (λ read. by_accept_stat read.0.1 read.1) (Success, left) accepted in
     let e = accept_zero d.0.0.1 d.0.1 left d.2 in
@@ -142,12 +147,11 @@ results_are reply xid left is =
     ∙ ap (λ (z : ℤ). Ok (z, a.0.1)) (same_int a.0.0.1.1 (pos 0) zero_is) in
     let second : signed_at front.0 ≡ Ok (pos 1, kinds.0) = of_enum _ front.0 kinds.0 a.0.0.1.0 kinds.1
     ∙ ap (λ (z : ℤ). Ok (z, kinds.0)) one_is in
-    let first : word_at start ≡ Ok (xid, front.0) = front.1 ∙ ap (λ (n : ℕ). Ok (n, front.0)) xid_is in
-    record {
-      verifier = d.0.0.0;
-      head = read_both U32 (Sequence I32 (Sequence I32 (Sequence auth_kind I32))) start front.0 left xid (pos 1, (pos 0, (d.0.0.0, pos 0)))
+    let first : word_at start ≡ Ok (xid, front.0) = front.1 ∙ ap (λ (n : ℕ). Ok (n, front.0)) xid_is in (
+      d.0.0.0,
+      read_both U32 (Sequence I32 (Sequence I32 (Sequence auth_kind I32))) start front.0 left xid (pos 1, (pos 0, (d.0.0.0, pos 0)))
           first (read_both I32 (Sequence I32 (Sequence auth_kind I32)) front.0 kinds.0 left (pos 1) (pos 0, (d.0.0.0, pos 0)) second
           (read_both I32 (Sequence auth_kind I32) kinds.0 a.0.1 left (pos 0) (d.0.0.0, pos 0) third
-          (read_both auth_kind I32 a.0.1 parts.0 left d.0.0.0 (pos 0) parts.1 last)));
-    })
+          (read_both auth_kind I32 a.0.1 parts.0 left d.0.0.0 (pos 0) parts.1 last))),
+    ))
     (λ denied. never_denied a.0.1 left denied) head_is

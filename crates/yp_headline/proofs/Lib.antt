@@ -9,12 +9,17 @@ pub mod Dialing
 pub mod Posting
 pub mod Named
 pub mod Built
+pub mod Stores
 pub mod Session
 pub mod Stood
 pub mod StoodBack
 pub mod Single
+pub mod Sound
+pub mod Walked
 pub mod Sourced
+pub mod Storing
 pub mod Xfr
+pub mod Walk
 pub mod Build
 pub mod Wrong
 pub mod Torn
@@ -35,3 +40,6 @@ pub mod Mixed
 pub mod Mailed
 pub mod Called
 pub mod Right
+pub mod WrongWalks
+pub mod RightWalk
+pub mod Served

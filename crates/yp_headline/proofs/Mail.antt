@@ -1,6 +1,7 @@
 -- The datagrams that came to an inbox are answered in turn.
 use Rattle.std.proofs.Common.{◌≡◌, ◌≤◌, ℕ, Bool, true, false, cond, List, [], ◌∷◌, ◌++◌, length, map, Option, Some, None, Result, Ok, Err, refl, sym, ap, ◌∙◌, subst, arith, ⊎_elim, append_assoc}
 use Rattle.std.specs.Prelude.{◌||◌, flat_map, is_err, nat_lt}
+use Rattle.std.specs.List.{AllByRecursion, AllZip}
 use Rattle.std.proofs.lemmas.List.{append_cancel_left}
 use Rattle.std.proofs.lemmas.Bool.Decides.{nat_tests}
 use Rattle.yp_io.specs.declared.stream.Failed.{Failed}
@@ -20,8 +21,8 @@ use Rattle.yp_worker.specs.datagrams.Mailing.{Awaited, AnswersMail, CarriesAll}
 use Rattle.yp_worker.specs.datagrams.Serving.{MailTurn, Dropped, Rested, Answered, reply_posts, posts_over, DoesTurn, DoesTurns, LosesAnswer, EndsTurns}
 use Rattle.yp_server.specs.Serving.{ServesDatagrams, EachServes, ServesInboxes}
 use Rattle.yp_headline.specs.World.{Datagram}
-use Rattle.yp_headline.specs.Serving.{Exchange, IsReply, AnswersInTurn, AreSent}
-use Rattle.yp_headline.specs.inside.Server.{heard, told_of, MayLoseLast, InboxIsServed, InboxesAreServed}
+use Rattle.yp_headline.specs.Serving.{Exchange, IsReply, AnswersInTurn, AreSent, AreServed}
+use Rattle.yp_headline.specs.inside.Server.{Heard, but_silent, told_of, MayLoseLast, AreOfInbox}
 use Rattle.yp_headline.proofs.Runs.{exchange_of, front_self}
 use Rattle.yp_headline.proofs.Steps.{known, catalogue_of, linked, told_on, earlier}
 
@@ -44,22 +45,22 @@ exchanges_in (Rested ∷ more) = exchanges_in more
 exchanges_in (Answered from turn behind ∷ more) = exchange_of from turn ∷ exchanges_in more
 
 heard_reply : (from : Peer) (reply : Option (List ℕ)) (events : List InboxEvent)
-    → heard (reply_posts from reply ++ events) ≡ reply_posts from reply ++ heard events
+    → but_silent (reply_posts from reply ++ events) ≡ reply_posts from reply ++ but_silent events
 heard_reply from None events = refl
 heard_reply from (Some bytes) events = refl
 
 -- what is told of them, before more
 told_over : (served : List MailTurn) (events : List InboxEvent)
-    → heard (posts_over served ++ events) ≡ flat_map told_of (mails_of served) ++ heard events
+    → but_silent (posts_over served ++ events) ≡ flat_map told_of (mails_of served) ++ but_silent events
 told_over [] events = refl
 told_over (Dropped from bytes ∷ more) events = ap (λ (l : List InboxEvent). Arrived from bytes ∷ l) (told_over more events)
 told_over (Rested ∷ more) events = told_over more events
 told_over (Answered from turn behind ∷ more) events =
     ap (λ (l : List InboxEvent). Arrived from turn.message ∷ l)
-    (ap heard (append_assoc (reply_posts from turn.answer) (posts_over more) events)
+    (ap but_silent (append_assoc (reply_posts from turn.answer) (posts_over more) events)
     ∙ heard_reply from turn.answer (posts_over more ++ events)
     ∙ ap (λ (l : List InboxEvent). reply_posts from turn.answer ++ l) (told_over more events)
-    ∙ sym (append_assoc (reply_posts from turn.answer) (flat_map told_of (mails_of more)) (heard events)))
+    ∙ sym (append_assoc (reply_posts from turn.answer) (flat_map told_of (mails_of more)) (but_silent events)))
 
 told_both : (mails others : List Datagram) → flat_map told_of (mails ++ others) ≡ flat_map told_of mails ++ flat_map told_of others
 told_both [] others = refl
@@ -92,6 +93,25 @@ short_reply : (b : Bool) (response : Response) (reply : Option (List ℕ)) (fron
     → IsReply response reply front next → IsReply (cond b Silence response) reply front next
 short_reply true response reply front next short is = absurd cc
 short_reply false response reply front next short is = is
+
+-- ---- datagrams that were served
+
+-- what more an inbox told are these datagrams, which were answered in turn on fronts of one log that never go back
+record MailIsServed (catalogue : Catalogue) (begun log : Log) (loses : Bool) (heard : Heard) : Type 0 where
+  datagrams : List Datagram
+  are : AreOfInbox loses heard datagrams
+  served : AreServed catalogue begun log datagrams
+
+-- and so what more each inbox told, apart from the others
+pub record InboxesAreServed (catalogue : Catalogue) (begun log : Log) (loses : Bool) (inboxes : List Heard) : Type 0
+  where
+    pub datagrams : List (List Datagram)
+    pub are : AllZip (AreOfInbox loses) inboxes datagrams
+    pub served : AllByRecursion (AreServed catalogue begun log) datagrams
+
+both_same : {X : Type 0} (one other : X) (more others : List X) → one ∷ more ≡ other ∷ others
+    → (one ≡ other) × (more ≡ others)
+both_same one other more others is = (cc, cc)
 
 module _ {H T : Type 0} (conduct : Conduct H) (counted : H → T) where
   abbrev Follow : List Exchange → H → Log → Type 0
@@ -159,7 +179,7 @@ module _ {H T : Type 0} (conduct : Conduct H) (counted : H → T) where
   record Last (loses : Bool) (events : List InboxEvent) (host : H) (log : Log) : Type 0 where
     mails : List Datagram
     exchanges : List Exchange
-    are : heard events ≡ flat_map told_of mails
+    are : but_silent events ≡ flat_map told_of mails
     kept : MayLoseLast loses mails
     sent : AreSent mails exchanges
     answered : Follow exchanges host log
@@ -169,7 +189,7 @@ module _ {H T : Type 0} (conduct : Conduct H) (counted : H → T) where
   nothing_left loses events old new log none same front = record {
     mails = [];
     exchanges = [];
-    are = ap heard none;
+    are = ap but_silent none;
     kept = tt;
     sent = tt;
     answered = subst (λ (h : H). IsFront (known conduct h) log) same front;
@@ -180,7 +200,7 @@ module _ {H T : Type 0} (conduct : Conduct H) (counted : H → T) where
   answer_lost loses events old new log lossy lost front = record {
     mails = mail_of true lost.from lost.turn ∷ [];
     exchanges = exchange_of lost.from lost.turn ∷ [];
-    are = ap heard lost.came;
+    are = ap but_silent lost.came;
     kept = (λ is. (refl, lossy), tt);
     sent = (refl, refl, refl, tt);
     answered = before_answered lost.from lost.turn [] old new log lost.short lost.answers front;
@@ -208,11 +228,12 @@ module _ {H T : Type 0} (conduct : Conduct H) (counted : H → T) where
       append_cancel_left before more events (sym same' ∙ gains ∙ ap (λ (l : List InboxEvent). l ++ events) same)
 
   -- the datagrams of one inbox
-  pub mail_served : (catalogue : Catalogue) (starts log : Log) (turns : ℕ) (fault loses : Bool) (before after : InboxTells)
+  mail_served : (catalogue : Catalogue) (starts log : Log) (turns : ℕ) (fault loses : Bool) (before after : InboxTells)
       (left carried : List Awaited) → (fault ≡ true → loses ≡ true)
       → ServesDatagrams conduct counted catalogue starts log turns fault before after left carried
-      → InboxIsServed catalogue starts log loses before.past after.past
-  mail_served catalogue starts log turns fault loses before after left carried lossy serves old more was is =
+      → (heard : Heard) → before.past ≡ Some heard.before → after.past ≡ Some (heard.before ++ heard.more)
+      → MailIsServed catalogue starts log loses heard
+  mail_served catalogue starts log turns fault loses before after left carried lossy serves heard was is =
       let mail = serves.serves in
       let posts = mail.serves in
       let ended = serves.ended.host in
@@ -223,11 +244,13 @@ module _ {H T : Type 0} (conduct : Conduct H) (counted : H → T) where
       (all_turns posts.served last.exchanges posts.ready posts.last log posts.does last.answered) in
       record {
         datagrams = mails_of posts.served ++ last.mails;
-        are = ap heard (gained mail.events before.past after.past old more was is mail.sees.past ∙ posts.all)
-            ∙ told_over posts.served posts.rest
-            ∙ ap (λ (l : List InboxEvent). flat_map told_of (mails_of posts.served) ++ l) last.are
-            ∙ sym (told_both (mails_of posts.served) last.mails);
-        kept = kept_over loses posts.served last.mails last.kept;
+        are = record {
+          are = ap but_silent (gained mail.events before.past after.past heard.before heard.more was is mail.sees.past ∙ posts.all)
+              ∙ told_over posts.served posts.rest
+              ∙ ap (λ (l : List InboxEvent). flat_map told_of (mails_of posts.served) ++ l) last.are
+              ∙ sym (told_both (mails_of posts.served) last.mails);
+          kept = kept_over loses posts.served last.mails last.kept;
+        };
         served = record {
           exchanges = exchanges_in posts.served ++ last.exchanges;
           sent = sent_over posts.served last.mails last.exchanges last.sent;
@@ -247,21 +270,36 @@ module _ {H T : Type 0} (conduct : Conduct H) (counted : H → T) where
   each_served : (catalogue : Catalogue) (starts log : Log) (turns : ℕ) (fault loses : Bool) (before after : List InboxTells)
       (left carried : List Awaited) → (fault ≡ true → loses ≡ true)
       → EachServes conduct counted catalogue starts log turns fault before after left carried
-      → InboxesAreServed catalogue starts log loses (map (λ box. box.past) before) (map (λ box. box.past) after)
-  each_served catalogue starts log turns fault loses [] [] left carried lossy serves = tt
-  each_served catalogue starts log turns fault loses [] (new ∷ after) left carried lossy serves = absurd serves
-  each_served catalogue starts log turns fault loses (old ∷ before) [] left carried lossy serves = absurd serves
+      → (inboxes : List Heard) → map (λ box. box.past) before ≡ map (λ one. Some one.before) inboxes
+      → map (λ box. box.past) after ≡ map (λ one. Some (one.before ++ one.more)) inboxes
+      → InboxesAreServed catalogue starts log loses inboxes
+  each_served catalogue starts log turns fault loses [] [] left carried lossy serves [] was is =
+      record { datagrams = []; are = tt; served = tt }
+  each_served catalogue starts log turns fault loses [] [] left carried lossy serves (heard ∷ inboxes) was is = absurd cc
+  each_served catalogue starts log turns fault loses [] (new ∷ after) left carried lossy serves inboxes was is = absurd serves
+  each_served catalogue starts log turns fault loses (old ∷ before) [] left carried lossy serves inboxes was is = absurd serves
+  each_served catalogue starts log turns fault loses (old ∷ before) (new ∷ after) left carried lossy serves [] was is = absurd cc
   each_served catalogue starts log turns fault loses (old ∷ before) (new ∷ after) left carried lossy
-      (failed, others, is, left_here, left_there, left_is, carried_here, carried_there, carried_is, one, rest) = (
-        mail_served catalogue starts log turns failed loses old new left_here carried_here
-            (λ fails. lossy (is ∙ ap (λ (b : Bool). b || others) fails)) one,
-        each_served catalogue starts log turns others loses before after left_there carried_there
-            (λ fails. lossy (is ∙ ap (λ (b : Bool). failed || b) fails ∙ or_true failed)) rest,
-      )
+      (failed, others, faults, left_here, left_there, left_is, carried_here, carried_there, carried_is, one, rest)
+      (heard ∷ inboxes) was is =
+      let first = both_same old.past (Some heard.before) (map (λ box. box.past) before) (map (λ one. Some one.before) inboxes) was in
+      let last = both_same new.past (Some (heard.before ++ heard.more)) (map (λ box. box.past) after)
+      (map (λ one. Some (one.before ++ one.more)) inboxes) is in
+      let here = mail_served catalogue starts log turns failed loses old new left_here carried_here
+      (λ fails. lossy (faults ∙ ap (λ (b : Bool). b || others) fails)) one heard first.0 last.0 in
+      let there = each_served catalogue starts log turns others loses before after left_there carried_there
+      (λ fails. lossy (faults ∙ ap (λ (b : Bool). failed || b) fails ∙ or_true failed)) rest inboxes first.1 last.1 in
+      record {
+        datagrams = here.datagrams ∷ there.datagrams;
+        are = (here.are, there.are);
+        served = (here.served, there.served);
+      }
 
   pub boxes_served : (catalogue : Catalogue) (starts log : Log) (turns : ℕ) (fault loses : Bool)
       (before after : List InboxTells) → (fault ≡ true → loses ≡ true)
       → ServesInboxes conduct counted catalogue starts log turns fault before after
-      → InboxesAreServed catalogue starts log loses (map (λ box. box.past) before) (map (λ box. box.past) after)
-  boxes_served catalogue starts log turns fault loses before after lossy serves =
-      each_served catalogue starts log turns fault loses before after serves.left serves.carried lossy serves.each
+      → (inboxes : List Heard) → map (λ box. box.past) before ≡ map (λ one. Some one.before) inboxes
+      → map (λ box. box.past) after ≡ map (λ one. Some (one.before ++ one.more)) inboxes
+      → InboxesAreServed catalogue starts log loses inboxes
+  boxes_served catalogue starts log turns fault loses before after lossy serves inboxes was is =
+      each_served catalogue starts log turns fault loses before after serves.left serves.carried lossy serves.each inboxes was is

@@ -1,6 +1,5 @@
 -- A world that is right: a transfer that is told as done stored what the server gave.
-use Rattle.std.proofs.Common.{◌≡◌, ◌⊎◌, ℕ, zero, suc, ◌+◌, min, List, [], ◌∷◌, ◌++◌, length, false, Some, None, Ok, refl, sym, ap, subst, inl, inr, ⊎_elim}
-use Rattle.std.specs.Prelude.{slice_get}
+use Rattle.std.proofs.Common.{◌≡◌, ◌⊎◌, ℕ, zero, suc, ◌+◌, min, List, [], ◌∷◌, ◌++◌, length, false, Some, None, Ok, refl, sym, subst, inl, inr, ⊎_elim}
 use Rattle.std.proofs.lemmas.List.{append-nil}
 use Rattle.yp_io.specs.Counts.{last_count}
 use Rattle.yp_io.specs.Disk.{IsImage, LeftIn}
@@ -14,12 +13,13 @@ use Rattle.yp_client.specs.All.{row_at, status_at, all_item_at, filled, all_said
 use Rattle.yp_transfer.specs.Fetching.{wanted_of}
 use Rattle.yp_transfer.specs.Fetched.{StreamPlace, place_of, rows_of, Fetched}
 use Rattle.yp_end_to_end.specs.inside.transfer.Laws.{FetchedIsShown}
-use Rattle.yp_end_to_end.specs.inside.transfer.Turns.{TurnsGiveFetch}
+use Rattle.yp_end_to_end.specs.inside.transfer.Shown.{ShownBetween}
+use Rattle.yp_map_file.specs.inside.Laws.{ReadIsBody}
 use Rattle.yp_headline.specs.World.{World, Dialed}
 use Rattle.yp_headline.specs.Publishing.{IsAmong, IsPublishedLog, OfFile, StandsBy}
 use Rattle.yp_headline.specs.Storing.{stood_for}
-use Rattle.yp_headline.specs.Sources.{Source, ShowedThroughout, Succeeded}
-use Rattle.yp_headline.specs.inside.Files.{StandsByFront}
+use Rattle.yp_headline.specs.Sources.{Source, Succeeded}
+use Rattle.yp_headline.specs.inside.Files.{streamed, StandsByFront}
 use Rattle.yp_headline.specs.Headline.{Crashes, Transfers}
 use Rattle.yp_headline.specs.inside.Tried.{somebody, version_with, whole_file, synced, order_reply, master_reply, all_reply, fetched_bytes}
 use Rattle.yp_headline.specs.inside.TriedFiles.{stored_of, stored_log}
@@ -27,14 +27,14 @@ use Rattle.yp_headline.proofs.Runs.{front_self}
 use Rattle.yp_headline.proofs.Torn.{stands_second, stands_none}
 use Rattle.yp_headline.proofs.Worked.{stands_as}
 use Rattle.yp_headline.proofs.Fetching.{gives, order_record, master_record, rows_record, again_record}
-use Rattle.yp_headline.proofs.Xfr.{only_done}
-use Rattle.yp_headline.proofs.Sourced.{showed}
+use Rattle.yp_headline.proofs.Storing.{only_done}
+use Rattle.yp_headline.proofs.Sourced.{Throughout, stream_throughout}
 
 abbrev world : World
 world = stored_of (whole_file 9 119)
 
 abbrev server : Dialed
-server = record { peer = somebody; came = fetched_bytes }
+server = streamed somebody fetched_bytes
 
 -- ---- the file
 
@@ -177,27 +177,27 @@ fetched = (
   },
 )
 
-throughout : TurnsGiveFetch → FetchedIsShown → (name : Name) → slice_get world.catalogue.maps 0 ≡ Some name
-    → (source : Source name fetched_bytes) → ShowedThroughout name fetched_bytes source (version_with 9 119)
-throughout turns shows name named source =
-    let same : (let it : Name = (100 ∷ [], 112 ∷ []) in it) ≡ name = cc in
-    showed name fetched_bytes source turns shows (wanted_of (100 ∷ []) (112 ∷ []) None false) (ap (λ (n : Name). n.0) same)
-    (ap (λ (n : Name). n.1) same) (version_with 9 119) fetched
+throughout : ReadIsBody → FetchedIsShown → ShownBetween → (name : Name) → (let it : Name = (100 ∷ [], 112 ∷ []) in it) ≡ name
+    → (source : Source name gives) → Throughout name gives source (version_with 9 119)
+throughout read shows between name same = subst (λ (n : Name). (source : Source n gives) → Throughout n gives source (version_with 9 119)) same
+    (stream_throughout read shows between (wanted_of (100 ∷ []) (112 ∷ []) None false) somebody fetched_bytes (version_with 9 119) gives fetched)
 
-succeeded : TurnsGiveFetch → FetchedIsShown → Succeeded world stored_log 0
-succeeded turns shows = record {
-  server = server;
-  among = ([], [], refl);
-  version = version_with 9 119;
-  gives = gives;
+succeeded : ReadIsBody → FetchedIsShown → ShownBetween → Succeeded world stored_log 0
+succeeded read shows between = record {
   stored = version_with 9 119;
-  marked = refl;
+  fetched = record {
+    server = server;
+    among = ([], [], refl);
+    fetched = version_with 9 119;
+    gives = gives;
+    marked = refl;
+  };
   shows = refl;
-  of_source = throughout turns shows;
+  of_source = λ name named. throughout read shows between name (cc);
 }
 
-pub transfers : TurnsGiveFetch → FetchedIsShown → Transfers (stored_of (whole_file 9 119)) stored_log
-transfers turns shows = record {
-  done = λ number among. subst (λ (n : ℕ). Succeeded world stored_log n) (sym (only_done number among)) (succeeded turns shows);
+pub transfers : ReadIsBody → FetchedIsShown → ShownBetween → Transfers (stored_of (whole_file 9 119)) stored_log
+transfers read shows between = record {
+  done = λ number among. subst (λ (n : ℕ). Succeeded world stored_log n) (sym (only_done number among)) (succeeded read shows between);
   called_back = tt;
 }

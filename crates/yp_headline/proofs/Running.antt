@@ -1,7 +1,6 @@
 -- What `run` does is what the headline says.
-use Rattle.std.proofs.Common.{◌≡◌, ℕ, ◌-◌, suc, Bool, true, false, List, [], take, Option, Some, None, sym, ap, ◌∙◌, subst, arith, inl, ⊎_elim}
+use Rattle.std.proofs.Common.{◌≡◌, ℕ, ◌-◌, suc, Bool, true, false, List, [], ◌∷◌, take, map, Option, Some, None, sym, ap, ◌∙◌, subst, arith, inl, ⊎_elim}
 use Rattle.yp_io.specs.Disk.{History, IsImage, LeftIn, LeftBetween, states, moment}
-use Rattle.yp_io.specs.Dials.{Connected}
 use Rattle.yp_version.specs.Versions.{MapVersion}
 use Rattle.yp_map_file.specs.Stands.{stands}
 use Rattle.yp_board.specs.Catalogues.{Name}
@@ -13,26 +12,31 @@ use Rattle.yp_texts.specs.Readings.{reading_of}
 use Rattle.yp_answer.specs.session.Wires.{Wire}
 use Rattle.yp_command_serve.specs.serve.Hosting.{DoorTells}
 use Rattle.yp_end_to_end.specs.inside.transfer.Laws.{FetchedIsShown}
-use Rattle.yp_end_to_end.specs.inside.transfer.Turns.{TurnsGiveFetch}
-use Rattle.yp_command.specs.Words.{Meaning, Once, Session, Serve, Build, Load, Xfr, Revnet}
+use Rattle.yp_end_to_end.specs.inside.transfer.Shown.{ShownBetween}
+use Rattle.yp_end_to_end.specs.inside.walk.Laws.{WalkedIsShown}
+use Rattle.yp_map_file.specs.inside.Laws.{ReadIsBody}
+use Rattle.yp_command.specs.Words.{Meaning, Once, Session, Serve, Build, Load, Xfr, Walk, Revnet}
 use Rattle.yp_command.specs.declared.office.office.Office.{Office}
 use Rattle.yp_command.specs.declared.office.status.Status.{Status}
 use Rattle.yp_command.specs.declared.office.status.Status.TheVariants as status
 use Rattle.yp_command.specs.office.Seeing.{Seeing, history}
-use Rattle.yp_command_serve.specs.serve.Serve.{Job, serve_job_of, ServesOrRefuses, ServesMaps}
+use Rattle.yp_command_serve.specs.serve.Serve.{serve_job_of}
 use Rattle.yp_command_maps.specs.Build.{job_of, tells_stored, JobDoes}
 use Rattle.yp_command_maps.specs.Revnet.{store_history}
 use Rattle.yp_command_maps.specs.Xfr.{xfr_job_of}
 use Rattle.yp_program.specs.Commands.{AloneDoes, CommandDoes}
+use Rattle.yp_headline.specs.World.{Dialed}
 use Rattle.yp_headline.specs.Publishing.{IsAmong}
 use Rattle.yp_headline.specs.Headline.{Crashes}
-use Rattle.yp_headline.specs.inside.Files.{file_world, file_log, done_where}
+use Rattle.yp_headline.specs.inside.Files.{dialed_of, walked_of, file_world, file_log, done_where}
 use Rattle.yp_headline.specs.inside.Worlds.{was_served}
-use Rattle.yp_headline.specs.inside.Running.{was_hosted, BuildHolds, CommandHolds, RunHolds}
+use Rattle.yp_headline.specs.inside.Server.{was_hosted}
+use Rattle.yp_headline.specs.inside.Running.{BuildHolds, CommandHolds, RunHolds}
 use Rattle.yp_headline.proofs.Runs.{none_among}
 use Rattle.yp_headline.proofs.Once.{once_replies}
 use Rattle.yp_headline.proofs.Session.{session_holds}
 use Rattle.yp_headline.proofs.Xfr.{xfr_holds}
+use Rattle.yp_headline.proofs.Walk.{walk_holds}
 use Rattle.yp_headline.proofs.Build.{job_holds}
 use Rattle.yp_headline.proofs.Revnet.{revnet_holds}
 use Rattle.yp_headline.proofs.Serve.{serve_holds}
@@ -52,7 +56,7 @@ same_kind a b is = cc
 same_some : (a b : History) → Some a ≡ Some b → a ≡ b
 same_some a b is = cc
 
-module _ (own : List ℕ) (name : Name) (text : List ℕ → Option (List ℕ)) (reading : List ℕ → Reading) (wires : List Connected)
+module _ (own : List ℕ) (name : Name) (text : List ℕ → Option (List ℕ)) (reading : List ℕ → Reading) (wires : List Dialed)
     (h : History) (held : Option MapVersion) (stood : stands h.state.reads ≡ stands_for held) where
   quiet : Crashes (file_world own name text reading wires false h h) (file_log held) (file_log held)
   quiet = left_crashes own name text reading wires h h held None stood (λ version made. absurd cc)
@@ -63,16 +67,8 @@ module _ (own : List ℕ) (name : Name) (text : List ℕ → Option (List ℕ)) 
   untouched h' told same none = subst (λ (x : History). Crashes (file_world own name text reading wires told h x) (file_log held) (file_log held))
       (sym same) (subst (λ (b : Bool). Crashes (file_world own name text reading wires b h h) (file_log held) (file_log held)) (sym none) quiet)
 
-served_maps : {S K D C A I T : Type 0} (seen : Seeing S K D C A I T) (job : Job) (s : Status) (old new : Office S K D C A I T)
-    (door door' : DoorTells) (logged : List ℕ) → was_hosted s ≡ true → ServesOrRefuses seen job s old new door door' logged
-    → ServesMaps seen job s old new door door' logged
-served_maps seen job status.Done old new door door' logged hosted serves = serves
-served_maps seen job status.WriteFault old new door door' logged hosted serves = serves
-served_maps seen job status.ListenFault old new door door' logged hosted serves = serves
-served_maps seen job status.InboxFault old new door door' logged hosted serves = serves
-served_maps seen job _ old new door door' logged hosted serves = absurd cc
-
-module _ {S K D C A I T : Type 0} (seen : Seeing S K D C A I T) (turns : TurnsGiveFetch) (shown : FetchedIsShown) where
+module _ {S K D C A I T : Type 0} (seen : Seeing S K D C A I T) (read : ReadIsBody) (shown : FetchedIsShown) (between : ShownBetween)
+    (walked : WalkedIsShown) where
   -- a command that was carried out
   commanded : (meaning : Meaning) (s : Status) (old new : Office S K D C A I T) (door door' : DoorTells)
       (before after : List Wire) (logged : List ℕ) → CommandDoes seen meaning s old new door door' before after logged
@@ -87,8 +83,12 @@ module _ {S K D C A I T : Type 0} (seen : Seeing S K D C A I T) (turns : TurnsGi
       first last wires was is few more inputs
   commanded (Xfr name force store host flag) s old new door door' before after logged does =
       λ h h' was is held stood first last wires dial dial' few came inputs.
-      xfr_holds seen turns shown (xfr_job_of name force store host flag) s old new does.0.0 h h' was is held stood first last wires dial dial'
-      few came inputs
+      xfr_holds seen read shown between (xfr_job_of name force store host flag) s old new does.0.0 h h' was is held stood first last wires
+      dial dial' few came inputs
+  commanded (Walk name force store host port count flag) s old new door door' before after logged does =
+      λ h h' was is held stood told events told_before told_after.
+      walk_holds seen read walked (xfr_job_of name force store host flag) count s old new does.0.0 h h' was is held stood told events
+      told_before told_after
   commanded (Build name store flag) s old new door door' before after logged does =
       λ kind of_kind text h h' now input was is moment_is held stood.
       let same : does.0.0.kind ≡ kind = same_kind does.0.0.kind kind (sym does.0.0.of_kind ∙ of_kind) in
@@ -102,10 +102,9 @@ module _ {S K D C A I T : Type 0} (seen : Seeing S K D C A I T) (turns : TurnsGi
       λ h h' n now was is netgroups moment_is held stood.
       revnet_holds seen name store s old new does.0.0 h h' n now was is netgroups moment_is held stood
   commanded (Serve own port workers connections count stores hosts log) s old new door door' before after logged does =
-      λ hosted calls calls' closed was is more told.
-      let job = serve_job_of own connections count stores hosts log in
-      serve_holds seen job s old new door door' logged (served_maps seen job s old new door door' logged hosted does.0.serves)
-      calls calls' closed was is more told
+      λ hosted closed inboxes wires tell.
+      serve_holds seen (serve_job_of own connections count stores hosts log) s old new door door' logged does.0 hosted closed
+      inboxes wires tell
   commanded _ s old new door door' before after logged does = tt
 
   unbuilt : (name : List ℕ) (store : Name) (reading : Reading) (s : Status) (old new : Office S K D C A I T) → s ≡ status.NoMemory → new ≡ old
@@ -130,7 +129,19 @@ module _ {S K D C A I T : Type 0} (seen : Seeing S K D C A I T) (turns : TurnsGi
       let told : tells_stored s ≡ false = ap tells_stored none in
       record {
         log = file_log held;
-        crashes = untouched name store (λ name. None) reading_of wires h held stood h' (tells_stored s) same told;
+        crashes = untouched name store (λ name. None) reading_of (map dialed_of wires) h held stood h' (tells_stored s) same told;
+        transfers = record {
+          done = λ number among. absurd (none_among number (subst (λ (b : Bool). IsAmong (done_where b) number) told among));
+          called_back = tt;
+        };
+      }
+  forgone (Walk name force store host port count flag) s old new door door' none stays =
+      λ h h' was is held stood past events before after.
+      let same : h' ≡ h = same_some h' h (sym is ∙ ap (history seen) stays ∙ was) in
+      let told : tells_stored s ≡ false = ap tells_stored none in
+      record {
+        log = file_log held;
+        crashes = untouched name store (λ name. None) reading_of (walked_of host.1 events ∷ []) h held stood h' (tells_stored s) same told;
         transfers = record {
           done = λ number among. absurd (none_among number (subst (λ (b : Bool). IsAmong (done_where b) number) told among));
           called_back = tt;
@@ -145,7 +156,7 @@ module _ {S K D C A I T : Type 0} (seen : Seeing S K D C A I T) (turns : TurnsGi
         crashes = untouched name store (λ name. None) reading_of [] h held stood h' (tells_stored s) same (ap tells_stored none);
       }
   forgone (Serve own port workers connections count stores hosts log) s old new door door' none stays =
-      λ hosted calls calls' closed was is more told. absurd (let e : false ≡ true = sym (ap was_hosted none) ∙ hosted in cc)
+      λ hosted closed inboxes wires tell. absurd (let e : false ≡ true = sym (ap was_hosted none) ∙ hosted in cc)
   forgone _ s old new door door' none stays = tt
 
   pub run_holds : RunHolds seen

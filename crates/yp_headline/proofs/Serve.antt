@@ -1,36 +1,52 @@
--- What `serve` does is what the headline says of its connections, its datagrams and its files.
-use Rattle.std.proofs.Common.{◌≡◌, ◌⊎◌, ℕ, zero, suc, true, false, List, [], ◌∷◌, ◌++◌, map, Option, Some, None, refl, sym, ap, ◌∙◌, subst, inl, inr, ⊎_elim}
-use Rattle.std.specs.Prelude.{flat_map, slice_get, slice_index_or, IfSome, IsSome}
+-- What `serve` does is what the headline says.
+use Rattle.std.proofs.Common.{◌≡◌, ◌⊎◌, ℕ, zero, suc, Bool, true, false, List, [], ◌∷◌, ◌++◌, length, map, Option, Some, None, refl, sym, ap, ◌∙◌, subst, arith, inl, inr, ⊎_elim}
+use Rattle.std.specs.Prelude.{Contains, flat_map, slice_get, IfSome, ⊤}
 use Rattle.std.specs.List.{AllByRecursion, AllZip}
-use Rattle.std.proofs.lemmas.List.{append_cancel_left}
-use Rattle.std.proofs.lemmas.List.Elements.{All-nil, All-cons}
-use Rattle.yp_io.specs.Disk.{History}
+use Rattle.std.proofs.lemmas.List.{append_cancel_left, length-map}
+use Rattle.yp_io.specs.Disk.{History, IsImage, MayLeave, LeavesOnly}
+use Rattle.yp_io.specs.inside.DiskLaws.{counts_now, goes_on, splits}
 use Rattle.yp_io.specs.Calls.{ClosedConnection, ListenerHistory}
+use Rattle.yp_io.specs.Dials.{Connected, Wires}
 use Rattle.yp_version.specs.Versions.{MapVersion}
-use Rattle.yp_board.specs.Catalogues.{Catalogue}
-use Rattle.yp_board.specs.Logs.{Log, starts, shown}
-use Rattle.yp_publisher.specs.Standing.{MapStanding, Level, Behind, StandsAs, StoredMap, IsStanding, stands_for, versions}
-use Rattle.yp_publisher.specs.Grown.{AreTold}
+use Rattle.yp_board.specs.Catalogues.{name_view}
+use Rattle.yp_board.specs.Logs.{Log, starts}
+use Rattle.yp_publisher.specs.Standing.{StoredMap, OfMap, versions}
+use Rattle.yp_publisher.specs.Grown.{Making, IsOfBetween, AtDisk, LeavesOr, AreTold}
 use Rattle.yp_publisher.specs.Opens.{IsOpened}
-use Rattle.yp_rpc.specs.Turns.{inbox_tells}
+use Rattle.yp_publisher.specs.sharing.Failures as publisher
+use Rattle.yp_publisher.specs.sharing.Tracing.{IsNewBehind, LeavesSince}
 use Rattle.yp_worker.specs.Receptions.{terms_of}
 use Rattle.yp_worker.specs.Summing.{WorkerRun, ends_of, TellsClosed}
 use Rattle.yp_answer.specs.declared.session.session.TheConstants.{CALLS_MAX}
+use Rattle.yp_answer.specs.Make.{job_of}
 use Rattle.yp_host.specs.workers.Charges.{totals_of}
+use Rattle.yp_host.specs.workers.Desks.{texts_alone}
+use Rattle.yp_host.specs.workers.Makings.{IsBuiltAsNamed}
+use Rattle.yp_host.specs.workers.Wires.{AtLeast, BytesGive, GivesVersion, CoversBy}
 use Rattle.yp_server.specs.Counting.{count_totals}
-use Rattle.yp_server.specs.Serving.{DisksStand}
+use Rattle.yp_command.specs.declared.office.disks.NamedDisk.{NamedDisk}
+use Rattle.yp_command.specs.declared.office.office.Office.{Office}
 use Rattle.yp_command.specs.declared.office.status.Status.{Status}
 use Rattle.yp_command.specs.declared.office.status.Status.TheVariants as status
 use Rattle.yp_command.specs.office.Disks.{disks_of}
 use Rattle.yp_command.specs.office.Seeing.{Seeing, output}
 use Rattle.yp_command_serve.specs.declared.serve.tally.Hosted.{Hosted}
-use Rattle.yp_command_serve.specs.serve.Hosting.{conduct}
-use Rattle.yp_command_serve.specs.serve.Serve.{catalogue_of, setup, place, TellsServed}
-use Rattle.yp_headline.specs.Storing.{stood_for}
-use Rattle.yp_headline.specs.inside.Server.{IsToldClosed, ConnectionsAreServed, StoodFor, LeavesShown, closed_in, may_lose, ServeHolds}
-use Rattle.yp_headline.proofs.Server.{all_served}
-use Rattle.yp_headline.proofs.Mail.{boxes_served}
-use Rattle.yp_headline.proofs.Stood.{stood}
+use Rattle.yp_command_serve.specs.serve.Hosting.{DoorTells, conduct}
+use Rattle.yp_command_serve.specs.serve.Serve.{Job, catalogue_of, setup, place, TellsServed, ServesMaps, ServesOrRefuses, ServeDoes}
+use Rattle.yp_headline.specs.World.{World, Connection, Datagram}
+use Rattle.yp_headline.specs.Serving.{IsServed, AreServed}
+use Rattle.yp_headline.specs.Publishing.{IsMarked, IsFetched, IsNew, IsPublishedLog, OfFile, StandsBy}
+use Rattle.yp_headline.specs.Headline.{Replies, Crashes}
+use Rattle.yp_headline.specs.inside.Files.{stores_between, StandsByFront}
+use Rattle.yp_headline.specs.inside.Server.{IsToldClosed, Heard, closed_in, may_lose, was_hosted, AllTell, serve_world, ServeHolds}
+use Rattle.yp_headline.proofs.Runs.{none_among}
+use Rattle.yp_headline.proofs.Given.{fetched_gives}
+use Rattle.yp_headline.proofs.Built.{made_built}
+use Rattle.yp_headline.proofs.Stores.{stores_have, left_at, end_at, by_wire, zip_length, is_published, by_front, left_of_map}
+use Rattle.yp_headline.proofs.Server.{ConnectionsAreServed, all_served}
+use Rattle.yp_headline.proofs.Mail.{InboxesAreServed, boxes_served}
+
+-- ---- connections and datagrams
 
 joined_map : {H : Type 0} (runs : List (WorkerRun H)) → closed_in (map (λ run. ends_of run.stays) runs) ≡ flat_map (λ run. ends_of run.stays) runs
 joined_map [] = refl
@@ -42,14 +58,6 @@ told_more old new calls calls' more was is tells =
     subst (λ (o : Option ListenerHistory). TellsClosed (Some calls) o more) is
     (subst (λ (o : Option ListenerHistory). TellsClosed o new more) was tells)
 
-stood_first : {D : Type 0} (history : D → Option History) (faults : D → ℕ) (disks : List D) (maps : List (StoredMap D))
-    → AllZip (IsOpened history faults) disks maps → AllZip StoodFor (map history disks) (versions maps)
-stood_first history faults [] [] opened = tt
-stood_first history faults [] (kept ∷ maps) opened = absurd opened
-stood_first history faults (disk ∷ disks) [] opened = absurd opened
-stood_first history faults (disk ∷ disks) (kept ∷ maps) opened =
-    (opened.0.stood.version, stood_first history faults disks maps opened.1)
-
 may_have_lost : (hosted : Hosted) (s : Status) (before after : Option (List ℕ)) → TellsServed hosted s before after
     → hosted.inbox_fault ≡ true → may_lose s ≡ true
 may_have_lost hosted status.Done before after tells failed = absurd (let e : false ≡ true = sym tells.0.1 ∙ failed in cc)
@@ -58,66 +66,205 @@ may_have_lost hosted status.ListenFault before after tells failed = refl
 may_have_lost hosted status.InboxFault before after tells failed = refl
 may_have_lost hosted _ before after tells failed = absurd tells
 
--- ---- the files at the end
+-- ---- a wire of several that has P
 
-told_all : {D : Type 0} (history : D → Option History) (disks : List D)
-    → AllByRecursion (λ told. IsSome told) (map history disks) → AreTold history disks
-told_all history [] told = All-nil (λ disk. IsSome (history disk))
-told_all history (disk ∷ disks) told = All-cons (λ disk. IsSome (history disk)) disk disks told.0 (told_all history disks told.1)
+record OneOf (P : Connected → Type 0) (wires : List Connected) : Type 0 where
+  front : List Connected
+  wire : Connected
+  back : List Connected
+  parts : wires ≡ front ++ wire ∷ back
+  holds : P wire
 
--- what is so of each kept map is so of what its disk tells
-of_kept : {D : Type 0} (history : D → Option History) (P : Option History → Type 0) (kept : List (StoredMap D)) (number : ℕ)
-    → ((one : StoredMap D) → slice_get kept number ≡ Some one → P (history one.disk))
-    → IfSome (slice_get (map history (map (λ one. one.disk) kept)) number) P
-of_kept history P [] number is = tt
-of_kept history P (one ∷ kept) zero is = is one refl
-of_kept history P (one ∷ kept) (suc number) is = of_kept history P kept number is
+one_of : (P : Connected → Type 0) (wires : List Connected) → AtLeast P 1 wires → OneOf P wires
+one_of P [] some = absurd (let e : 1 ≡ 0 = some in omega (arith, e))
+one_of P (wire ∷ wires) some = ⊎_elim
+    (λ later. let one = one_of P wires later in record {
+      front = wire ∷ one.front;
+      wire = one.wire;
+      back = one.back;
+      parts = ap (λ (l : List Connected). wire ∷ l) one.parts;
+      holds = one.holds;
+    })
+    (λ here. record { front = []; wire = wire; back = wires; parts = refl; holds = here.0 }) some
 
-version_at : {D : Type 0} (kept : List (StoredMap D)) (number : ℕ) (one : StoredMap D) → slice_get kept number ≡ Some one
-    → slice_index_or (versions kept) number None ≡ one.version
-version_at [] number one is = absurd cc
-version_at (first ∷ kept) zero one is = let same : first ≡ one = cc in ap (λ k. k.version) same
-version_at (first ∷ kept) (suc number) one is = version_at kept number one is
+-- ---- files
 
-stands_so : (standing : MapStanding) (version held : Option MapVersion) (image : List ℕ) → version ≡ held
-    → StandsAs standing version image
-    → (stood_for image ≡ Some held) ⊎ ((version : MapVersion) × (stood_for image ≡ Some (Some version)))
-stands_so Level version held image same is = inl (stood image held (is ∙ ap stands_for same))
-stands_so (Behind failed) version held image same is =
-    ⊎_elim (λ kept. inl (stood image held (kept ∙ ap stands_for same))) (λ new. inr (failed, stood image (Some failed) new)) is
+-- what a crash leaves since a disk was opened is what it leaves since before
+since_before : (Q : List ℕ → Type 0) (old opened new : Option History) → LeavesOnly old opened (MayLeave old)
+    → LeavesSince opened Q new → LeavesOnly old new (λ image. MayLeave old image ⊎ Q image)
+since_before Q old opened new first later = record {
+  goes_on = goes_on old opened new first.goes_on later.goes_on;
+  each = λ image left. ⊎_elim (λ before. inl (first.each image before))
+      (λ since. ⊎_elim (λ may. inl (first.each image (counts_now old opened image first.goes_on may))) (λ is. inr is)
+      (later.each image since))
+      (splits old opened new image first.goes_on later.goes_on left);
+}
 
-left_at_end : {D : Type 0} (history : D → Option History) (catalogue : Catalogue) (log : Log) (disks : List D)
-    → DisksStand history catalogue log disks → (number : ℕ) → IfSome (slice_get (map history disks) number) (LeavesShown number log)
-left_at_end {D} history catalogue log disks leaves number =
-    subst (λ (l : List D). IfSome (slice_get (map history l) number) (LeavesShown number log)) (sym leaves.disks_are)
-    (of_kept history (LeavesShown number log) leaves.kept number (λ one is image may.
-    let standing : IsStanding history one = subst (λ (o : Option (StoredMap D)). IfSome o (IsStanding history)) is (leaves.standing number) in
-    stands_so one.standing one.version (shown number log) image (sym (leaves.shows number ∙ version_at leaves.kept number one is))
-    (standing image may)))
+no_disk : {X : Type 0} (one : Option X) → IfSome one (λ item. ⊤)
+no_disk None = tt
+no_disk (Some item) = tt
+
+at_disk : {D : Type 0} (history : D → Option History) (faults : D → ℕ) (Q : List ℕ → Type 0) (number : ℕ) (olds : List D)
+    (maps kept : List (StoredMap D)) → AllZip (IsOpened history faults) olds maps
+    → IfSome (slice_get (map history (publisher.disks_of maps)) number)
+    (λ before. OfMap number kept (λ one. LeavesSince before Q (history one.disk)))
+    → AtDisk number olds (map (λ one. one.disk) kept) (LeavesOr history Q)
+at_disk history faults Q number [] maps kept opened since = tt
+at_disk history faults Q number (old ∷ olds) [] kept opened since = absurd opened
+at_disk history faults Q number (old ∷ olds) (one ∷ maps) [] opened since = no_disk (slice_get (old ∷ olds) number)
+at_disk history faults Q zero (old ∷ olds) (one ∷ maps) (last ∷ kept) opened since =
+    since_before Q (history old) (history one.disk) (history last.disk) opened.0.moments since
+at_disk history faults Q (suc number) (old ∷ olds) (one ∷ maps) (last ∷ kept) opened since =
+    at_disk history faults Q number olds maps kept opened.1 since
+
+-- ---- the whole
+
+module _ {S K D C A I T : Type 0} (seen : Seeing S K D C A I T) (job : Job) (s : Status) (old new : Office S K D C A I T)
+    (door door' : DoorTells) (logged : List ℕ) (does : ServeDoes seen job s old new door door' logged)
+    (serves : ServesMaps seen job s old new door door' logged) (closed : List ClosedConnection) (inboxes : List Heard)
+    (wires : List Connected) (tell : AllTell seen old new door door' closed inboxes wires) where
+  abbrev olds : List D
+  olds = disks_of old.disks.items
+
+  abbrev news : List D
+  news = disks_of new.disks.items
+
+  abbrev maps : List (StoredMap D)
+  maps = serves.is_hosted.maps
+
+  abbrev begun : Log
+  begun = starts 0 (versions maps)
+
+  abbrev log : Log
+  log = serves.is_hosted.served.log
+
+  abbrev kept : List (StoredMap D)
+  kept = serves.is_hosted.served.accounted.traced.traced.leaves.kept
+
+  disks_are : news ≡ map (λ one. one.disk) kept
+  disks_are = serves.is_hosted.served.accounted.traced.traced.leaves.disks_are
+
+  -- the connections that were closed
+  connections_served : ConnectionsAreServed (catalogue_of job) begun log closed
+  connections_served =
+      let sums = serves.is_hosted.served.accounted.counted.of_connections in
+      let ends = map (λ run. ends_of run.stays) sums.worker_runs in
+      let ends_are : tell.more_closed ≡ ends = append_cancel_left tell.calls.closed tell.more_closed ends
+      (sym tell.closes ∙ told_more door.listen.past door'.listen.past tell.calls tell.calls_at_last ends tell.listens
+      tell.listens_at_last sums.closed) in
+      let all : closed ≡ flat_map (λ run. ends_of run.stays) sums.worker_runs =
+      tell.closed_are ∙ ap closed_in ends_are ∙ joined_map sums.worker_runs in
+      subst (λ (l : List ClosedConnection). ConnectionsAreServed (catalogue_of job) begun log l) (sym all)
+      (all_served (conduct (setup seen job old)) count_totals (terms_of (catalogue_of job) begun CALLS_MAX) door.listen.past
+      log sums.worker_runs sums.work (subst (λ (l : List ClosedConnection). AllByRecursion IsToldClosed l) all tell.told_closed))
+
+  -- what the inboxes told
+  inboxes_served : InboxesAreServed (catalogue_of job) begun log (may_lose s) inboxes
+  inboxes_served = boxes_served (conduct (setup seen job old)) totals_of (catalogue_of job) begun log job.turns
+      serves.hosted.inbox_fault (may_lose s) ((place seen old door).boxes) ((place seen new door').boxes)
+      (may_have_lost serves.hosted s (output seen old) (output seen new) serves.tells) serves.is_hosted.served.datagrams
+      inboxes tell.hears tell.hears_at_last
+
+  module _ (connections : List Connection) (datagrams : List (List Datagram)) where
+    abbrev world : World
+    world = serve_world seen job old new connections datagrams wires
+
+    abbrev Is : Making
+    Is = IsNewBehind (IsBuiltAsNamed (seen.texts.text old.texts) (catalogue_of job))
+        serves.is_hosted.served.accounted.traced.fetches
+
+    -- a version that a wire gave
+    given : (fetched version : MapVersion) → Contains serves.is_hosted.served.accounted.traced.fetches fetched
+        → IsMarked fetched version → IsFetched world version
+    given fetched version among marked =
+        let P = GivesVersion fetched in
+        let covers : CoversBy P (Some tell.dialed) (Some tell.dialed_at_last) 1 =
+        subst (λ (o : Option Wires). CoversBy P (Some tell.dialed) o 1) tell.dials_at_last
+        (subst (λ (o : Option Wires). CoversBy P o (seen.dial.past new.dial) 1) tell.dials
+        (serves.is_hosted.served.accounted.traced.came fetched among)) in
+        let gains = covers tell.few in
+        let same : gains.gained ≡ wires =
+        append_cancel_left tell.dialed.came gains.gained wires (sym gains.came ∙ tell.wires_are) in
+        let one = one_of P wires (subst (λ (l : List Connected). AtLeast P 1 l) same gains.enough) in
+        let input = tell.inputs one.wire (one.front, one.back, one.parts) in
+        let gave : BytesGive fetched input.0 =
+        subst (λ (o : Option (List ℕ)). IfSome o (BytesGive fetched)) input.1 one.holds in
+        by_wire world wires one.front one.back one.wire refl one.parts input.0 input.1 fetched version
+        (fetched_gives gave.wanted one.wire.peer input.0 fetched gave.fetched) marked
+
+    is_new : (number : ℕ) (front : Log) (version : MapVersion) → Is number front version → IsNew world number front version
+    is_new number front version (inl built) =
+        inl (made_built world number front version (texts_alone (seen.texts.text old.texts)) refl refl
+        (job_of (catalogue_of job) number) built.0 refl refl built.2)
+    is_new number front version (inr fetched) =
+        inr (given fetched.0 version fetched.1 (fetched.2 ∙ ap (λ (b : Bool). record fetched.0 { secure = b })
+        (sym (ap (λ (v : MapVersion). v.secure) fetched.2))))
+
+    published : IsPublishedLog world begun log
+    published =
+        let as_many : length news ≡ length olds = length-map new.disks.items (λ (d : NamedDisk D). d.disk)
+        ∙ sym (length-map new.disks.items (λ (d : NamedDisk D). name_view d.name)) ∙ ap length does.names
+        ∙ length-map old.disks.items (λ (d : NamedDisk D). name_view d.name)
+        ∙ sym (length-map old.disks.items (λ (d : NamedDisk D). d.disk)) in
+        let opened = serves.is_hosted.opened in
+        is_published world Is begun log is_new (versions maps)
+        (stores_have seen.disk.history seen.disk.faults olds news maps opened
+        (as_many ∙ zip_length (IsOpened seen.disk.history seen.disk.faults) olds maps opened) tell.disks tell.disks_at_last)
+        refl (serves.is_hosted.served.accounted.traced.traced.traced.grown
+        (subst (λ (l : List D). AreTold seen.disk.history l) disks_are tell.disks_at_last))
+
+    replies : AllByRecursion (IsServed (catalogue_of job) begun log) connections
+        → AllByRecursion (AreServed (catalogue_of job) begun log) datagrams → Replies world begun log
+    replies served heard = record {
+      published = published;
+      rises = serves.is_hosted.served.rises tell.disks_at_last;
+      connections = served;
+      datagrams = heard;
+    }
+
+    crashes : Crashes world begun log
+    crashes =
+        let traces = serves.is_hosted.served.accounted.traced.traced in
+        record {
+          published = published;
+          any_moment = λ number. left_at seen.disk.history (IsOfBetween Is number begun log)
+              (StandsByFront world number begun log) (by_front world Is begun log is_new number) number olds news
+              (subst (λ (l : List D). AtDisk number olds l (LeavesOr seen.disk.history (IsOfBetween Is number begun log)))
+              (sym disks_are)
+              (at_disk seen.disk.history seen.disk.faults (IsOfBetween Is number begun log) number olds maps kept
+              serves.is_hosted.opened (traces.traced.any_moment number)));
+          at_end = λ number. subst (λ (l : List D). OfFile number (stores_between seen.disk.history olds l)
+              (λ file. (image : List ℕ) → IsImage file.last image → IsImage file.first image ⊎ StandsBy world number log image))
+              (sym disks_are)
+              (end_at seen.disk.history (StandsBy world number log) number olds kept
+              (left_of_map world Is begun log is_new seen.disk.history kept traces.leaves.shows traces.leaves.standing
+              traces.traced.behind number));
+          stored = λ number among. absurd (none_among number among);
+        }
+
+served_maps : {S K D C A I T : Type 0} (seen : Seeing S K D C A I T) (job : Job) (s : Status) (old new : Office S K D C A I T)
+    (door door' : DoorTells) (logged : List ℕ) → was_hosted s ≡ true → ServesOrRefuses seen job s old new door door' logged
+    → ServesMaps seen job s old new door door' logged
+served_maps seen job status.Done old new door door' logged hosted serves = serves
+served_maps seen job status.WriteFault old new door door' logged hosted serves = serves
+served_maps seen job status.ListenFault old new door door' logged hosted serves = serves
+served_maps seen job status.InboxFault old new door door' logged hosted serves = serves
+served_maps seen job _ old new door door' logged hosted serves = absurd cc
 
 pub serve_holds : {S K D C A I T : Type 0} (seen : Seeing S K D C A I T) → ServeHolds seen
-serve_holds {S} {K} {D} {C} {A} {I} {T} seen job status old new door door' logged serves calls calls' closed was is more told =
-    let hosted = serves.is_hosted in
-    let lossy = may_have_lost serves.hosted status (output seen old) (output seen new) serves.tells in
-    let served = hosted.served in
-    let sums = served.accounted.counted.of_connections in
-    let begun = starts 0 (versions hosted.maps) in
-    let closed_are : closed ≡ map (λ run. ends_of run.stays) sums.worker_runs =
-    append_cancel_left calls.closed closed (map (λ run. ends_of run.stays) sums.worker_runs)
-    (sym more ∙ told_more door.listen.past door'.listen.past calls calls' (map (λ run. ends_of run.stays) sums.worker_runs) was is sums.closed) in
-    let all : closed_in closed ≡ flat_map (λ run. ends_of run.stays) sums.worker_runs =
-    ap closed_in closed_are ∙ joined_map sums.worker_runs in
-    let connections = all_served (conduct (setup seen job old)) count_totals (terms_of (catalogue_of job) begun CALLS_MAX) door.listen.past
-    served.log sums.worker_runs sums.work (subst (λ (l : List ClosedConnection). AllByRecursion IsToldClosed l) all told) in
+serve_holds seen job s old new door door' logged does hosted closed inboxes wires tell =
+    let serves = served_maps seen job s old new door door' logged hosted does.serves in
+    let called = connections_served seen job s old new door door' logged does serves closed inboxes wires tell in
+    let heard = inboxes_served seen job s old new door door' logged does serves closed inboxes wires tell in
     record {
-      first = versions hosted.maps;
-      stood = stood_first seen.disk.history seen.disk.faults (disks_of old.disks.items) hosted.maps hosted.opened;
-      log = served.log;
-      grown = served.grown;
-      rises = λ told_disks. served.rises (told_all seen.disk.history (disks_of new.disks.items) told_disks);
-      connections = subst (λ (l : List ClosedConnection). ConnectionsAreServed (catalogue_of job) begun served.log l) (sym all) connections;
-      datagrams = boxes_served (conduct (setup seen job old)) totals_of (catalogue_of job) begun served.log job.turns
-          serves.hosted.inbox_fault (may_lose status) ((place seen old door).boxes) ((place seen new door').boxes) lossy
-          served.datagrams;
-      at_end = left_at_end seen.disk.history (catalogue_of job) served.log (disks_of new.disks.items) served.leaves;
+      connections = called.connections;
+      are_closed = called.are;
+      datagrams = heard.datagrams;
+      are_heard = heard.are;
+      begun = starts 0 (versions serves.is_hosted.maps);
+      log = serves.is_hosted.served.log;
+      replies = replies seen job s old new door door' logged does serves closed inboxes wires tell called.connections
+          heard.datagrams called.served heard.served;
+      crashes = crashes seen job s old new door door' logged does serves closed inboxes wires tell called.connections
+          heard.datagrams;
     }

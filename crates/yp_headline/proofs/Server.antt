@@ -22,7 +22,7 @@ use Rattle.yp_worker.specs.Receptions.{Terms}
 use Rattle.yp_worker.specs.Summing.{Counting, ServedConnection, WorkerRun, IsWorkerRun, WasServed, IsOver, ends_of}
 use Rattle.yp_headline.specs.World.{Connection}
 use Rattle.yp_headline.specs.Serving.{BeginsWith, sent_over, IsServed}
-use Rattle.yp_headline.specs.inside.Server.{IsToldClosed, IsOfClosed, ConnectionsAreServed}
+use Rattle.yp_headline.specs.inside.Server.{IsToldClosed, IsOfClosed}
 use Rattle.yp_headline.proofs.Runs.{exchanges_of, all_callers, taken, ended}
 use Rattle.yp_headline.proofs.Steps.{of_steps, had_answered}
 
@@ -142,6 +142,14 @@ module _ (peer : Peer) (before : Wire) (deeds : List Deed) (now : Cut) (came sen
   closing most false over = ⊎_elim (λ so. closed_by most so.0 so.1) (λ broken. cut_short) (over refl)
 
 -- ---- a connection of a worker
+
+-- Each connection that was closed was served: its records were answered in turn on fronts of one log that never go
+-- back.
+pub record ConnectionsAreServed (catalogue : Catalogue) (begun log : Log) (closed : List ClosedConnection) : Type 0
+  where
+    pub connections : List Connection
+    pub are : AllZip IsOfClosed closed connections
+    pub served : AllByRecursion (IsServed catalogue begun log) connections
 
 record Made (catalogue : Catalogue) (begun log : Log) (closed : ClosedConnection) : Type 0 where
   connection : Connection

@@ -1,18 +1,16 @@
 -- What a session over stored maps does is what the headline says.
-use Rattle.std.proofs.Common.{◌≡◌, ◌⊎◌, ℕ, zero, suc, ◌≤◌, Bool, true, List, [], ◌∷◌, ◌++◌, length, map, Option, Some, None, refl, sym, ap, ◌∙◌, subst, arith, inl, inr, ⊎_elim, append_assoc, Result, Ok, Err}
-use Rattle.std.specs.Prelude.{Contains, IfSome, IsSome, slice_get, slice_index_or, unwrap_or}
-use Rattle.std.specs.List.{AllZip}
-use Rattle.std.proofs.lemmas.List.{append_cancel_left, map-append, length-map}
-use Rattle.yp_io.specs.Disk.{History, IsImage, LeftIn, MayLeave, LeavesOnly}
+use Rattle.std.proofs.Common.{◌≡◌, ◌⊎◌, ℕ, ◌≤◌, Bool, true, List, [], ◌∷◌, ◌++◌, length, map, Some, refl, sym, ap, ◌∙◌, subst, inl, inr, ⊎_elim, append_assoc, Result, Ok, Err}
+use Rattle.std.specs.Prelude.{Contains}
+use Rattle.std.proofs.lemmas.List.{append_cancel_left, length-map}
+use Rattle.yp_io.specs.Disk.{IsImage}
 use Rattle.yp_io.specs.Dials.{Connected, Wires}
 use Rattle.yp_version.specs.Versions.{MapVersion}
-use Rattle.yp_map_file.specs.Stands.{stands}
 use Rattle.yp_board.specs.Catalogues.{Catalogue}
-use Rattle.yp_board.specs.Logs.{Log, shown}
+use Rattle.yp_board.specs.Logs.{Log}
 use Rattle.yp_board.specs.Views.{IsFront}
-use Rattle.yp_publisher.specs.Standing.{StoredMap, MapStanding, Level, Behind, stands_for, StandsAs, IsStanding, versions}
+use Rattle.yp_publisher.specs.Standing.{StoredMap, versions}
 use Rattle.yp_publisher.specs.Opens.{IsOpened}
-use Rattle.yp_publisher.specs.Grown.{Making, AreMade, IsShownOrMade, IsOfBetween, IsBehindMade, AtDisk, LeavesOr, AreTold}
+use Rattle.yp_publisher.specs.Grown.{IsOfBetween, AreTold}
 use Rattle.yp_answer.specs.declared.procedure.Path.TheVariants.{Stream}
 use Rattle.yp_answer.specs.Make.{map_name, making_of}
 use Rattle.yp_answer.specs.declared.session.session.End.{End}
@@ -41,119 +39,23 @@ use Rattle.yp_command.specs.office.Disks.{disks_of}
 use Rattle.yp_command.specs.office.Seeing.{Seeing}
 use Rattle.yp_command_serve.specs.Session.{Sessions, service, connection}
 use Rattle.yp_headline.specs.World.{World}
-use Rattle.yp_headline.specs.Fetching.{Gives}
 use Rattle.yp_headline.specs.Serving.{IsServed}
-use Rattle.yp_headline.specs.Publishing.{IsAmong, IsMarked, IsFetched, IsNew, StoreHas, IsPublishedLog, OfStore, OfFile, StandsBy}
+use Rattle.yp_headline.specs.Publishing.{IsAmong, IsMarked, IsFetched, IsNew, IsPublishedLog, OfFile, StandsBy}
 use Rattle.yp_headline.specs.Calling.{IsCallBack}
 use Rattle.yp_headline.specs.Headline.{Replies, Crashes, Transfers}
-use Rattle.yp_headline.specs.inside.Files.{is_cut, filed, stores_between, dialed_of, StandsByFront}
+use Rattle.yp_headline.specs.inside.Files.{is_cut, stores_between, StandsByFront}
 use Rattle.yp_headline.specs.inside.Worlds.{cuts_short, was_served, session_world}
 use Rattle.yp_headline.specs.inside.Laws.{WorldHolds, SessionHolds}
 use Rattle.yp_headline.proofs.Runs.{exchange_of, exchanges_of, turns_in, chain_reads, front_self, none_among, run_served}
-use Rattle.yp_headline.proofs.Stood.{stood as as_stood}
 use Rattle.yp_headline.proofs.Named.{open_is_named}
 use Rattle.yp_headline.proofs.Built.{made_built}
 use Rattle.yp_headline.proofs.Dialing.{IsSound, Goes, fetched_among, chained, ended_goes, some_then}
 use Rattle.yp_headline.proofs.Posting.{Gains, IsPosted, all_then, all_posted, run_posts, among_exchanges, installed_in, never_succeeds}
 use Rattle.yp_headline.proofs.Steps.{front_then}
-
--- ---- files
-
--- a disk that tells at first and at last
-module _ {D : Type 0} (history : D → Option History) where
-  told_first : (disk : D) (disks : List D) → AreTold history (disk ∷ disks) → IsSome (history disk)
-  told_first disk disks told = told 0 disk (omega (arith))
-
-  told_rest : (disk : D) (disks : List D) → AreTold history (disk ∷ disks) → AreTold history disks
-  told_rest disk disks told = λ k d within. told (suc k) d (omega (arith, within))
-
-  -- what the store of a disk has, where both moments are told
-  store_has : (old new : Option History) (version : Option MapVersion) → IsSome old → IsSome new
-      → IfSome old (λ h. stands h.state.reads ≡ stands_for version) → StoreHas (filed old new) version
-  store_has None new version is is' has = absurd cc
-  store_has (Some old) None version is is' has = absurd cc
-  store_has (Some old) (Some new) version is is' has = as_stood old.state.reads version has
-
-  pub stores_have : (faults : D → ℕ) (olds news : List D) (maps : List (StoredMap D)) → AllZip (IsOpened history faults) olds maps
-      → length news ≡ length maps → AreTold history olds → AreTold history news
-      → AllZip StoreHas (stores_between history olds news) (versions maps)
-  stores_have faults [] [] [] opened count told told' = tt
-  stores_have faults [] (new ∷ news) [] opened count told told' = absurd (omega (arith, count))
-  stores_have faults [] news (kept ∷ maps) opened count told told' = absurd opened
-  stores_have faults (old ∷ olds) news [] opened count told told' = absurd opened
-  stores_have faults (old ∷ olds) [] (kept ∷ maps) opened count told told' = absurd (omega (arith, count))
-  stores_have faults (old ∷ olds) (new ∷ news) (kept ∷ maps) opened count told told' = (
-    store_has (history old) (history new) kept.version (told_first old olds told) (told_first new news told')
-        opened.0.stood.version,
-    stores_have faults olds news maps opened.1 (omega (arith, count)) (told_rest old olds told) (told_rest new news told'),
-  )
-
-  -- what a crash leaves of a file at each moment
-  left_of : (Q P : List ℕ → Type 0) → ((image : List ℕ) → Q image → P image) → (old new : Option History)
-      → LeavesOnly old new (λ image. MayLeave old image ⊎ Q image)
-      → OfStore (λ file. (image : List ℕ) → LeftIn file.moments image → IsImage file.first image ⊎ P image) (filed old new)
-  left_of Q P then None None leaves = tt
-  left_of Q P then None (Some new) leaves = tt
-  left_of Q P then (Some old) None leaves = tt
-  left_of Q P then (Some old) (Some new) leaves =
-      λ image left. ⊎_elim (λ first. inl first) (λ is. inr (then image is)) (leaves.each image left)
-
-  pub left_at : (Q P : List ℕ → Type 0) → ((image : List ℕ) → Q image → P image) → (number : ℕ) (olds news : List D)
-      → AtDisk number olds news (LeavesOr history Q)
-      → OfFile number (stores_between history olds news)
-      (λ file. (image : List ℕ) → LeftIn file.moments image → IsImage file.first image ⊎ P image)
-  left_at Q P then number [] [] at = tt
-  left_at Q P then number [] (new ∷ news) at = tt
-  left_at Q P then number (old ∷ olds) [] at = tt
-  left_at Q P then zero (old ∷ olds) (new ∷ news) at = left_of Q P then (history old) (history new) at
-  left_at Q P then (suc number) (old ∷ olds) (new ∷ news) at = left_at Q P then number olds news at
-
-  -- what a crash leaves of a file at the end
-  end_of : (P : List ℕ → Type 0) (old new : Option History)
-      → ((h : History) → new ≡ Some h → (image : List ℕ) → IsImage h.state image → P image)
-      → OfStore (λ file. (image : List ℕ) → IsImage file.last image → IsImage file.first image ⊎ P image) (filed old new)
-  end_of P None None then = tt
-  end_of P None (Some new) then = tt
-  end_of P (Some old) None then = tt
-  end_of P (Some old) (Some new) then = λ image is. inr (then new refl image is)
-
-  pub end_at : (P : List ℕ → Type 0) (number : ℕ) (olds : List D) (maps : List (StoredMap D))
-      → ((kept : StoredMap D) (h : History) → slice_get maps number ≡ Some kept → history kept.disk ≡ Some h
-      → (image : List ℕ) → IsImage h.state image → P image)
-      → OfFile number (stores_between history olds (map (λ kept. kept.disk) maps))
-      (λ file. (image : List ℕ) → IsImage file.last image → IsImage file.first image ⊎ P image)
-  end_at P number [] [] then = tt
-  end_at P number [] (kept ∷ maps) then = tt
-  end_at P number (old ∷ olds) [] then = tt
-  end_at P zero (old ∷ olds) (kept ∷ maps) then =
-      end_of P (history old) (history kept.disk) (λ h is. then kept h refl is)
-  end_at P (suc number) (old ∷ olds) (kept ∷ maps) then = end_at P number olds maps then
-
-version_at : {D : Type 0} (maps : List (StoredMap D)) (number : ℕ) (kept : StoredMap D) → slice_get maps number ≡ Some kept
-    → slice_index_or (versions maps) number None ≡ kept.version
-version_at [] number kept is = absurd cc
-version_at (one ∷ maps) zero kept is = let same : one ≡ kept = cc in ap (λ k. k.version) same
-version_at (one ∷ maps) (suc number) kept is = version_at maps number kept is
-
--- ---- versions that are new
-
-made_so : (Is Is' : Making) → ((number : ℕ) (log : Log) (version : MapVersion) → Is number log version → Is' number log version)
-    → (log more : Log) → AreMade Is log more → AreMade Is' log more
-made_so Is Is' then log [] made = tt
-made_so Is Is' then log (entry ∷ more) made =
-    (then entry.0 log entry.1 made.0, made_so Is Is' then (log ++ entry ∷ []) more made.1)
+use Rattle.yp_headline.proofs.Stores.{stores_have, left_at, end_at, by_wire, zip_length, is_published, by_front, left_of_map}
 
 same_some : (a b : Wires) → Some a ≡ Some b → a ≡ b
 same_some a b e = cc
-
-told_input : (input : Option (List ℕ)) (stream : List ℕ) → input ≡ Some stream → unwrap_or input [] ≡ stream
-told_input input stream is = ap (λ (o : Option (List ℕ)). unwrap_or o []) is
-
-zip_length : {A B : Type 0} (R : A → B → Type 0) (xs : List A) (ys : List B) → AllZip R xs ys → length xs ≡ length ys
-zip_length R [] [] all = refl
-zip_length R [] (y ∷ ys) all = absurd all
-zip_length R (x ∷ xs) [] all = absurd all
-zip_length R (x ∷ xs) (y ∷ ys) all = let rest = zip_length R xs ys all.1 in omega (arith, rest)
 
 module _ {D B E : Type 0} (service : Service D B E) (end : End) (old new : Connection D E) (wires : List Wire)
     (serves : ServesConnection service end old new wires) (came before sent : List ℕ) (dialed : List Connected)
@@ -223,18 +125,7 @@ module _ {D B E : Type 0} (service : Service D B E) (end : End) (old new : Conne
       ∙ ap (λ (w : Wires). w.came) to ∙ more_came in
       let parts : dialed ≡ a.front ++ a.wire ∷ a.back = sym (append_cancel_left first.came _ dialed all) in
       let input_is = inputs a.wire (a.front, a.back, parts) in
-      let gives = a.gave input_is.0 input_is.1 in
-      record {
-        server = dialed_of a.wire;
-        among = (
-          map dialed_of a.front,
-          map dialed_of a.back,
-          ap (map dialed_of) parts ∙ map-append dialed_of a.front (a.wire ∷ a.back),
-        );
-        fetched = fetched;
-        gives = subst (λ (l : List ℕ). Gives l fetched) (sym (told_input a.wire.input input_is.0 input_is.1)) gives;
-        marked = marked;
-      }
+      by_wire world dialed a.front a.back a.wire refl parts input_is.0 input_is.1 fetched version (a.gave input_is.0 input_is.1) marked
 
   fetched_new : (number : ℕ) (log : Log) (version : MapVersion)
       → WasFetched service (transitions_of (dialogue_at serves.start old.wire begun) serves.runs.answered)
@@ -260,16 +151,10 @@ module _ {D B E : Type 0} (service : Service D B E) (end : End) (old new : Conne
       let grown = serves.grown told in
       let disks : length new.disks ≡ length serves.start.published.maps =
       ap length serves.last.disks ∙ length-map serves.finish.published.maps (λ (kept : StoredMap D). kept.disk) ∙ whole.count in
-      record {
-        first = versions serves.start.published.maps;
-        stored = stores_have service.keeping.history service.keeping.faults old.disks new.disks serves.start.published.maps
-            serves.first.opened disks told told';
-        begun_is = serves.first.log;
-        more = grown.more;
-        all = grown.last_is;
-        new = made_so (given_in service old serves.start serves.runs.turns serves.runs.answered) (IsNew world) is_new
-            log0 grown.more grown.made;
-      }
+      is_published world (given_in service old serves.start serves.runs.turns serves.runs.answered) log0 log1 is_new
+      (versions serves.start.published.maps)
+      (stores_have service.keeping.history service.keeping.faults old.disks new.disks serves.start.published.maps
+      serves.first.opened disks told told') serves.first.log grown
 
   served_one : IsServed service.catalogue log0 log1 (record { peer = service.peer; came = came; sent = sent; cut = is_cut end })
   served_one = subst (λ (c : Catalogue). IsServed c log0 log1 (record { peer = service.peer; came = came; sent = sent; cut = is_cut end }))
@@ -291,61 +176,20 @@ module _ {D B E : Type 0} (service : Service D B E) (end : End) (old new : Conne
 
   -- ---- what a crash leaves
 
-  stands_by : (number : ℕ) (log : Log) (image : List ℕ)
-      → IsShownOrMade (given_in service old serves.start serves.runs.turns serves.runs.answered) number log image
-      → StandsBy world number log image
-  stands_by number log image is = ⊎_elim (λ as_shown. inl (as_stood image (shown number log) as_shown))
-      (λ made. inr (made.0, is_new number log made.0 made.1, as_stood image (Some made.0) made.2)) is
-
-  by_front : (number : ℕ) (image : List ℕ)
-      → IsOfBetween (given_in service old serves.start serves.runs.turns serves.runs.answered) number log0 log1 image
-      → StandsByFront world number log0 log1 image
-  by_front number image is = record {
-    log = is.log;
-    begins = is.begins;
-    goes_on = is.goes_on;
-    holds = stands_by number is.log image is.holds;
-  }
-
-  by_standing : (number : ℕ) (standing : MapStanding) (image : List ℕ)
-      → StandsAs standing (shown number log1) image
-      → IsBehindMade (given_in service old serves.start serves.runs.turns serves.runs.answered) number log1 standing
-      → StandsBy world number log1 image
-  by_standing number Level image stands_as behind = inl (as_stood image (shown number log1) stands_as)
-  by_standing number (Behind failed) image stands_as behind =
-      ⊎_elim (λ as_shown. inl (as_stood image (shown number log1) as_shown))
-      (λ as_failed. inr (failed, is_new number log1 failed behind, as_stood image (Some failed) as_failed)) stands_as
-
-  at_end : (number : ℕ) (kept : StoredMap D) (h : History) → slice_get serves.finish.published.maps number ≡ Some kept
-      → service.keeping.history kept.disk ≡ Some h → (image : List ℕ) → IsImage h.state image
-      → StandsBy world number log1 image
-  at_end number kept h kept_is told_is image may =
-      let maps = serves.finish.published.maps in
-      let standing : IsStanding service.keeping.history kept =
-      subst (λ (o : Option (StoredMap D)). IfSome o (IsStanding service.keeping.history)) kept_is
-      (serves.last.standing number) in
-      let may' : MayLeave (service.keeping.history kept.disk) image =
-      subst (λ (o : Option History). MayLeave o image) (sym told_is) may in
-      let behind = subst (λ (o : Option (StoredMap D)). IfSome o (λ k. IsSome (service.keeping.history k.disk)
-      → IsBehindMade (given_in service old serves.start serves.runs.turns serves.runs.answered) number log1 k.standing))
-      kept_is (serves.behind number) in
-      let some : IsSome (service.keeping.history kept.disk) = subst (λ (o : Option History). IsSome o) (sym told_is) refl in
-      let version : kept.version ≡ shown number log1 =
-      sym (version_at maps number kept kept_is) ∙ sym (serves.last.shows number) in
-      by_standing number kept.standing image
-      (subst (λ (v : Option MapVersion). StandsAs kept.standing v image) version (standing image may')) (behind some)
-
   pub session_crashes : Crashes world log0 log1
   session_crashes = record {
     published = published;
     any_moment = λ number. left_at service.keeping.history
         (IsOfBetween (given_in service old serves.start serves.runs.turns serves.runs.answered) number log0 log1)
-        (StandsByFront world number log0 log1) (by_front number) number old.disks new.disks (serves.any_moment number);
+        (StandsByFront world number log0 log1)
+        (by_front world (given_in service old serves.start serves.runs.turns serves.runs.answered) log0 log1 is_new number)
+        number old.disks new.disks (serves.any_moment number);
     at_end = λ number. subst (λ (l : List D). OfFile number (stores_between service.keeping.history old.disks l)
         (λ file. (image : List ℕ) → IsImage file.last image → IsImage file.first image ⊎ StandsBy world number log1 image))
         (sym serves.last.disks)
-        (end_at service.keeping.history (StandsBy world number log1)
-        number old.disks serves.finish.published.maps (at_end number));
+        (end_at service.keeping.history (StandsBy world number log1) number old.disks serves.finish.published.maps
+        (left_of_map world (given_in service old serves.start serves.runs.turns serves.runs.answered) log0 log1 is_new
+        service.keeping.history serves.finish.published.maps serves.last.shows serves.last.standing serves.behind number));
     stored = λ number among. absurd (none_among number among);
   }
 

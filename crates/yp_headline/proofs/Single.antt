@@ -2,14 +2,13 @@
 use Rattle.std.proofs.Common.{◌≡◌, ◌⊎◌, ℕ, zero, suc, Bool, true, false, List, [], ◌∷◌, ◌++◌, Option, Some, None, refl, sym, ap, ◌∙◌, inl, inr, ⊎_elim}
 use Rattle.std.proofs.lemmas.List.{append-nil}
 use Rattle.yp_io.specs.Disk.{History, IsImage, LeftIn, LeftBetween, MayLeave}
-use Rattle.yp_io.specs.Dials.{Connected}
 use Rattle.yp_version.specs.Versions.{MapVersion}
 use Rattle.yp_map_file.specs.Stands.{Stored, stands}
 use Rattle.yp_board.specs.Catalogues.{Name}
 use Rattle.yp_board.specs.Logs.{Log, shown}
 use Rattle.yp_publisher.specs.Standing.{stands_for}
 use Rattle.yp_texts.specs.declared.reading.Reading.{Reading}
-use Rattle.yp_headline.specs.World.{World}
+use Rattle.yp_headline.specs.World.{World, Dialed}
 use Rattle.yp_headline.specs.Publishing.{IsAmong, IsNew, OfFile, StandsBy}
 use Rattle.yp_headline.specs.Headline.{Crashes}
 use Rattle.yp_headline.specs.inside.Files.{file_world, file_log, file_log_with, StandsByFront}
@@ -30,7 +29,7 @@ no_item number ([], back, is) = cc
 no_item number (one ∷ front, back, is) = cc
 
 module _ (own : List ℕ) (name : Name) (text : List ℕ → Option (List ℕ)) (reading : List ℕ → Reading)
-    (wires : List Connected) (old new : History) (held made : Option MapVersion) where
+    (wires : List Dialed) (old new : History) (held made : Option MapVersion) where
   abbrev world : Bool → World
   world told = file_world own name text reading wires told old new
 

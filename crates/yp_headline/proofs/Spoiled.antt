@@ -35,7 +35,7 @@ stands_older : stood_for (whole_file 6 119) ≡ Some (Some (version_with 6 119))
 unfolding word_at content_at opaque_at
 stands_older = refl
 
-stands_untold : stood_for (whole_file 8 120) ≡ Some (Some (version_with 8 120))
+pub stands_untold : stood_for (whole_file 8 120) ≡ Some (Some (version_with 8 120))
 unfolding word_at content_at opaque_at
 stands_untold = refl
 
@@ -85,6 +85,19 @@ told_too_early begun log crashes =
     let orders : 7 ≡ 8 = order_same (version_with 7 118) (version_with 8 119) e in omega (arith, orders)
 
 -- ---- a map that is made of a text
+
+-- an order that is next is over the last
+pub later : (previous : MapVersion) (moment : ℕ) (version : MapVersion)
+    → order_after (last_order (Some previous)) moment ≡ Some version.order → previous.order < version.order
+later previous moment version next = elim (eqb_tells previous.order order_max) [
+  | inl is ↦
+      let none : None ≡ Some version.order =
+      subst (λ (b : Bool). (if b then None else Some (max (previous.order + 1) moment)) ≡ Some version.order) is.0 next in absurd cc
+  | inr isnt ↦
+      let some : Some (max (previous.order + 1) moment) ≡ Some version.order =
+      subst (λ (b : Bool). (if b then None else Some (max (previous.order + 1) moment)) ≡ Some version.order) isnt.0 next in
+      let same : max (previous.order + 1) moment ≡ version.order = cc in omega (arith, same)
+]
 
 module _ (last : DiskState) (done : List ℕ) where
   first_is : (first : List (Option MapVersion)) → AllZip StoreHas (text_world (whole_file 7 118) last done).stores first
@@ -137,18 +150,6 @@ module _ (last : DiskState) (done : List ℕ) where
   abbrev pub NotOlder : Option MapVersion → Type 0
   NotOlder shows = (version : MapVersion) × (shows ≡ Some version) × (7 ≤ version.order)
 
-  later : (previous : MapVersion) (moment : ℕ) (version : MapVersion)
-      → order_after (last_order (Some previous)) moment ≡ Some version.order → previous.order < version.order
-  later previous moment version next = elim (eqb_tells previous.order order_max) [
-    | inl is ↦
-        let none : None ≡ Some version.order =
-        subst (λ (b : Bool). (if b then None else Some (max (previous.order + 1) moment)) ≡ Some version.order) is.0 next in absurd cc
-    | inr isnt ↦
-        let some : Some (max (previous.order + 1) moment) ≡ Some version.order =
-        subst (λ (b : Bool). (if b then None else Some (max (previous.order + 1) moment)) ≡ Some version.order) isnt.0 next in
-        let same : max (previous.order + 1) moment ≡ version.order = cc in omega (arith, same)
-  ]
-
   new_not_older : (log : Log) (version : MapVersion) → NotOlder (shown 0 log)
       → IsNew (text_world (whole_file 7 118) last done) 0 log version → NotOlder (Some version)
   new_not_older log version is (inl built) =
@@ -161,20 +162,20 @@ module _ (last : DiskState) (done : List ℕ) where
   not_older : (begun log : Log) → IsPublishedLog (text_world (whole_file 7 118) last done) begun log → NotOlder (shown 0 begun)
   not_older begun log published = subst NotOlder (sym (begun_shows begun log published)) (version_with 7 118, refl, omega arith)
 
-abbrev first_value : List Row → ℕ
+abbrev pub first_value : List Row → ℕ
 first_value [] = 0
 first_value (row ∷ rows) = slice_index row.1 0
 
 abbrev one_row : ℕ → List Row
 one_row value = (107 ∷ [], value ∷ []) ∷ []
 
-another_value : (value : ℕ) → (value ≡ 119 → ⊥) → one_row value ≡ one_row 119 → ⊥
+pub another_value : (value : ℕ) → (value ≡ 119 → ⊥) → one_row value ≡ one_row 119 → ⊥
 another_value value not_same rows = not_same (ap first_value rows)
 
-another_order : (order value : ℕ) → (order ≡ 7 → ⊥) → version_with order value ≡ version_with 7 118 → ⊥
+pub another_order : (order value : ℕ) → (order ≡ 7 → ⊥) → version_with order value ≡ version_with 7 118 → ⊥
 another_order order value not_same same = not_same (ap (λ (v : MapVersion). v.order) same)
 
-not_kept : (order value : ℕ) → (order ≡ 7 → ⊥) → IsImage (synced (whole_file 7 118)) (whole_file order value) → ⊥
+pub not_kept : (order value : ℕ) → (order ≡ 7 → ⊥) → IsImage (synced (whole_file 7 118)) (whole_file order value) → ⊥
 not_kept order value not_same kept = not_same (no_image (whole_file 7 118) (whole_file order value) kept 71 (omega arith))
 
 -- the order of one version with the rows of another

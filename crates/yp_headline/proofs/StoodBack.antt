@@ -24,7 +24,7 @@ step : {A B : Type 0} (r : Result A _) (f : A → Result B _) {x : A} {y : Resul
 step (Ok z) f {x} {y} is goes = ap f (same_ok z x is) ∙ goes
 step (Err wrong) f {x} {y} is goes = absurd cc
 
-some_same : {A : Type 0} (x y : A) → Some x ≡ Some y → x ≡ y
+pub some_same : {A : Type 0} (x y : A) → Some x ≡ Some y → x ≡ y
 some_same x y is = cc
 
 read_some : {A B : Type 0} (r : Result A XdrFault) (f : A → Option B) (y : B) → with_read r f ≡ Some y
@@ -32,7 +32,7 @@ read_some : {A B : Type 0} (r : Result A XdrFault) (f : A → Option B) (y : B) 
 read_some (Ok x) f y is = (x, refl, is)
 read_some (Err fault) f y is = absurd cc
 
-map_some : {A B : Type 0} (f : A → B) (o : Option A) (y : B) → option_map f o ≡ Some y → (x : A) × (o ≡ Some x) × (f x ≡ y)
+pub map_some : {A B : Type 0} (f : A → B) (o : Option A) (y : B) → option_map f o ≡ Some y → (x : A) × (o ≡ Some x) × (f x ≡ y)
 map_some f None y is = absurd cc
 map_some f (Some x) y is = (x, refl, some_same (f x) y is)
 
@@ -41,11 +41,11 @@ then_some : {A B : Type 0} (f : A → Option B) (o : Option A) (y : B) → optio
 then_some f None y is = absurd cc
 then_some f (Some x) y is = (x, refl, is)
 
-if_some : {A : Type 0} (b : Bool) (o : Option A) (y : A) → cond b o None ≡ Some y → (b ≡ true) × (o ≡ Some y)
+pub if_some : {A : Type 0} (b : Bool) (o : Option A) (y : A) → cond b o None ≡ Some y → (b ≡ true) × (o ≡ Some y)
 if_some true o y is = (refl, is)
 if_some false o y is = absurd cc
 
-and_both : (a b : Bool) → (a && b) ≡ true → (a ≡ true) × (b ≡ true)
+pub and_both : (a b : Bool) → (a && b) ≡ true → (a ≡ true) × (b ≡ true)
 and_both true b is = (refl, is)
 and_both false b is = absurd cc
 
@@ -123,7 +123,7 @@ head_ok left behind number order master count read format few =
     (step (guard (nat_lt count (suc rows_max)) c.0.at 7) (λ few. Ok (head_of (eqb number 2) order master count, behind))
     (ap (λ (t : Bool). guard t c.0.at 7) few) refl)))))
 
-body_ok : (bytes : List ℕ) (version : MapVersion) → body_version bytes ≡ Some version → body_at bytes ≡ Ok version
+pub body_ok : (bytes : List ℕ) (version : MapVersion) → body_version bytes ≡ Some version → body_at bytes ≡ Ok version
 unfolding body_at
 body_ok bytes version is =
     let start : Remaining = record { at = 0; bytes = bytes } in

@@ -65,4 +65,4 @@ no_server server (one ∷ front, back, is) = cc
 -- a transfer that is told as done, where no server was dialed
 pub of_no_server : IsWrongTransfer (one_file [] [] (whole_file 7 118) (0 ∷ []) [])
 of_no_server log transfers =
-    let done = transfers.done 0 ([], [], refl) in no_server done.server done.among
+    let done = transfers.done 0 ([], [], refl) in no_server done.fetched.server done.fetched.among

@@ -49,7 +49,7 @@ make_open : (log : Log) → reply Stream (maps_on own_map log) own_caller make_c
 unfolding word_at content_at opaque_at
 make_open log = refl
 
-matched_on : (log : Log) (peer : Peer) (order value : ℕ) → shown 0 log ≡ Some (version_with order value)
+pub matched_on : (log : Log) (peer : Peer) (order value : ℕ) → shown 0 log ≡ Some (version_with order value)
     → reply Stream (maps_on own_map log) peer match_call ≡ Bytes (match_reply value)
 unfolding word_at content_at opaque_at fixed opaque
 matched_on log peer order value is = rw is refl
@@ -164,7 +164,7 @@ pub stands_as : (bytes image : List ℕ) (version : MapVersion) → stood_for by
     → stood_for image ≡ Some (Some version)
 stands_as bytes image version stood is = ap stood_for (image_is bytes image is) ∙ stood
 
-eighth : stood_for (whole_file 8 119) ≡ Some (Some (version_with 8 119))
+pub eighth : stood_for (whole_file 8 119) ≡ Some (Some (version_with 8 119))
 unfolding word_at content_at opaque_at
 eighth = refl
 

@@ -33,9 +33,9 @@ pub record Crashes (world : World) (begun log : Log) : Type 0 where
   pub stored : (number : ℕ) → IsAmong world.done number → OfFile number world.stores (λ file. (image : List ℕ)
       → IsImage file.last image → stood_for image ≡ Some (shown number log))
 
--- Transfers. Each that was told as done is of a map whose version a server that was dialed gave: the log shows it.
--- Where what came begins with what a source sent whose own log rises, it is the version that the source showed
--- throughout. Each datagram that was posted calls back a transfer that a connection asked for.
+-- Transfers. Each that was told as done is of a map whose version a server gave, over a stream or in datagrams: the log
+-- shows it. Where that came of a source whose own log rises, it is the version that the source showed throughout. Each
+-- datagram that was posted calls back a transfer that a connection asked for.
 pub record Transfers (world : World) (log : Log) : Type 0 where
   pub done : (number : ℕ) → IsAmong world.done number → Succeeded world log number
   pub called_back : AllByRecursion (IsCallBack world log) world.posted

@@ -38,12 +38,12 @@ pub record IsBuilt (world : World) (number : ℕ) (log : Log) (version : MapVers
       (map_name number world.catalogue)))
       (λ text. AreListed (text_rows (world.reading (map_name number world.catalogue)) text) version.rows)
 
--- A version was fetched: a server that was dialed gave it.
+-- A version was fetched: a server gave it that was asked for the map.
 pub record IsFetched (world : World) (version : MapVersion) : Type 0 where
   pub server : Dialed
   pub among : IsAmong world.dialed server
   pub fetched : MapVersion
-  pub gives : Gives server.came fetched
+  pub gives : Gives server fetched
   pub marked : IsMarked fetched version
 
 -- a version that is new behind a log

@@ -1,73 +1,79 @@
 -- What a source shows that is asked for a map, and what a transfer that succeeds has of it.
-use Rattle.std.specs.Prelude.{◌≡◌, ◌≤◌, ℕ, List, ◌++◌, length, slice_get, Some, Ok}
+use Rattle.std.specs.Prelude.{◌≡◌, ◌≤◌, ◌<◌, ℕ, ◌+◌, ◌%◌, ◌^◌, ◌&&◌, bytes_eq, List, [], ◌∷◌, length, flat_map}
+use Rattle.std.specs.Prelude.{slice_get, slice_index, Some, Ok}
+use Rattle.std.specs.List.{AllByRecursion, IsDistinct}
 use Rattle.yp_io.specs.declared.stream.Peer.{Peer}
-use Rattle.yp_rpc.specs.Records.{sent}
+use Rattle.yp_rpc.specs.Called.{call_of}
 use Rattle.yp_messages.specs.Numbers.{name_max}
+use Rattle.yp_messages.specs.Messages.{req_key}
+use Rattle.yp_version.specs.Rows.{Row}
 use Rattle.yp_version.specs.Versions.{MapVersion}
 use Rattle.yp_board.specs.Catalogues.{Catalogue, Name}
 use Rattle.yp_board.specs.Logs.{Log, shown}
 use Rattle.yp_board.specs.Views.{IsFront}
 use Rattle.yp_publisher.specs.Rising.{IsRisingLog}
-use Rattle.yp_answer.specs.declared.procedure.Path.TheVariants.{Stream}
+use Rattle.yp_answer.specs.declared.procedure.Path.{Path}
+use Rattle.yp_answer.specs.declared.procedure.Path.TheVariants.{Stream, Datagram as Mail}
 use Rattle.yp_answer.specs.Maps.{map_check}
-use Rattle.yp_answer.specs.Served.{AreServed, maps_on}
+use Rattle.yp_answer.specs.Served.{maps_on}
 use Rattle.yp_answer.specs.Reply.{Bytes}
 use Rattle.yp_headline.specs.Answering.{answer, map_call}
 use Rattle.yp_headline.specs.World.{World, Dialed}
+use Rattle.yp_headline.specs.Storing.{stood_for}
 use Rattle.yp_headline.specs.Fetching.{Gives}
-use Rattle.yp_headline.specs.Publishing.{IsAmong, IsMarked}
+use Rattle.yp_headline.specs.Publishing.{IsMarked, IsFetched}
 
--- A source answers a call of this caller on a front of its log.
-abbrev pub Answers : Catalogue → Peer → Log → (call bytes : List ℕ) → Type 0
-Answers catalogue caller front call bytes = answer Stream (maps_on catalogue front) caller call ≡ Bytes bytes
+-- the calls behind the first: MASTER, ALL and ORDER; or MASTER, FIRST, NEXT behind each row, and ORDER
+abbrev pub next_calls : Name → (xid : ℕ) → List Row → List (List ℕ)
+next_calls name xid [] = map_call 10 name xid ∷ []
+next_calls name xid (row ∷ rows) =
+    call_of req_key xid 100004 2 5 (name.0, (name.1, row.0)) ∷ next_calls name ((xid + 1) % 2 ^ 32) rows
 
--- a source whose log rises: the calls of a fetch, ORDER, MASTER, ALL and ORDER, were answered on fronts of it, each of
--- which begins the next, and the replies are what came, with nothing before them. The names are within their limits.
-pub record Source (name : Name) (came : List ℕ) : Type 0 where
+abbrev pub later_calls : Path → Name → List Row → List (List ℕ)
+later_calls Stream name rows = map_call 9 name 2 ∷ map_call 8 name 3 ∷ map_call 10 name 4 ∷ []
+later_calls Mail name rows = map_call 9 name 2 ∷ map_call 4 name 3 ∷ next_calls name 4 rows
+
+-- a catalogue of a server: at most 64 maps, no two of one name, and names of 1 to 64 bytes
+pub record AreNamed (catalogue : Catalogue) : Type 0 where
+  pub names : AllByRecursion (λ name. (0 < length name) × (length name ≤ name_max))
+      (catalogue.own ∷ flat_map (λ name. name.0 ∷ name.1 ∷ []) catalogue.maps)
+  pub distinct : IsDistinct (λ a b. bytes_eq a.0 b.0 && bytes_eq a.1 b.1) catalogue.maps
+  pub count : length catalogue.maps ≤ 64
+
+-- Calls of a caller were answered so in turn, on fronts of a log that go from one up to another.
+abbrev pub Answers : Catalogue → Path → Peer → (calls replies : List (List ℕ)) → (known last : Log) → Type 0
+Answers catalogue path caller [] [] known last = last ≡ known
+Answers catalogue path caller (call ∷ calls) (reply ∷ replies) known last = (front : Log) × IsFront known front
+    × (answer path (maps_on catalogue front) caller call ≡ Bytes reply)
+    × Answers catalogue path caller calls replies front last
+Answers _ _ _ _ _ _ _ = ⊥
+
+-- a source of what a server gave: a log that rises, each of whose versions some file stands for, on whose fronts the
+-- calls were answered, from a first one to a last one, and these were the replies; the names that the calls have are
+-- within their limits
+pub record Source (name : Name) {server : Dialed} {version : MapVersion} (gives : Gives server version) : Type 0 where
   pub names : (length name.0 ≤ name_max) × (length name.1 ≤ name_max)
   pub catalogue : Catalogue
+  pub named : AreNamed catalogue
   pub caller : Peer
   pub log : Log
+  pub stored : AllByRecursion (λ entry. (file : List ℕ) × ((at : ℕ) → slice_index file at < 256)
+      × (stood_for file ≡ Some (Some entry.1))) log
   pub rises : IsRisingLog log
-  pub served : AreServed (maps_on catalogue log)
   pub first : Log
-  pub second : Log
-  pub third : Log
-  pub fourth : Log
-  pub to_second : IsFront first second
-  pub to_third : IsFront second third
-  pub to_fourth : IsFront third fourth
-  pub to_log : IsFront fourth log
-  pub order : List ℕ
-  pub master : List ℕ
-  pub rows : List ℕ
-  pub again : List ℕ
-  pub rest : List ℕ
-  pub on_first : Answers catalogue caller first (map_call 10 name 1) order
-  pub on_second : Answers catalogue caller second (map_call 9 name 2) master
-  pub on_third : Answers catalogue caller third (map_call 8 name 3) rows
-  pub on_fourth : Answers catalogue caller fourth (map_call 10 name 4) again
-  pub bytes : came ≡ sent order ++ sent master ++ sent rows ++ sent again ++ rest
+  pub last : Log
+  pub to_log : IsFront last log
+  pub on_first : answer server.path (maps_on catalogue first) caller (map_call 10 name 1) ≡ Bytes gives.order
+  pub others : Answers catalogue server.path caller (later_calls server.path name gives.rows)
+      (gives.master ∷ gives.others) first last
 
--- It showed a version of the map on each front, but for the mark, from the first to the last.
-pub record ShowedThroughout (name : Name) (came : List ℕ) (source : Source name came)
-    (version : MapVersion) : Type 0 where
-  pub shown : MapVersion
-  pub first : map_check (maps_on source.catalogue source.first) name.0 name.1 ≡ Ok shown
-  pub second : map_check (maps_on source.catalogue source.second) name.0 name.1 ≡ Ok shown
-  pub third : map_check (maps_on source.catalogue source.third) name.0 name.1 ≡ Ok shown
-  pub fourth : map_check (maps_on source.catalogue source.fourth) name.0 name.1 ≡ Ok shown
-  pub marked : IsMarked shown version
-
--- A transfer of a map succeeded: a server gave a version, and the log shows it; if what came is of such a source, that
--- showed it throughout.
+-- A transfer of a map succeeded: the log shows a version that a server gave. If that is of such a source, it showed
+-- this version throughout, from the first reply to the last, but for the mark.
 pub record Succeeded (world : World) (log : Log) (number : ℕ) : Type 0 where
-  pub server : Dialed
-  pub among : IsAmong world.dialed server
-  pub version : MapVersion
-  pub gives : Gives server.came version
   pub stored : MapVersion
-  pub marked : IsMarked version stored
+  pub fetched : IsFetched world stored
   pub shows : shown number log ≡ Some stored
   pub of_source : (name : Name) → slice_get world.catalogue.maps number ≡ Some name
-      → (source : Source name server.came) → ShowedThroughout name server.came source version
+      → (source : Source name fetched.gives) → (origin : MapVersion) × IsMarked origin stored
+      × ((front : Log) → IsFront source.first front → IsFront front source.last
+      → map_check (maps_on source.catalogue front) name.0 name.1 ≡ Ok origin)

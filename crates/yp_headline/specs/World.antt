@@ -5,6 +5,8 @@ use Rattle.yp_io.specs.Disk.{DiskState}
 use Rattle.yp_version.specs.Versions.{MapVersion}
 use Rattle.yp_board.specs.Catalogues.{Catalogue}
 use Rattle.yp_texts.specs.declared.reading.Reading.{Reading}
+use Rattle.yp_answer.specs.declared.procedure.Path.{Path}
+use Rattle.yp_answer.specs.declared.procedure.Path.TheVariants.{Stream, Datagram as Mail}
 
 -- a connection that was served: its caller, what came, what was sent back, and whether it was cut short: its wire
 -- failed, memory ran out, a limit of calls was reached, or it was let go
@@ -32,14 +34,20 @@ pub data Store : Type 0 where
   Given : MapVersion → Store
   Filed : MapFile → Store
 
--- a server that was dialed, and the bytes that came of it
+-- the bytes of a stream, or datagrams
+abbrev pub Came : Path → Type 0
+Came Stream = List ℕ
+Came Mail = List (List ℕ)
+
+-- a server that was asked for a map, dialed or in datagrams, and what came of it
 pub record Dialed : Type 0 where
   pub peer : Peer
-  pub came : List ℕ
+  pub path : Path
+  pub came : Came path
 
 -- the own name with the names of the maps, and the store of each; the texts by their names, where they are told, and
--- how that of a map is read; the connections that were served, and inbox by inbox the datagrams; what came of
--- servers that were dialed; the datagrams that were posted; and the maps whose transfer was told as done
+-- how that of a map is read; the connections that were served, and inbox by inbox the datagrams; the servers that were
+-- asked for maps; the datagrams that were posted; and the maps whose transfer was told as done
 pub record World : Type 0 where
   pub catalogue : Catalogue
   pub stores : List Store

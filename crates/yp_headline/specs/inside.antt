@@ -4,5 +4,6 @@ pub mod Worlds
 pub mod Laws
 pub mod Tried
 pub mod TriedFiles
+pub mod TriedWalks
 pub mod Server
 pub mod Running

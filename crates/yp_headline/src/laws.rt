@@ -5,10 +5,12 @@ ghost use Rattle.yp_command.specs.office.Seeing.{seeing};
 ghost use Rattle.yp_headline.specs.inside.Running.{RunHolds};
 ghost use Rattle.yp_headline.specs.inside.Words.{WordsAreSame};
 ghost use Rattle.yp_headline.specs.inside.Server.{ServeHolds};
-ghost use Rattle.yp_headline.specs.inside.Laws.{OnceReplies, SessionHolds, XfrHolds, JobHolds, RevnetHolds};
+ghost use Rattle.yp_headline.specs.inside.Laws.{OnceReplies, SessionHolds, XfrHolds, WalkHolds, JobHolds, RevnetHolds};
 
-use yp_end_to_end::transfer::laws::{fetched_is_shown, turns_give_fetch};
+use yp_end_to_end::transfer::laws::{fetched_is_shown, shown_between};
+use yp_end_to_end::walk::laws::walked_is_shown;
 use yp_io::{Clock, Dial, Disk, Inbox, Sink, Source, Texts};
+use yp_map_file::laws::read_is_body;
 
 /// The words that the headline has of its own are those of other crates.
 pub fn words_are_same()
@@ -29,8 +31,17 @@ pub fn session_holds<S: Source, K: Sink, D: Disk, C: Clock, A: Dial, I: Inbox, T
 pub fn xfr_holds<S: Source, K: Sink, D: Disk, C: Clock, A: Dial, I: Inbox, T: Texts>()
     ensures { XfrHolds (seeing S.Source K.Sink D.Disk C.Clock A.Dial I.Inbox T.Texts) }
 {
-    turns_give_fetch();
+    read_is_body();
     fetched_is_shown();
+    shown_between();
+}
+
+/// What `walk` does is what the headline says of crashes and of transfers.
+pub fn walk_holds<S: Source, K: Sink, D: Disk, C: Clock, A: Dial, I: Inbox, T: Texts>()
+    ensures { WalkHolds (seeing S.Source K.Sink D.Disk C.Clock A.Dial I.Inbox T.Texts) }
+{
+    read_is_body();
+    walked_is_shown();
 }
 
 /// What `build` and `load` do is what the headline says of crashes.
@@ -43,8 +54,8 @@ pub fn revnet_holds<S: Source, K: Sink, D: Disk, C: Clock, A: Dial, I: Inbox, T:
     ensures { RevnetHolds (seeing S.Source K.Sink D.Disk C.Clock A.Dial I.Inbox T.Texts) }
 {}
 
-/// What `serve` does with its connections and its datagrams is what the headline says of replies, but for what was
-/// published behind the first versions; and at the end its files stand for what was.
+/// What `serve` does with its connections, its datagrams and its files is what the headline says of replies and of
+/// crashes.
 pub fn serve_holds<S: Source, K: Sink, D: Disk, C: Clock, A: Dial, I: Inbox, T: Texts>()
     ensures { ServeHolds (seeing S.Source K.Sink D.Disk C.Clock A.Dial I.Inbox T.Texts) }
 {}
@@ -53,6 +64,8 @@ pub fn serve_holds<S: Source, K: Sink, D: Disk, C: Clock, A: Dial, I: Inbox, T: 
 pub fn run_holds<S: Source, K: Sink, D: Disk, C: Clock, A: Dial, I: Inbox, T: Texts>()
     ensures { RunHolds (seeing S.Source K.Sink D.Disk C.Clock A.Dial I.Inbox T.Texts) }
 {
-    turns_give_fetch();
+    read_is_body();
     fetched_is_shown();
+    shown_between();
+    walked_is_shown();
 }

@@ -2,8 +2,11 @@
 
 ghost use Rattle.yp_headline.specs.inside.Tried.{RepliesAreFalse, HoldsOfRows};
 ghost use Rattle.yp_headline.specs.inside.TriedFiles.{CrashesAreFalse, TransfersAreFalse, HoldsOfTransfer};
+ghost use Rattle.yp_headline.specs.inside.TriedWalks.{WalksAreFalse, HoldsOfWalk};
 
-use yp_end_to_end::transfer::laws::{fetched_is_shown, turns_give_fetch};
+use yp_end_to_end::transfer::laws::{fetched_is_shown, shown_between};
+use yp_end_to_end::walk::laws::walked_is_shown;
+use yp_map_file::laws::read_is_body;
 use yp_rpc::laws::{cut_is_one, first_is_one};
 
 /// Worlds of connections and datagrams of which the headline is false.
@@ -16,7 +19,9 @@ pub fn replies_are_false()
 /// Worlds of files of which it is false.
 pub fn crashes_are_false()
     ensures { CrashesAreFalse }
-{}
+{
+    first_is_one();
+}
 
 /// Worlds of transfers of which it is false.
 pub fn transfers_are_false()
@@ -24,6 +29,11 @@ pub fn transfers_are_false()
 {
     first_is_one();
 }
+
+/// Worlds of walks of which it is false.
+pub fn walks_are_false()
+    ensures { WalksAreFalse }
+{}
 
 /// Worlds of which it is true.
 pub fn holds_of_rows()
@@ -34,6 +44,15 @@ pub fn holds_of_rows()
 pub fn holds_of_transfer()
     ensures { HoldsOfTransfer }
 {
-    turns_give_fetch();
+    read_is_body();
     fetched_is_shown();
+    shown_between();
+}
+
+/// A world of a walk that is told as done, of which it is true.
+pub fn holds_of_walk()
+    ensures { HoldsOfWalk }
+{
+    read_is_body();
+    walked_is_shown();
 }

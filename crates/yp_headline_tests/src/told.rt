@@ -1,5 +1,5 @@
-//! Runs of `once`, `session`, `build` and `serve` by [`run_told`]. Their calls, replies and files are written out by
-//! hand, from RFC 5531, yp.x and docs/FORMATS.md.
+//! Runs of `once`, `session`, `build`, `walk` and `serve` by [`run_told`]. Their calls, replies and files are written
+//! out by hand, from RFC 5531, yp.x and docs/FORMATS.md.
 
 use std::alloc::Global;
 use std::process::Abort;
@@ -8,7 +8,8 @@ use std::sync::Wait;
 use std::thread::Threads;
 use std::time::Clock;
 use yp_headline::whole::run_told;
-use yp_stage::{FAIR, Row, SetUp, Stands, Words, set_up, try_ended};
+use yp_io::{OWN_HOST, Peer};
+use yp_stage::{Datagram, FAIR, Row, SetUp, Stands, Words, set_up, try_ended};
 
 /// MATCH of `alpha` in the map `hosts.byname` of the domain `lab`, behind the word of its number.
 const MATCH: &str =
@@ -36,9 +37,89 @@ const FILE: Words = &[
     "00000005 616c7068 61000000 0000000e 31302e30 2e302e31 20616c70 68610000",
 ];
 
+/// The server of a walk.
+const SOURCE: Peer = Peer {
+    addr: OWN_HOST,
+    port: 7_001,
+};
+
+/// The domain `lab` and the map `hosts.byname`.
+const MAP: &str = "00000003 6c616200 0000000c 686f7374 732e6279 6e616d65";
+
+/// The front of a reply that is SUCCESS, behind its number.
+const SUCCESS: &str = "00000001 00000000 00000000 00000000 00000000";
+
+/// The calls ORDER, MASTER, FIRST, NEXT behind `alpha`, and ORDER.
+const CALLS: &[Datagram] = &[
+    Datagram {
+        peer: SOURCE,
+        bytes: &[
+            "00000001 00000000 00000002 000186a4 00000002 0000000a 00000000 00000000 00000000 00000000",
+            MAP,
+        ],
+    },
+    Datagram {
+        peer: SOURCE,
+        bytes: &[
+            "00000002 00000000 00000002 000186a4 00000002 00000009 00000000 00000000 00000000 00000000",
+            MAP,
+        ],
+    },
+    Datagram {
+        peer: SOURCE,
+        bytes: &[
+            "00000003 00000000 00000002 000186a4 00000002 00000004 00000000 00000000 00000000 00000000",
+            MAP,
+        ],
+    },
+    Datagram {
+        peer: SOURCE,
+        bytes: &[
+            "00000004 00000000 00000002 000186a4 00000002 00000005 00000000 00000000 00000000 00000000",
+            MAP,
+            "00000005 616c7068 61000000",
+        ],
+    },
+    Datagram {
+        peer: SOURCE,
+        bytes: &[
+            "00000005 00000000 00000002 000186a4 00000002 0000000a 00000000 00000000 00000000 00000000",
+            MAP,
+        ],
+    },
+];
+
+/// Their replies: order 100, the master `m1`, the row, YP_NOMORE, and order 100 again.
+const MAILS: &[Datagram] = &[
+    Datagram {
+        peer: SOURCE,
+        bytes: &["00000001", SUCCESS, "00000001 00000064"],
+    },
+    Datagram {
+        peer: SOURCE,
+        bytes: &["00000002", SUCCESS, "00000001 00000002 6d310000"],
+    },
+    Datagram {
+        peer: SOURCE,
+        bytes: &[
+            "00000003",
+            SUCCESS,
+            "00000001 0000000e 31302e30 2e302e31 20616c70 68610000 00000005 616c7068 61000000",
+        ],
+    },
+    Datagram {
+        peer: SOURCE,
+        bytes: &["00000004", SUCCESS, "00000002 00000000 00000000"],
+    },
+    Datagram {
+        peer: SOURCE,
+        bytes: &["00000005", SUCCESS, "00000001 00000064"],
+    },
+];
+
 const STANDS: Stands = Some((100, 1, false));
 
-static RUNS: [Row; 4] = [
+static RUNS: [Row; 6] = [
     Row {
         name: "once",
         words: &["once", "lab/hosts.byname", "alpha=10.0.0.1 alpha"],
@@ -75,6 +156,25 @@ static RUNS: [Row; 4] = [
         ..FAIR
     },
     Row {
+        name: "walk",
+        words: &[
+            "walk",
+            "s1",
+            "newer",
+            "lab/hosts.byname",
+            "m1@127.0.0.1:7001",
+            "7120",
+            "5",
+        ],
+        brings: MAILS,
+        output: "lab/hosts.byname order 100 generation 1\n",
+        sends: CALLS,
+        turns: 5,
+        stands: STANDS,
+        left: FILE,
+        ..FAIR
+    },
+    Row {
         name: "serve",
         words: &["serve", "m1", "7001", "1", "1", "0", "lab/hosts.byname"],
         file: FILE,
@@ -82,6 +182,26 @@ static RUNS: [Row; 4] = [
         most: 1,
         output: "connections 1 calls 1\n",
         takes: &[&["80000030 00000001", ADDRESS]],
+        stands: STANDS,
+        left: FILE,
+        ..FAIR
+    },
+    Row {
+        name: "serve, and a map that is made",
+        words: &["serve", "m1", "7001", "1", "1", "0", "lab/hosts.byname"],
+        calls: &[&["8000004c 00000001", MATCH, MAKE, "8000004c 00000003", MATCH]],
+        most: 1,
+        sources: &[("hosts", "10.0.0.1 alpha\n")],
+        moment: 100,
+        output: "connections 1 calls 3\n",
+        takes: &[&[
+            "80000020 00000001",
+            NOMAP,
+            "8000001c 00000002",
+            MADE,
+            "80000030 00000003",
+            ADDRESS,
+        ]],
         stands: STANDS,
         left: FILE,
         ..FAIR

@@ -8,7 +8,7 @@ ghost use Rattle.yp_board.specs.readers.Boards.{workers_max};
 ghost use Rattle.yp_worker.specs.Receptions.{IsListenerState, IsUnder, opening_by};
 ghost use Rattle.yp_worker.specs.inside.Receptions.{terms_by};
 ghost use Rattle.yp_worker.specs.datagrams.Mailing.{nothing_held};
-ghost use Rattle.yp_worker.specs.datagrams.Queues.{all_parts};
+ghost use Rattle.yp_worker.specs.inside.Queues.{all_parts};
 ghost use Rattle.yp_host.specs.inside.workers.Makings.{SiteBuilds};
 ghost use Rattle.yp_host.specs.workers.Charges.{no_totals, totals_of};
 ghost use Rattle.yp_host.specs.workers.Workers.{WorkerState};

@@ -10,7 +10,7 @@ ghost use Rattle.yp_worker.specs.Receptions.{IsListenerState, IsUnder, opening_b
 ghost use Rattle.yp_worker.specs.inside.Receptions.{terms_by};
 ghost use Rattle.yp_worker.specs.Summing.{counting_of};
 ghost use Rattle.yp_worker.specs.datagrams.Mailing.{nothing_held};
-ghost use Rattle.yp_worker.specs.datagrams.Queues.{all_parts};
+ghost use Rattle.yp_worker.specs.inside.Queues.{all_parts};
 ghost use Rattle.yp_rpc.specs.inside.Turns.{box_by};
 ghost use Rattle.yp_server.specs.Counting.{CountsAll};
 ghost use Rattle.yp_server.specs.Serving.{SomeHasRisen};

@@ -1,6 +1,9 @@
 -- The world of a command over one file.
 use Rattle.std.specs.Prelude.{ℕ, ◌-◌, suc, Bool, true, false, List, []}
-use Rattle.std.specs.Prelude.{◌∷◌, ◌++◌, map, length, take, drop, Option, Some, None, unwrap_or}
+use Rattle.std.specs.Prelude.{◌∷◌, ◌++◌, ◌==◌, ◌&&◌, bytes_eq, if◌then◌else◌, length, take, drop, Option, Some, None}
+use Rattle.std.specs.Prelude.{unwrap_or}
+use Rattle.yp_io.specs.declared.stream.Peer.{Peer}
+use Rattle.yp_io.specs.Inboxes.{InboxEvent, Arrived, Silent, Sent}
 use Rattle.yp_io.specs.Disk.{History, states, moment}
 use Rattle.yp_io.specs.Dials.{Connected, Sending, Posted, Asked}
 use Rattle.yp_version.specs.Versions.{MapVersion, unmarked}
@@ -8,6 +11,7 @@ use Rattle.yp_board.specs.Catalogues.{Name}
 use Rattle.yp_board.specs.Logs.{Log, starts}
 use Rattle.yp_board.specs.Between.{Between}
 use Rattle.yp_texts.specs.declared.reading.Reading.{Reading}
+use Rattle.yp_answer.specs.declared.procedure.Path.TheVariants.{Stream, Datagram as Mail}
 use Rattle.yp_answer.specs.declared.session.session.End.{End}
 use Rattle.yp_answer.specs.declared.session.session.End.TheVariants.{Clean, Torn, TooLong}
 use Rattle.yp_answer.specs.declared.session.session.End.TheVariants.{ReadFault, WriteFault, Enough}
@@ -38,9 +42,30 @@ abbrev pub stores_between : {D : Type 0} → (D → Option History) → List D �
 stores_between history (old ∷ olds) (new ∷ news) = filed (history old) (history new) ∷ stores_between history olds news
 stores_between history _ _ = []
 
--- the wires that came of a dial, as servers that were dialed
+-- a server that was dialed, and the bytes that came of it
+abbrev pub streamed : Peer → List ℕ → Dialed
+streamed peer came = record { peer = peer; path = Stream; came = came }
+
+-- one that was asked in datagrams, and those that came of it
+abbrev pub mailed : Peer → List (List ℕ) → Dialed
+mailed peer came = record { peer = peer; path = Mail; came = came }
+
+-- a wire that came of a dial
 abbrev pub dialed_of : Connected → Dialed
-dialed_of wire = record { peer = wire.peer; came = unwrap_or wire.input [] }
+dialed_of wire = streamed wire.peer (unwrap_or wire.input [])
+
+-- the datagrams that arrived of a peer
+abbrev pub mails_from : Peer → List InboxEvent → List (List ℕ)
+mails_from peer [] = []
+mails_from peer (Arrived from mail ∷ events) =
+    if bytes_eq from.addr peer.addr && (from.port == peer.port) then mail ∷ mails_from peer events
+    else mails_from peer events
+mails_from peer (Silent ∷ events) = mails_from peer events
+mails_from peer (Sent to mail ∷ events) = mails_from peer events
+
+-- a server that was asked in datagrams, while this happened at an inbox
+abbrev pub walked_of : Peer → List InboxEvent → Dialed
+walked_of peer events = mailed peer (mails_from peer events)
 
 -- the datagrams that a dial posted, but for questions whose answer was awaited
 abbrev pub posted_of : List Sending → List (List ℕ)
@@ -67,15 +92,15 @@ done_where false = []
 
 -- a command over the file of one map, which it tells as stored or doesn't
 abbrev pub file_world : (own : List ℕ) → Name → (text : List ℕ → Option (List ℕ)) → (reading : List ℕ → Reading)
-    → List Connected → (stored : Bool) → (old new : History) → World
-file_world own name text reading wires stored old new = record {
+    → List Dialed → (stored : Bool) → (old new : History) → World
+file_world own name text reading dialed stored old new = record {
   catalogue = record { own = own; maps = name ∷ [] };
   stores = filed (Some old) (Some new) ∷ [];
   text = text;
   reading = reading;
   connections = [];
   datagrams = [];
-  dialed = map dialed_of wires;
+  dialed = dialed;
   posted = [];
   done = done_where stored;
 }

@@ -1,7 +1,8 @@
 -- What each command does is what the headline says of its world.
-use Rattle.std.specs.Prelude.{◌≡◌, ◌≢◌, ◌≤◌, ℕ, List, [], ◌++◌, length, true, Option, Some, None}
+use Rattle.std.specs.Prelude.{◌≡◌, ◌≢◌, ◌≤◌, ℕ, List, [], ◌∷◌, ◌++◌, length, map, true, Option, Some, None}
 use Rattle.yp_io.specs.Disk.{History}
 use Rattle.yp_io.specs.Dials.{Connected, Wires}
+use Rattle.yp_io.specs.Inboxes.{InboxEvent}
 use Rattle.yp_version.specs.Rows.{Row}
 use Rattle.yp_version.specs.Versions.{MapVersion}
 use Rattle.yp_map_file.specs.Stands.{stands}
@@ -19,7 +20,9 @@ use Rattle.yp_command_maps.specs.Build.{tells_stored, JobDoes}
 use Rattle.yp_command_maps.specs.Build.{Job as BuildJob}
 use Rattle.yp_command_maps.specs.Revnet.{RevnetDoes, store_history, netgroup_history}
 use Rattle.yp_command_maps.specs.Xfr.{Job, dialing}
+use Rattle.yp_command_mail.specs.Telling.{box}
 use Rattle.yp_program.specs.Transferring.{TransferDoes}
+use Rattle.yp_program.specs.Walking.{WalkingDoes}
 use Rattle.yp_io.specs.declared.stream.Peer.{Peer}
 use Rattle.yp_publisher.specs.Grown.{AreTold}
 use Rattle.yp_transfer.specs.HostTable.{HostList}
@@ -28,7 +31,7 @@ use Rattle.yp_command_serve.specs.Session.{SessionDoes, service, connection}
 use Rattle.yp_headline.specs.World.{World}
 use Rattle.yp_headline.specs.Publishing.{IsAmong}
 use Rattle.yp_headline.specs.Headline.{Replies, Crashes, Transfers}
-use Rattle.yp_headline.specs.inside.Files.{file_world, file_log}
+use Rattle.yp_headline.specs.inside.Files.{dialed_of, walked_of, file_world, file_log}
 use Rattle.yp_headline.specs.inside.Worlds.{once_world, session_world, was_served, cuts_short}
 
 -- An input that is told is a connection that `once` served, on the one version of its words.
@@ -59,7 +62,19 @@ XfrHolds {S} {K} {D} {C} {A} {I} {T} seen =
     → (dialing seen new).past ≡ Some last
     → length first.back ≤ length first.came → last.came ≡ first.came ++ wires
     → ((wire : Connected) → IsAmong wires wire → (stream : List ℕ) × (wire.input ≡ Some stream))
-    → FileHolds (file_world job.name job.store (λ name. None) reading_of wires (tells_stored status) h h') held
+    → FileHolds (file_world job.name job.store (λ name. None) reading_of (map dialed_of wires) (tells_stored status)
+    h h') held
+
+-- What `walk` does to a file that isn't damaged, where its disk and its inbox tell.
+abbrev pub WalkHolds : {S K D C A I T : Type 0} → Seeing S K D C A I T → Type 0
+WalkHolds {S} {K} {D} {C} {A} {I} {T} seen =
+    (job : Job) (turns : ℕ) (status : Status) (old new : Office S K D C A I T)
+    → WalkingDoes seen job turns status old new
+    → (h h' : History) → history seen old ≡ Some h → history seen new ≡ Some h'
+    → (held : Option MapVersion) → stands h.state.reads ≡ stands_for held
+    → (told events : List InboxEvent) → (box seen old).past ≡ Some told → (box seen new).past ≡ Some (told ++ events)
+    → FileHolds (file_world job.name job.store (λ name. None) reading_of (walked_of job.host.1 events ∷ [])
+    (tells_stored status) h h') held
 
 -- ---- session
 

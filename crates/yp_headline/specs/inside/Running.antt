@@ -1,10 +1,10 @@
 -- What `run` does is what the headline says, command by command.
-use Rattle.std.specs.Prelude.{◌≡◌, ◌≢◌, ◌≤◌, ℕ, Bool, true, false, List}
-use Rattle.std.specs.Prelude.{[], ◌++◌, length, Option, Some, None, Ok, ⊤}
-use Rattle.std.specs.List.{AllByRecursion}
+use Rattle.std.specs.Prelude.{◌≡◌, ◌≢◌, ◌≤◌, ℕ, true, List}
+use Rattle.std.specs.Prelude.{[], ◌∷◌, ◌++◌, length, map, Option, Some, None, Ok, ⊤}
 use Rattle.yp_io.specs.Disk.{History}
 use Rattle.yp_io.specs.Dials.{Connected, Wires}
-use Rattle.yp_io.specs.Calls.{ClosedConnection, ListenerHistory}
+use Rattle.yp_io.specs.Inboxes.{InboxEvent}
+use Rattle.yp_io.specs.Calls.{ClosedConnection}
 use Rattle.yp_version.specs.Versions.{MapVersion}
 use Rattle.yp_map_file.specs.Stands.{stands}
 use Rattle.yp_publisher.specs.Standing.{stands_for}
@@ -17,34 +17,26 @@ use Rattle.yp_board.specs.Catalogues.{Name}
 use Rattle.yp_answer.specs.session.Wires.{Wire}
 use Rattle.yp_command_serve.specs.serve.Hosting.{DoorTells}
 use Rattle.yp_command.specs.Forms.{kind_of}
-use Rattle.yp_command.specs.Words.{Meaning, Once, Session, Serve, Build, Load, Xfr, Revnet}
+use Rattle.yp_command.specs.Words.{Meaning, Once, Session, Serve, Build, Load, Xfr, Walk, Revnet}
 use Rattle.yp_command.specs.declared.office.office.Office.{Office}
 use Rattle.yp_command.specs.declared.office.status.Status.{Status}
-use Rattle.yp_command.specs.declared.office.status.Status.TheVariants.{Done, WriteFault}
-use Rattle.yp_command.specs.declared.office.status.Status.TheVariants.{NoMemory, ListenFault, InboxFault}
+use Rattle.yp_command.specs.declared.office.status.Status.TheVariants.{NoMemory}
 use Rattle.yp_command.specs.office.Disks.{names_of, disks_of}
 use Rattle.yp_command.specs.office.Seeing.{Seeing, input, output, history, moment}
 use Rattle.yp_command_serve.specs.Once.{once_maps, rows_fault}
 use Rattle.yp_command_serve.specs.Session.{service, connection}
-use Rattle.yp_command_serve.specs.serve.Serve.{serve_job_of, catalogue_of}
+use Rattle.yp_command_serve.specs.serve.Serve.{serve_job_of}
 use Rattle.yp_command_maps.specs.Build.{tells_stored}
 use Rattle.yp_command_maps.specs.Revnet.{store_history, netgroup_history}
 use Rattle.yp_command_maps.specs.Xfr.{dialing}
+use Rattle.yp_command_mail.specs.Telling.{box}
 use Rattle.yp_program.specs.Commands.{Does}
 use Rattle.yp_headline.specs.Publishing.{IsAmong}
 use Rattle.yp_headline.specs.Headline.{Replies}
-use Rattle.yp_headline.specs.inside.Files.{file_world}
+use Rattle.yp_headline.specs.inside.Files.{dialed_of, walked_of, file_world}
 use Rattle.yp_headline.specs.inside.Worlds.{once_world, session_world, was_served, cuts_short}
 use Rattle.yp_headline.specs.inside.Laws.{WorldHolds, FileHolds, FileCrashes}
-use Rattle.yp_headline.specs.inside.Server.{IsToldClosed, closed_in, may_lose, told_by, ServerHolds}
-
--- whether `serve` served its maps, by its status
-abbrev pub was_hosted : Status → Bool
-was_hosted Done = true
-was_hosted WriteFault = true
-was_hosted ListenFault = true
-was_hosted InboxFault = true
-was_hosted status = false
+use Rattle.yp_headline.specs.inside.Server.{Heard, may_lose, AllTell, serve_world, ServerHolds, was_hosted}
 
 -- a text is read so, and its version stored
 abbrev pub BuildHolds : {S K D C A I T : Type 0} → Seeing S K D C A I T → List ℕ → Name → Reading → Status
@@ -81,7 +73,13 @@ CommandHolds seen (Xfr name force store host flag) status old new door door' =
     → (dialing seen new).past ≡ Some last
     → length first.back ≤ length first.came → last.came ≡ first.came ++ wires
     → ((wire : Connected) → IsAmong wires wire → (stream : List ℕ) × (wire.input ≡ Some stream))
-    → FileHolds (file_world name store (λ name. None) reading_of wires (tells_stored status) h h') held
+    → FileHolds (file_world name store (λ name. None) reading_of (map dialed_of wires) (tells_stored status) h h') held
+CommandHolds seen (Walk name force store host port turns flag) status old new door door' =
+    (h h' : History) → history seen old ≡ Some h → history seen new ≡ Some h'
+    → (held : Option MapVersion) → stands h.state.reads ≡ stands_for held
+    → (told events : List InboxEvent) → (box seen old).past ≡ Some told → (box seen new).past ≡ Some (told ++ events)
+    → FileHolds (file_world name store (λ name. None) reading_of (walked_of host.1 events ∷ []) (tells_stored status)
+    h h') held
 CommandHolds seen (Build name store flag) status old new door door' =
     (kind : Kind) → kind_of store ≡ Some kind → BuildHolds seen name store (Text kind) status old new
 CommandHolds seen (Load name store flag) status old new door door' = BuildHolds seen name store Rows status old new
@@ -92,11 +90,10 @@ CommandHolds seen (Revnet name store) status old new door door' =
     → FileCrashes (file_world name store (λ name. None) reading_of [] (tells_stored status) h h') held
 CommandHolds seen (Serve own port workers connections turns stores hosts log) status old new door door' =
     was_hosted status ≡ true
-    → (calls calls' : ListenerHistory) (closed : List (List ClosedConnection)) → door.listen.past ≡ Some calls
-    → door'.listen.past ≡ Some calls'
-    → calls'.closed ≡ calls.closed ++ closed → AllByRecursion IsToldClosed (closed_in closed)
-    → ServerHolds (catalogue_of (serve_job_of own connections turns stores hosts log)) (may_lose status)
-    (told_by seen old door) (told_by seen new door') (closed_in closed)
+    → (closed : List ClosedConnection) (inboxes : List Heard) (wires : List Connected)
+    → AllTell seen old new door door' closed inboxes wires
+    → ServerHolds (λ came heard. serve_world seen (serve_job_of own connections turns stores hosts log) old new came
+    heard wires) (may_lose status) closed inboxes
 CommandHolds seen _ status old new door door' = ⊤
 
 -- What `run` ensures of a command, in its clause `does`, is that.

@@ -1,28 +1,26 @@
 -- What `serve` does with its connections, its datagrams and its files.
-use Rattle.std.specs.Prelude.{◌≡◌, ◌⊎◌, ℕ, Bool, true, false, List, [], ◌∷◌, ◌++◌, map, flat_map, slice_get}
-use Rattle.std.specs.Prelude.{Option, Some, IfSome, IsSome, ⊤}
+use Rattle.std.specs.Prelude.{◌≡◌, ◌≤◌, ℕ, Bool, true, false, List, [], ◌∷◌, ◌++◌, map, flat_map, length, Some, ⊤}
 use Rattle.std.specs.List.{AllByRecursion, AllZip}
 use Rattle.yp_io.specs.Calls.{ClosedConnection, ListenerHistory}
-use Rattle.yp_io.specs.Disk.{History, MayLeave}
+use Rattle.yp_io.specs.Dials.{Connected, Wires}
 use Rattle.yp_io.specs.Inboxes.{InboxEvent, Arrived, Silent, Sent}
-use Rattle.yp_version.specs.Versions.{MapVersion}
-use Rattle.yp_board.specs.Catalogues.{Catalogue}
-use Rattle.yp_map_file.specs.Stands.{stands}
-use Rattle.yp_board.specs.Logs.{Log, starts, shown}
-use Rattle.yp_board.specs.Views.{IsFront}
-use Rattle.yp_publisher.specs.Standing.{stands_for}
-use Rattle.yp_publisher.specs.Rising.{IsRisingLog}
+use Rattle.yp_board.specs.Logs.{Log}
+use Rattle.yp_publisher.specs.Grown.{AreTold}
+use Rattle.yp_texts.specs.Readings.{reading_of}
 use Rattle.yp_worker.specs.datagrams.Serving.{reply_posts}
-use Rattle.yp_command_serve.specs.serve.Hosting.{DoorTells}
 use Rattle.yp_command.specs.declared.office.office.Office.{Office}
 use Rattle.yp_command.specs.declared.office.status.Status.{Status}
-use Rattle.yp_command.specs.declared.office.status.Status.TheVariants.{ListenFault, InboxFault}
+use Rattle.yp_command.specs.declared.office.status.Status.TheVariants.{Done, WriteFault, ListenFault, InboxFault}
 use Rattle.yp_command.specs.office.Disks.{disks_of}
 use Rattle.yp_command.specs.office.Seeing.{Seeing}
-use Rattle.yp_command_serve.specs.serve.Serve.{Job, catalogue_of, place, ServesMaps}
-use Rattle.yp_headline.specs.World.{Connection, Datagram}
-use Rattle.yp_headline.specs.Serving.{IsServed, AreServed}
-use Rattle.yp_headline.specs.Storing.{stood_for}
+use Rattle.yp_command_serve.specs.serve.Hosting.{DoorTells}
+use Rattle.yp_command_serve.specs.serve.Serve.{Job, catalogue_of, place, ServeDoes}
+use Rattle.yp_headline.specs.World.{World, Connection, Datagram}
+use Rattle.yp_headline.specs.Publishing.{IsAmong}
+use Rattle.yp_headline.specs.Headline.{Replies, Crashes}
+use Rattle.yp_headline.specs.inside.Files.{dialed_of, posted_between, stores_between}
+
+-- ---- connections
 
 -- what a connection told that was closed: its whole input, that its sink had taken nothing, and what it took
 pub record IsToldClosed (closed : ClosedConnection) : Type 0 where
@@ -38,26 +36,23 @@ pub record IsOfClosed (closed : ClosedConnection) (connection : Connection) : Ty
   pub input : closed.came.input ≡ Some connection.came
   pub output : closed.wire.output ≡ Some connection.sent
 
--- Each connection that was closed was served: its records were answered in turn on fronts of one log that never go
--- back.
-pub record ConnectionsAreServed (catalogue : Catalogue) (begun log : Log) (closed : List ClosedConnection) : Type 0
-  where
-    pub connections : List Connection
-    pub are : AllZip IsOfClosed closed connections
-    pub served : AllByRecursion (IsServed catalogue begun log) connections
-
 -- the connections that closers closed, one closer's after the other's
 abbrev pub closed_in : List (List ClosedConnection) → List ClosedConnection
 closed_in closed = flat_map (λ one. one) closed
 
 -- ---- datagrams
 
+-- what an inbox told at first, and what more it told at last
+pub record Heard : Type 0 where
+  pub before : List InboxEvent
+  pub more : List InboxEvent
+
 -- what an inbox tells, but for turns in which nothing came
-abbrev pub heard : List InboxEvent → List InboxEvent
-heard [] = []
-heard (Silent ∷ events) = heard events
-heard (Arrived from bytes ∷ events) = Arrived from bytes ∷ heard events
-heard (Sent to bytes ∷ events) = Sent to bytes ∷ heard events
+abbrev pub but_silent : List InboxEvent → List InboxEvent
+but_silent [] = []
+but_silent (Silent ∷ events) = but_silent events
+but_silent (Arrived from bytes ∷ events) = Arrived from bytes ∷ but_silent events
+but_silent (Sent to bytes ∷ events) = Sent to bytes ∷ but_silent events
 
 -- what it tells of a datagram: that it came, and that its reply was sent, where one was
 abbrev pub told_of : Datagram → List InboxEvent
@@ -68,24 +63,10 @@ abbrev pub MayLoseLast : Bool → List Datagram → Type 0
 MayLoseLast loses [] = ⊤
 MayLoseLast loses (mail ∷ mails) = (mail.lost ≡ true → (mails ≡ []) × (loses ≡ true)) × MayLoseLast loses mails
 
--- What an inbox told are these datagrams of the world, each with its reply, and they were answered in turn on fronts of
--- one log that never go back.
-pub record MailIsServed (catalogue : Catalogue) (begun log : Log) (loses : Bool) (events : List InboxEvent) : Type 0
-  where
-    pub datagrams : List Datagram
-    pub are : heard events ≡ flat_map told_of datagrams
-    pub kept : MayLoseLast loses datagrams
-    pub served : AreServed catalogue begun log datagrams
-
--- What was told more of an inbox at last than at first was served.
-abbrev pub InboxIsServed : Catalogue → (begun log : Log) → Bool → (old new : Option (List InboxEvent)) → Type 0
-InboxIsServed catalogue begun log loses old new =
-    (before events : List InboxEvent) → old ≡ Some before → new ≡ Some (before ++ events)
-    → MailIsServed catalogue begun log loses events
-
--- Each inbox was served, apart from the others.
-abbrev pub InboxesAreServed : Catalogue → (begun log : Log) → Bool → (old new : List (Option (List InboxEvent))) → Type 0
-InboxesAreServed catalogue begun log loses old new = AllZip (InboxIsServed catalogue begun log loses) old new
+-- datagrams of the world are what more an inbox told, each with its reply
+pub record AreOfInbox (loses : Bool) (heard : Heard) (datagrams : List Datagram) : Type 0 where
+  pub are : but_silent heard.more ≡ flat_map told_of datagrams
+  pub kept : MayLoseLast loses datagrams
 
 -- whether the reply to a datagram may have been lost, by the status
 abbrev pub may_lose : Status → Bool
@@ -93,50 +74,76 @@ may_lose ListenFault = true
 may_lose InboxFault = true
 may_lose status = false
 
--- ---- files
+-- ---- the whole
 
--- A file that is told stood for this version, or none.
-abbrev pub StoodFor : Option History → Option MapVersion → Type 0
-StoodFor history version = IfSome history (λ h. stands h.state.reads ≡ stands_for version)
+-- what is told of a server: of its disks all that they were at each moment, of each connection that was closed its
+-- bytes, what its inboxes told, and the wires that came of its dial, with their bytes
+pub record AllTell {S K D C A I T : Type 0} (seen : Seeing S K D C A I T) (old new : Office S K D C A I T)
+    (door door' : DoorTells) (closed : List ClosedConnection) (inboxes : List Heard) (wires : List Connected)
+    : Type 0 where
+  pub disks : AreTold seen.disk.history (disks_of old.disks.items)
+  pub disks_at_last : AreTold seen.disk.history (disks_of new.disks.items)
+  pub calls : ListenerHistory
+  pub calls_at_last : ListenerHistory
+  pub more_closed : List (List ClosedConnection)
+  pub listens : door.listen.past ≡ Some calls
+  pub listens_at_last : door'.listen.past ≡ Some calls_at_last
+  pub closes : calls_at_last.closed ≡ calls.closed ++ more_closed
+  pub closed_are : closed ≡ closed_in more_closed
+  pub told_closed : AllByRecursion IsToldClosed closed
+  pub hears : map (λ box. box.past) ((place seen old door).boxes) ≡ map (λ one. Some one.before) inboxes
+  pub hears_at_last : map (λ box. box.past) ((place seen new door').boxes)
+      ≡ map (λ one. Some (one.before ++ one.more)) inboxes
+  pub dialed : Wires
+  pub dialed_at_last : Wires
+  pub dials : seen.dial.past old.dial ≡ Some dialed
+  pub dials_at_last : seen.dial.past new.dial ≡ Some dialed_at_last
+  pub few : length dialed.back ≤ length dialed.came
+  pub wires_are : dialed_at_last.came ≡ dialed.came ++ wires
+  pub inputs : (wire : Connected) → IsAmong wires wire → (stream : List ℕ) × (wire.input ≡ Some stream)
 
--- A crash leaves of a disk what stands for what a log shows of its map, or for one other version.
-abbrev pub LeavesShown : ℕ → Log → Option History → Type 0
-LeavesShown number log history = (image : List ℕ) → MayLeave history image
-    → (stood_for image ≡ Some (shown number log))
-    ⊎ ((version : MapVersion) × (stood_for image ≡ Some (Some version)))
-
--- what is told of the disks and of each inbox of a server: further ones, and behind them that of its office
-pub record Told : Type 0 where
-  pub disks : List (Option History)
-  pub inboxes : List (Option (List InboxEvent))
-
-abbrev pub told_by : {S K D C A I T : Type 0} → Seeing S K D C A I T → Office S K D C A I T → DoorTells → Told
-told_by seen office door = record {
-  disks = map seen.disk.history (disks_of office.disks.items);
-  inboxes = map (λ box. box.past) ((place seen office door).boxes);
+-- a server of stored maps, which served these connections and these datagrams, while these wires came of its dial
+abbrev pub serve_world : {S K D C A I T : Type 0} → Seeing S K D C A I T → Job → (old new : Office S K D C A I T)
+    → List Connection → List (List Datagram) → List Connected → World
+serve_world seen job old new connections datagrams wires = record {
+  catalogue = catalogue_of job;
+  stores = stores_between seen.disk.history (disks_of old.disks.items) (disks_of new.disks.items);
+  text = seen.texts.text old.texts;
+  reading = reading_of;
+  connections = connections;
+  datagrams = datagrams;
+  dialed = map dialed_of wires;
+  posted = posted_between (seen.dial.letters old.dial) (seen.dial.letters new.dial);
+  done = [];
 }
 
--- What a server of these maps did, of whose disks and inboxes this was told at first and at last: what the files stood
--- for was published first, more was behind it, in rising orders, and on that log the connections and the datagrams were
--- served. At the end a crash leaves of each file what it shows of the map, or one other version.
-pub record ServerHolds (catalogue : Catalogue) (loses : Bool) (old new : Told) (closed : List ClosedConnection) : Type 0
-  where
-    pub first : List (Option MapVersion)
-    pub stood : AllZip StoodFor old.disks first
-    pub log : Log
-    pub grown : IsFront (starts 0 first) log
-    pub rises : AllByRecursion (λ history. IsSome history) new.disks → IsRisingLog log
-    pub connections : ConnectionsAreServed catalogue (starts 0 first) log closed
-    pub datagrams : InboxesAreServed catalogue (starts 0 first) log loses old.inboxes new.inboxes
-    pub at_end : (number : ℕ) → IfSome (slice_get new.disks number) (LeavesShown number log)
+-- The connections that were closed, and the datagrams that inboxes told, are those of a world, and on one log of it the
+-- headline holds of replies and of crashes.
+pub record ServerHolds (world : List Connection → List (List Datagram) → World) (loses : Bool)
+    (closed : List ClosedConnection) (inboxes : List Heard) : Type 0 where
+  pub connections : List Connection
+  pub are_closed : AllZip IsOfClosed closed connections
+  pub datagrams : List (List Datagram)
+  pub are_heard : AllZip (AreOfInbox loses) inboxes datagrams
+  pub begun : Log
+  pub log : Log
+  pub replies : Replies (world connections datagrams) begun log
+  pub crashes : Crashes (world connections datagrams) begun log
 
--- What `serve` does that serves its maps, where its listener and its connections tell.
+-- whether `serve` served its maps, by its status
+abbrev pub was_hosted : Status → Bool
+was_hosted Done = true
+was_hosted WriteFault = true
+was_hosted ListenFault = true
+was_hosted InboxFault = true
+was_hosted status = false
+
+-- What `serve` does, where it serves its maps, and its disks, its listener, its inboxes and its dial tell.
 abbrev pub ServeHolds : {S K D C A I T : Type 0} → Seeing S K D C A I T → Type 0
 ServeHolds {S} {K} {D} {C} {A} {I} {T} seen =
     (job : Job) (status : Status) (old new : Office S K D C A I T) (door door' : DoorTells) (logged : List ℕ)
-    → ServesMaps seen job status old new door door' logged
-    → (calls calls' : ListenerHistory) (closed : List (List ClosedConnection)) → door.listen.past ≡ Some calls
-    → door'.listen.past ≡ Some calls'
-    → calls'.closed ≡ calls.closed ++ closed → AllByRecursion IsToldClosed (closed_in closed)
-    → ServerHolds (catalogue_of job) (may_lose status) (told_by seen old door) (told_by seen new door')
-    (closed_in closed)
+    → ServeDoes seen job status old new door door' logged → was_hosted status ≡ true
+    → (closed : List ClosedConnection) (inboxes : List Heard) (wires : List Connected)
+    → AllTell seen old new door door' closed inboxes wires
+    → ServerHolds (λ connections datagrams. serve_world seen job old new connections datagrams wires) (may_lose status)
+    closed inboxes

@@ -17,6 +17,7 @@ use Rattle.yp_texts.specs.Readings.{reading_of}
 use Rattle.yp_answer.specs.Transfer.{Taken}
 use Rattle.yp_answer.specs.Reply.{make_reply, xfr_reply}
 use Rattle.yp_headline.specs.World.{World, Datagram, Given, Filed, Dialed}
+use Rattle.yp_headline.specs.inside.Files.{streamed}
 use Rattle.yp_headline.specs.Headline.{Replies, Crashes, Transfers}
 
 -- a call of the procedure 0, and its reply
@@ -241,7 +242,7 @@ skewed_world came = record {
   reading = λ name. Rows;
   connections = [];
   datagrams = [];
-  dialed = record { peer = own_caller; came = came } ∷ [];
+  dialed = streamed own_caller came ∷ [];
   posted = [];
   done = [];
 }
@@ -314,8 +315,28 @@ transfer_world = record {
     cut = false;
   } ∷ [];
   datagrams = [];
-  dialed = record { peer = somebody; came = fetched_bytes } ∷ [];
+  dialed = streamed somebody fetched_bytes ∷ [];
   posted = success_call ∷ [];
+  done = [];
+}
+
+-- a server of one map, which is made of the text in one connection, and asked for in both and at two inboxes, and whose
+-- file is so meanwhile and at the end, while a server was dialed that gives a version
+abbrev pub served_world : (middle last : List ℕ) → World
+served_world middle last = record {
+  catalogue = own_map;
+  stores = Filed (record {
+    first = synced (whole_file 7 118);
+    moments = synced last ∷ synced middle ∷ synced (whole_file 7 118) ∷ [];
+    last = synced last;
+  }) ∷ [];
+  text = λ name. Some text;
+  reading = λ name. Rows;
+  connections = make_world.connections
+      ++ record { peer = somebody; came = sent match_call; sent = sent (match_reply 118); cut = false } ∷ [];
+  datagrams = (matched_mail 118 ∷ matched_mail 119 ∷ []) ∷ (matched_mail 118 ∷ []) ∷ [];
+  dialed = streamed somebody fetched_bytes ∷ [];
+  posted = [];
   done = [];
 }
 
@@ -347,8 +368,9 @@ pub record RepliesAreFalse : Type 0 where
 -- ---- the table of the right ones
 
 -- One MATCH; a map that is made, and then asked for; one that is fetched and called back, and then asked for; datagrams
--- at two inboxes, of which the second is behind the first; three installs; and a source that changes between its
--- replies, of which nothing is stored.
+-- at two inboxes, of which the second is behind the first; three installs; a source that changes between its replies,
+-- of which nothing is stored; and a server of all these at once, whose file stands at the end for the version that was
+-- given, though that isn't shown.
 pub record HoldsOfRows : Type 0 where
   pub first_match : Replies (one_match (sent (match_reply 118))) first_log first_log
   pub make_then_match : Replies make_world first_log made_log
@@ -358,3 +380,5 @@ pub record HoldsOfRows : Type 0 where
   pub three_installs : Crashes installing first_log all_log
   pub skewed_source : (came : List ℕ) → Crashes (skewed_world came) first_log first_log × Transfers
       (skewed_world came) first_log
+  pub served : Replies (served_world (whole_file 8 119) (whole_file 9 119)) first_log made_log
+      × Crashes (served_world (whole_file 8 119) (whole_file 9 119)) first_log made_log

@@ -8,12 +8,13 @@ use Rattle.yp_board.specs.Logs.{Log}
 use Rattle.yp_texts.specs.declared.reading.Reading.TheVariants.{Rows}
 use Rattle.yp_texts.specs.Readings.{reading_of}
 use Rattle.yp_headline.specs.World.{World, Filed, Dialed}
+use Rattle.yp_headline.specs.inside.Files.{streamed}
 use Rattle.yp_headline.specs.Headline.{Crashes, Transfers}
 use Rattle.yp_headline.specs.inside.Tried.{cell_of, shut_cell, version_with, whole_file, torn_file}
 use Rattle.yp_headline.specs.inside.Tried.{synced, one_file, own_map, text, somebody}
 use Rattle.yp_headline.specs.inside.Tried.{order_reply, master_reply, all_reply}
 use Rattle.yp_headline.specs.inside.Tried.{fetched_bytes, success_call, first_log, transfer_world}
-use Rattle.yp_headline.specs.inside.Tried.{IsTornWorld, IsWrongTransfer}
+use Rattle.yp_headline.specs.inside.Tried.{IsTornWorld, IsWrongTransfer, served_world}
 
 -- ---- files
 
@@ -57,7 +58,9 @@ two_files last = record {
 -- Files: one that is damaged at the end, or at a moment; a version that is gone at the end, or at a moment; one that
 -- nobody made or sent; one that ends within its body; a body that is written over in place, so that a crash may leave
 -- the order of one version with the rows of another; one whose order is under that of the first; one whose rows aren't
--- those of the text; that of another map; and one that is told as stored before it is synced.
+-- those of the text; that of another map; and one that is told as stored before it is synced. Files of a server that
+-- makes and fetches: a version that nobody built or gave, at a moment or at the end, and one of the order that was
+-- shown at first, which was new at no moment.
 pub record CrashesAreFalse : Type 0 where
   pub torn_at_end : IsTornWorld (one_file [] [] torn_file [] [])
   pub torn_meanwhile : IsTornWorld (one_file [] torn_file [] [] [])
@@ -71,12 +74,15 @@ pub record CrashesAreFalse : Type 0 where
   pub of_another_map : IsTornWorld (two_files (whole_file 7 118))
   pub told_too_early : IsTornWorld
       (text_world (whole_file 7 118) (in_writing (whole_file 7 118) (whole_file 8 119)) (0 ∷ []))
+  pub of_nobody_meanwhile : IsTornWorld (served_world (whole_file 8 120) (whole_file 8 119))
+  pub of_nobody_at_end : IsTornWorld (served_world (whole_file 8 119) (whole_file 8 120))
+  pub never_new : IsTornWorld (served_world (whole_file 7 119) (whole_file 8 119))
 
 -- ---- transfers
 
 -- one file that was empty, and a server that gave these bytes
 abbrev pub transfer_of : List ℕ → World
-transfer_of came = one_file [] [] (whole_file 7 118) (0 ∷ []) (record { peer = somebody; came = came } ∷ [])
+transfer_of came = one_file [] [] (whole_file 7 118) (0 ∷ []) (streamed somebody came ∷ [])
 
 -- the reply to ORDER that there is no such map
 abbrev pub refused_reply : List ℕ
@@ -95,7 +101,7 @@ two_row_file order value = cell_of 52 ++ shut_cell ++ 0 ∷ 0 ∷ 0 ∷ 1 ∷ 0 
 
 -- a transfer of the version that a server gave, which is told as done, and left this file
 abbrev pub stored_of : List ℕ → World
-stored_of file = one_file [] [] file (0 ∷ []) (record { peer = somebody; came = fetched_bytes } ∷ [])
+stored_of file = one_file [] [] file (0 ∷ []) (streamed somebody fetched_bytes ∷ [])
 
 -- The headline is false of its files and its transfers together.
 abbrev pub IsWrongStored : World → Type 0
@@ -130,7 +136,7 @@ pub record TransfersAreFalse : Type 0 where
   pub row_added : IsWrongStored (stored_of (two_row_file 9 119))
   pub called_without_call : IsWrongTransfer called_unasked
   pub called_of_no_server : IsWrongTransfer (called_of [])
-  pub called_of_order : IsWrongTransfer (called_of (record { peer = somebody; came = sent (order_reply 1 9) } ∷ []))
+  pub called_of_order : IsWrongTransfer (called_of (streamed somebody (sent (order_reply 1 9)) ∷ []))
   pub called_unshown : Transfers transfer_world first_log → ⊥
 
 -- ---- a right one

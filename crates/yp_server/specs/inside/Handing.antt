@@ -6,7 +6,8 @@ use Rattle.yp_board.specs.Views.{IsFront}
 use Rattle.yp_answer.specs.session.Hosts.{Conduct}
 use Rattle.yp_worker.specs.Summing.{Counting}
 use Rattle.yp_worker.specs.datagrams.Mailing.{Awaited, Holding, Mailing, CarriesAll}
-use Rattle.yp_worker.specs.datagrams.Queues.{all_parts, weigh, WeighTheSame}
+use Rattle.yp_worker.specs.datagrams.Queues.{weigh, WeighTheSame}
+use Rattle.yp_worker.specs.inside.Queues.{all_parts}
 
 -- a server of datagrams as it ended, the transfers that its host carried out behind that, and the host then
 pub record Handed (H : Type 0) : Type 0 where

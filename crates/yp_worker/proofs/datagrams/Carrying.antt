@@ -6,8 +6,8 @@ use Rattle.crossbeam_queue.specs.Fifo.{Held}
 use Rattle.yp_answer.specs.session.Hosts.{Conduct, CarriesOut}
 use Rattle.yp_worker.specs.declared.datagrams.pending.Dealt.{Dealt}
 use Rattle.yp_worker.specs.datagrams.Mailing.{Awaited, Holding, Mailing, CarriesAll, Clears, held_behind}
-use Rattle.yp_worker.specs.datagrams.Queues.{all_parts, weigh, WeighTheSame}
-use Rattle.yp_worker.specs.inside.Queues.{Balances}
+use Rattle.yp_worker.specs.datagrams.Queues.{weigh, WeighTheSame}
+use Rattle.yp_worker.specs.inside.Queues.{all_parts, Balances}
 use Rattle.yp_worker.specs.inside.Mailing.{CarriesOn}
 
 pub behind_twice : (holding : Holding) (a t b u : List Awaited)

@@ -7,8 +7,8 @@ use Rattle.crossbeam_queue.proofs.Lists.{at_set, at_snoc}
 use Rattle.yp_answer.specs.inside.session.Errands.{IsDue}
 use Rattle.yp_worker.specs.declared.datagrams.pending.Dealt.{Dealt}
 use Rattle.yp_worker.specs.datagrams.Mailing.{Awaited}
-use Rattle.yp_worker.specs.datagrams.Queues.{all_parts, weigh}
-use Rattle.yp_worker.specs.inside.Queues.{dealt, dealt_all, total, IdleIsEmpty, AreDue, IsFair, Balances, Leaves, TakesOver}
+use Rattle.yp_worker.specs.datagrams.Queues.{weigh}
+use Rattle.yp_worker.specs.inside.Queues.{all_parts, dealt, dealt_all, total, IdleIsEmpty, AreDue, IsFair, Balances, Leaves, TakesOver}
 
 pub weigh_append : (h : Awaited → ℕ) (xs ys : List Awaited) → weigh h (xs ++ ys) ≡ weigh h xs + weigh h ys
 weigh_append h [] ys = omega arith

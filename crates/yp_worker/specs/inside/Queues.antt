@@ -1,11 +1,16 @@
 -- The rule of a queue of transfers, and what a server holds of that.
-use Rattle.std.specs.Prelude.{◌≡◌, ℕ, ◌+◌, List, [], ◌∷◌, ◌++◌, ⊤}
+use Rattle.std.specs.Prelude.{◌≡◌, ℕ, ◌+◌, ◌^◌, List, [], ◌∷◌, ◌++◌, ⊤}
 use mathlib.Core.Option.{some}
 use lib.ListN.{get_elem?}
+use Rattle.yp_answer.specs.session.Hosts.{Conduct}
 use Rattle.yp_answer.specs.inside.session.Errands.{IsDue}
 use Rattle.yp_worker.specs.declared.datagrams.pending.Dealt.{Dealt}
-use Rattle.yp_worker.specs.datagrams.Mailing.{Awaited}
-use Rattle.yp_worker.specs.datagrams.Queues.{all_parts, weigh}
+use Rattle.yp_worker.specs.datagrams.Mailing.{Awaited, Mailing, CarriesAll, held_behind}
+use Rattle.yp_worker.specs.datagrams.Queues.{weigh, WeighTheSame}
+
+-- the parts into which the right to know the whole of a queue is cut
+abbrev pub all_parts : ℕ
+all_parts = 2 ^ 64
 
 abbrev pub dealt : ℕ → List Awaited → List Awaited → Dealt
 dealt parts left took = record { parts = parts; left = left; took = took }
@@ -48,3 +53,12 @@ Leaves v one w = w ≡ dealt v.parts (v.left ++ one ∷ []) v.took
 
 abbrev pub TakesOver : ℕ → Dealt → Awaited → Dealt → Type 0
 TakesOver maps v one w = (w ≡ dealt v.parts v.left (v.took ++ one ∷ [])) × IsDue maps one.0
+
+-- A server carried out what still waited in the queue. Where it has all parts, what was left there is what was taken
+-- over from there and carried out.
+pub record CarriesRest {H : Type 0} (conduct : Conduct H) (old new : Mailing H) : Type 0 where
+  pub rest : List Awaited
+  pub carries : CarriesAll conduct rest old.host new.host
+  pub waiting : new.waiting ≡ old.waiting
+  pub holding : new.holding ≡ held_behind old.holding [] rest
+  pub all : old.holding.parts ≡ all_parts → WeighTheSame new.holding.left new.holding.took

@@ -3,7 +3,8 @@
 ghost use Rattle.std.specs.Prelude.{◌≡◌, ◌+◌, ◌<◌, ◌≤◌, [], ◌∷◌, length, IfOk, IfSome, IfNone, MatchResult};
 ghost use Rattle.yp_answer.specs.inside.session.Errands.{IsDue};
 ghost use Rattle.yp_worker.specs.datagrams.Mailing.{held_behind, nothing_held};
-ghost use Rattle.yp_worker.specs.datagrams.Queues.{all_parts, WeighTheSame};
+ghost use Rattle.yp_worker.specs.datagrams.Queues.{WeighTheSame};
+ghost use Rattle.yp_worker.specs.inside.Queues.{all_parts};
 
 use crossbeam_queue::protocol::{Join, Lesson, Outcome, Protocol, Split};
 use crossbeam_queue::{Pass, RuledArrayQueue};

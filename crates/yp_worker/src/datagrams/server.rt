@@ -8,7 +8,8 @@ ghost use Rattle.yp_answer.specs.inside.session.Hosts.{conduct_by};
 ghost use Rattle.yp_rpc.specs.Turns.{datagram_max};
 ghost use Rattle.yp_rpc.specs.inside.Turns.{reply_of};
 ghost use Rattle.yp_worker.specs.datagrams.Mailing.{Clears, Goes, Hears, Rests, held_behind};
-ghost use Rattle.yp_worker.specs.datagrams.Queues.{CarriesRest, WeighTheSame, all_parts};
+ghost use Rattle.yp_worker.specs.datagrams.Queues.{WeighTheSame};
+ghost use Rattle.yp_worker.specs.inside.Queues.{CarriesRest, all_parts};
 ghost use Rattle.yp_worker.specs.inside.Mailing.{CarriesOn};
 
 use crate::CatchUp;

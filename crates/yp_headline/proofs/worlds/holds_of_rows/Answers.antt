@@ -2,6 +2,7 @@ use Rattle.yp_headline.proofs.Matched.{first_match}
 use Rattle.yp_headline.proofs.Worked.{make_then_match, three_installs, skewed_source}
 use Rattle.yp_headline.proofs.Fetching.{session_transfer}
 use Rattle.yp_headline.proofs.Mailed.{two_inboxes}
+use Rattle.yp_headline.proofs.Served.{served}
 use Rattle.yp_headline.proofs.worlds.holds_of_rows.Goals as goal
 
 pub returns : goal.returns
@@ -12,4 +13,5 @@ returns c = record {
   two_inboxes = two_inboxes;
   three_installs = three_installs;
   skewed_source = skewed_source;
+  served = served;
 }

@@ -1,0 +1,7 @@
+use Rattle.yp_command.specs.office.Seeing.{seeing}
+use Rattle.yp_headline.proofs.Walk.{walk_holds}
+use Rattle.yp_headline.proofs.laws.walk_holds.Goals as goal
+
+pub returns : goal.returns
+returns g c = walk_holds (seeing g.S.Source g.K.Sink g.D.Disk g.C.Clock g.A.Dial g.I.Inbox g.T.Texts)
+    c.read_is_body.ensures c.walked_is_shown.ensures
