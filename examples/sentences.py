@@ -248,7 +248,7 @@ def of_code():
     for command, reader in readers.items():
         body = between(source, f"\nfn {reader}(", "\n}\n")
         read_by = re.findall(r"words\.(\w+)\((\d+)\)", body)
-        forms = [READ[form] for form, _ in read_by if form not in ("end", "flag_if_any")]
+        forms = [READ.get(form, form) for form, _ in read_by if form not in ("end", "flag_if_any")]
         if [int(at) for _, at in read_by] != list(range(1, len(read_by) + 1)):
             tell(f"the code reads the words of {command} by other numbers than their own")
         further = re.search("= (each_pair|each_host|stores_and_hosts|servers|peers_and_domain)\\(", body)
