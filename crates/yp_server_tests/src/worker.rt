@@ -7,3 +7,4 @@ mod many;
 mod one;
 mod reader;
 mod run;
+mod shared;

@@ -163,3 +163,19 @@ pub fn host_of<R: RandomSource + Abort>(rt: &R, alloc: Global, values: &[&[u8]])
         transfers: 0,
     }
 }
+
+/// Two such hosts of the same maps, behind which others show nothing.
+pub fn two_hosts<R: RandomSource + Abort>(rt: &R, alloc: Global) -> (TestHost, TestHost)
+    ensures { result.1.board.catalogue ≡ result.0.board.catalogue }
+{
+    let first = host_of(rt, alloc, &[]);
+    let catalog = first.board.catalog().copy(alloc).expect(rt, "a catalogue");
+    let start = start(rt, alloc, version(rt, alloc, 7, b"alpha:1"));
+    assert_fits(rt, start.len(), &catalog);
+    let second = TestHost {
+        board: PlainBoard::new(alloc, catalog, start).expect(rt, "a board"),
+        waiting: Vec::new(alloc),
+        transfers: 0,
+    };
+    (first, second)
+}
