@@ -158,7 +158,7 @@ gives = record {
 
 -- ---- the session
 
-xfr_record : Fragments record_max (xfr_call) (sent (xfr_call))
+pub xfr_record : Fragments record_max (xfr_call) (sent (xfr_call))
 unfolding sent_within
 xfr_record = record {
   pieces = [];
@@ -201,38 +201,47 @@ fetched = record {
 transfers : Transfers transfer_world fetched_log
 transfers = record {
   done = λ number among. absurd (none_among number among);
-  called_back = (
-    record {
-      connection = record {
-        peer = somebody;
-        came = sent xfr_call ++ sent match_call;
-        sent = sent (xfr_reply 7 5 Succ) ++ sent (match_reply 119);
-        cut = false;
-      };
-      among = ([], [], refl);
-      exchanges = record { caller = somebody; call = xfr_call; reply = Some (xfr_reply 7 5 Succ) }
-          ∷ record { caller = somebody; call = match_call; reply = Some (match_reply 119) } ∷ [];
-      rest = [];
-      came = (
-        sent xfr_call,
-        sent match_call,
-        xfr_record,
-        refl,
-        (sent match_call, [], match_record, sym (append-nil (sent match_call)), refl),
-      );
-      one = record { caller = somebody; call = xfr_call; reply = Some (xfr_reply 7 5 Succ) };
-      asked = ([], record { caller = somebody; call = match_call; reply = Some (match_reply 119) } ∷ [], refl);
-      front = first_log;
-      goes_on = ((0, version_with 9 119) ∷ [], refl);
-      reply = xfr_reply 7 5 Succ;
-      taken = its_transfer;
-      takes = is_taken;
-      stat = Succ;
-      says = refl;
-      shows = λ done. (version_with 9 119, (first_log, [], refl), fetched);
-    },
-    tt,
-  );
+  called_back = λ some. record {
+    connection = record {
+      peer = somebody;
+      came = sent xfr_call ++ sent match_call;
+      sent = sent (xfr_reply 7 5 Succ) ++ sent (match_reply 119);
+      cut = false;
+    };
+    among = ([], [], refl);
+    exchanges = record { caller = somebody; call = xfr_call; reply = Some (xfr_reply 7 5 Succ) }
+        ∷ record { caller = somebody; call = match_call; reply = Some (match_reply 119) } ∷ [];
+    callers = (refl, (refl, tt));
+    rest = [];
+    came = (
+      sent xfr_call,
+      sent match_call,
+      xfr_record,
+      refl,
+      (sent match_call, [], match_record, sym (append-nil (sent match_call)), refl),
+    );
+    letters = (
+      [],
+      record { caller = somebody; call = xfr_call; reply = Some (xfr_reply 7 5 Succ) },
+      record { caller = somebody; call = match_call; reply = Some (match_reply 119) } ∷ [],
+      first_log,
+      fetched_log,
+      refl,
+      (first_log, refl),
+      ((0, version_with 9 119) ∷ [], refl),
+      record {
+        reply = xfr_reply 7 5 Succ;
+        taken = its_transfer;
+        takes = is_taken;
+        host = refl;
+        port = λ some. refl;
+        stat = Succ;
+        says = refl;
+        shows = λ done. (version_with 9 119, first_log, front_self first_log, front_self fetched_log, fetched);
+      },
+      front_self fetched_log,
+    );
+  };
 }
 
 replies : Replies transfer_world first_log fetched_log

@@ -199,5 +199,5 @@ succeeded read shows between = record {
 pub transfers : ReadIsBody → FetchedIsShown → ShownBetween → Transfers (stored_of (whole_file 9 119)) stored_log
 transfers read shows between = record {
   done = λ number among. subst (λ (n : ℕ). Succeeded world stored_log n) (sym (only_done number among)) (succeeded read shows between);
-  called_back = tt;
+  called_back = λ some. absurd (some refl);
 }

@@ -131,5 +131,5 @@ module _ (read : ReadIsBody) (shows : WalkedIsShown) where
   pub transfers : Transfers (walk_of (two_row_file 9 119) two_mails) walked_log
   transfers = record {
     done = λ number among. subst (λ (n : ℕ). Succeeded world walked_log n) (sym (only_done number among)) succeeded;
-    called_back = tt;
+    called_back = λ some. absurd (some refl);
   }

@@ -1,5 +1,5 @@
 -- What `run` does is what the headline says.
-use Rattle.std.proofs.Common.{◌≡◌, ℕ, ◌-◌, suc, Bool, true, false, List, [], ◌∷◌, take, map, Option, Some, None, sym, ap, ◌∙◌, subst, arith, inl, ⊎_elim}
+use Rattle.std.proofs.Common.{◌≡◌, ℕ, ◌-◌, suc, Bool, true, false, List, [], ◌∷◌, take, map, Option, Some, None, sym, ap, ◌∙◌, subst, arith, inl, ⊎_elim, refl}
 use Rattle.yp_io.specs.Disk.{History, IsImage, LeftIn, LeftBetween, states, moment}
 use Rattle.yp_version.specs.Versions.{MapVersion}
 use Rattle.yp_map_file.specs.Stands.{stands}
@@ -132,7 +132,7 @@ module _ {S K D C A I T : Type 0} (seen : Seeing S K D C A I T) (read : ReadIsBo
         crashes = untouched name store (λ name. None) reading_of (map dialed_of wires) h held stood h' (tells_stored s) same told;
         transfers = record {
           done = λ number among. absurd (none_among number (subst (λ (b : Bool). IsAmong (done_where b) number) told among));
-          called_back = tt;
+          called_back = λ some. absurd (some refl);
         };
       }
   forgone (Walk name force store host port count flag) s old new door door' none stays =
@@ -144,7 +144,7 @@ module _ {S K D C A I T : Type 0} (seen : Seeing S K D C A I T) (read : ReadIsBo
         crashes = untouched name store (λ name. None) reading_of (walked_of host.1 events ∷ []) h held stood h' (tells_stored s) same told;
         transfers = record {
           done = λ number among. absurd (none_among number (subst (λ (b : Bool). IsAmong (done_where b) number) told among));
-          called_back = tt;
+          called_back = λ some. absurd (some refl);
         };
       }
   forgone (Build name store flag) s old new door door' none stays = λ kind of_kind. unbuilt name store (Text kind) s old new none stays

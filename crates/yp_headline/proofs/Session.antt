@@ -1,5 +1,5 @@
 -- What a session over stored maps does is what the headline says.
-use Rattle.std.proofs.Common.{◌≡◌, ◌⊎◌, ℕ, ◌≤◌, Bool, true, List, [], ◌∷◌, ◌++◌, length, map, Some, refl, sym, ap, ◌∙◌, subst, inl, inr, ⊎_elim, append_assoc, Result, Ok, Err}
+use Rattle.std.proofs.Common.{◌≡◌, ◌⊎◌, ℕ, ◌≤◌, Bool, true, List, [], ◌∷◌, ◌++◌, length, Some, refl, sym, ap, ◌∙◌, subst, inl, inr, ⊎_elim, Result, Ok, Err}
 use Rattle.std.specs.Prelude.{Contains}
 use Rattle.std.proofs.lemmas.List.{append_cancel_left, length-map}
 use Rattle.yp_io.specs.Disk.{IsImage}
@@ -38,20 +38,19 @@ use Rattle.yp_command.specs.declared.office.status.Status.TheVariants as status
 use Rattle.yp_command.specs.office.Disks.{disks_of}
 use Rattle.yp_command.specs.office.Seeing.{Seeing}
 use Rattle.yp_command_serve.specs.Session.{Sessions, service, connection}
-use Rattle.yp_headline.specs.World.{World}
-use Rattle.yp_headline.specs.Serving.{IsServed}
+use Rattle.yp_headline.specs.World.{World, Letter}
+use Rattle.yp_headline.specs.Serving.{Exchange, IsServed}
 use Rattle.yp_headline.specs.Publishing.{IsAmong, IsMarked, IsFetched, IsNew, IsPublishedLog, OfFile, StandsBy}
-use Rattle.yp_headline.specs.Calling.{IsCallBack}
+use Rattle.yp_headline.specs.Calling.{IsCallBack, AreCallBacks, IsCalledBack}
 use Rattle.yp_headline.specs.Headline.{Replies, Crashes, Transfers}
 use Rattle.yp_headline.specs.inside.Files.{is_cut, stores_between, StandsByFront}
 use Rattle.yp_headline.specs.inside.Worlds.{cuts_short, was_served, session_world}
 use Rattle.yp_headline.specs.inside.Laws.{WorldHolds, SessionHolds}
-use Rattle.yp_headline.proofs.Runs.{exchange_of, exchanges_of, turns_in, chain_reads, front_self, none_among, run_served}
+use Rattle.yp_headline.proofs.Runs.{exchange_of, exchanges_of, turns_in, all_callers, chain_reads, front_self, none_among, run_served}
 use Rattle.yp_headline.proofs.Named.{open_is_named}
 use Rattle.yp_headline.proofs.Built.{made_built}
 use Rattle.yp_headline.proofs.Dialing.{IsSound, Goes, fetched_among, chained, ended_goes, some_then}
-use Rattle.yp_headline.proofs.Posting.{Gains, IsPosted, all_then, all_posted, run_posts, among_exchanges, installed_in, never_succeeds}
-use Rattle.yp_headline.proofs.Steps.{front_then}
+use Rattle.yp_headline.proofs.Posting.{Gains, IsPosted, InOrder, passing, all_posted, run_posts, installed_in, never_succeeds}
 use Rattle.yp_headline.proofs.Stores.{stores_have, left_at, end_at, by_wire, zip_length, is_published, by_front, left_of_map}
 
 same_some : (a b : Wires) → Some a ≡ Some b → a ≡ b
@@ -195,37 +194,41 @@ module _ {D B E : Type 0} (service : Service D B E) (end : End) (old new : Conne
 
   -- ---- what was called back
 
-  abbrev WasPosted : List ℕ → Type 0
-  WasPosted bytes =
-      IsPosted service serves.start (transitions_of (dialogue_at serves.start old.wire begun) serves.runs.answered) serves.finish bytes
+  abbrev transitions : List (Transition (Local D B E))
+  transitions = transitions_of (dialogue_at serves.start old.wire begun) serves.runs.answered
 
-  posted : Gains WasPosted (service.telling.dial old.desk).letters (service.telling.dial new.desk).letters
+  abbrev exchanges : List Exchange
+  exchanges = exchanges_of service.peer (turns_in serves.runs.answered)
+
+  abbrev WerePosted : List Letter → Type 0
+  WerePosted letters = InOrder service serves.start transitions letters exchanges log0 log1
+
+  posted : Gains WerePosted (service.telling.dial old.desk).letters (service.telling.dial new.desk).letters
   posted =
-      subst (λ (e : E). Gains WasPosted (service.telling.dial e).letters (service.telling.dial new.desk).letters) start_desk
-      (subst (λ (e : E). Gains WasPosted (service.telling.dial serves.start.desk).letters (service.telling.dial e).letters)
+      subst (λ (e : E). Gains WerePosted (service.telling.dial e).letters (service.telling.dial new.desk).letters) start_desk
+      (subst (λ (e : E). Gains WerePosted (service.telling.dial serves.start.desk).letters (service.telling.dial e).letters)
       (sym serves.last.desk)
       (run_posts service serves.runs.answered (dialogue_at serves.start old.wire begun) serves.runs.last
       (dialogue_at serves.finish new.wire serves.progress) CALLS_MAX (length serves.runs.answered) end serves.runs.chain
       serves.runs.ends))
 
-  abbrev Shows : Taken → XfrStat → Type 0
-  Shows taken stat = stat ≡ Succ → (version : MapVersion) × IsAmong log1 (taken.map, version) × IsFetched world version
+  abbrev Shows : Taken → XfrStat → (front next : Log) → Type 0
+  Shows taken stat front next = stat ≡ Succ → (version : MapVersion) × (before : Log) × IsFront front before
+      × IsFront (before ++ (taken.map, version) ∷ []) next × IsFetched world version
 
-  -- a transfer that succeeded is in the log
-  by_result : (bytes : List ℕ) (is : WasPosted bytes) (result : Result Installed XfrFault) → is.carried.transfers.result ≡ result
-      → Shows is.taken (outcome_stat result)
-  by_result bytes is (Err why) result_is = λ done. absurd (never_succeeds why done)
-  by_result bytes is (Ok installed) result_is = λ done.
+  -- the version of a transfer that succeeded was entered
+  by_result : (letter : Letter) (is : IsPosted service serves.start transitions letter) (result : Result Installed XfrFault)
+      → is.carried.transfers.result ≡ result
+      → Shows is.taken (outcome_stat result) (log_of service is.middle) (log_of service is.transition.after)
+  by_result letter is (Err why) result_is = λ done. absurd (never_succeeds why done)
+  by_result letter is (Ok installed) result_is = λ done.
       let entered = installed_in service.keeping (request_for is.taken) is.carried.transfers.transfers.outcome
-      is.carried.transfers.result installed is.middle.published is.transition.after.published result_is
+      is.carried.transfers.result installed is.middle.published is.transition.after.published is.carried.inside result_is
       is.carried.transfers.transfers.installs in (
         entered.stored,
-        (
-          entered.entry.0,
-          entered.entry.1 ++ is.goes_on.0,
-          is.goes_on.1 ∙ ap (λ (l : Log). l ++ is.goes_on.0) entered.entry.2
-              ∙ append_assoc entered.entry.0 ((is.taken.map, entered.stored) ∷ entered.entry.1) is.goes_on.0,
-        ),
+        entered.before,
+        entered.goes_on,
+        entered.entry,
         fetched_by (service.telling.hosts is.middle.desk) is.taken entered.version entered.stored is.transition is.among
             (record {
               took = is.took;
@@ -239,35 +242,56 @@ module _ {D B E : Type 0} (service : Service D B E) (end : End) (old new : Conne
             entered.marked,
       )
 
-  call_back : (bytes : List ℕ) → WasPosted bytes → IsCallBack world log1 bytes
-  call_back bytes is =
+  call_back : (letter : Letter) (is : IsPosted service serves.start transitions letter)
+      → IsCallBack world (exchange_of service.peer is.transition.turn) letter (log_of service is.middle)
+      (log_of service is.transition.after)
+  call_back letter is = record {
+    reply = is.answer;
+    taken = is.taken;
+    takes = subst (λ (c : Catalogue). reply Stream (maps_on c (log_of service is.middle)) service.peer is.transition.turn.message
+        ≡ Takes is.answer is.taken) (is.catalogue ∙ start_catalogue) is.takes;
+    host = is.tells.host;
+    port = is.tells.port;
+    stat = outcome_stat is.carried.transfers.result;
+    says = is.tells.says;
+    shows = by_result letter is is.carried.transfers.result refl;
+  }
+
+  call_backs : (letters : List Letter) (left : List Exchange) (known : Log)
+      → InOrder service serves.start transitions letters left known log1 → AreCallBacks world letters left known log1
+  call_backs [] left known order = order
+  call_backs (letter ∷ letters) left known order = (
+    order.0,
+    exchange_of service.peer order.1.transition.turn,
+    order.2,
+    log_of service order.1.middle,
+    log_of service order.1.transition.after,
+    order.3,
+    order.4,
+    order.1.grown,
+    call_back letter order.1,
+    call_backs letters order.2 (log_of service order.1.transition.after) order.5,
+  )
+
+  called_back : IsCalledBack world log1
+  called_back =
       let reads = chain_reads (local_conduct service.keeping service.telling) service.peer serves.runs.answered
       (dialogue_at serves.start old.wire begun) serves.runs.last came before input output serves.runs.chain in
       record {
         connection = record { peer = service.peer; came = came; sent = sent; cut = is_cut end };
         among = ([], [], refl);
-        exchanges = exchanges_of service.peer (turns_in serves.runs.answered);
+        exchanges = exchanges;
+        callers = all_callers service.peer (turns_in serves.runs.answered);
         rest = reads.rest;
         came = reads.begins;
-        one = exchange_of service.peer is.transition.turn;
-        asked = among_exchanges service serves.runs.answered (dialogue_at serves.start old.wire begun) is.transition is.among;
-        front = log_of service is.middle;
-        goes_on = front_then (log_of service is.middle) (log_of service is.transition.after) log1 is.grown is.goes_on;
-        reply = is.answer;
-        taken = is.taken;
-        takes = subst (λ (c : Catalogue). reply Stream (maps_on c (log_of service is.middle)) service.peer is.transition.turn.message
-            ≡ Takes is.answer is.taken) (is.catalogue ∙ start_catalogue) is.takes;
-        stat = outcome_stat is.carried.transfers.result;
-        says = is.says;
-        shows = by_result bytes is is.carried.transfers.result refl;
+        letters = call_backs world.posted exchanges []
+            (passing service serves.start transitions [] world.posted exchanges [] log0 log1 (log0, refl)
+            (all_posted WerePosted log_grown (service.telling.dial old.desk).letters (service.telling.dial new.desk).letters posted));
       }
 
   pub session_transfers : Transfers world log1
-  session_transfers = record {
-    done = λ number among. absurd (none_among number among);
-    called_back = all_then WasPosted (IsCallBack world log1) call_back world.posted
-        (all_posted WasPosted (service.telling.dial old.desk).letters (service.telling.dial new.desk).letters posted);
-  }
+  session_transfers =
+      record { done = λ number among. absurd (none_among number among); called_back = λ some. called_back }
 
 -- ---- by the status
 

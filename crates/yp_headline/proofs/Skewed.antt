@@ -30,7 +30,7 @@ one_server server other (one ∷ [], back, is) = absurd cc
 one_server server other (one ∷ two ∷ front, back, is) = absurd cc
 
 -- a record has bytes
-never_empty : (limit : ℕ) (message bytes more : List ℕ) → Fragments limit message bytes → [] ≡ bytes ++ more → ⊥
+pub never_empty : (limit : ℕ) (message bytes more : List ℕ) → Fragments limit message bytes → [] ≡ bytes ++ more → ⊥
 never_empty limit message bytes more is empty =
     let four : length (fragment true is.last) ≡ 4 + length is.last = omega arith in
     let all : length bytes ≡ length (begun is.pieces) + length (fragment true is.last) =

@@ -131,7 +131,7 @@ module _ (job : Job) (h h' : History) (old new : Option History) (was : old ≡ 
       log = file_log held;
       crashes = left_crashes job.name job.store (λ name. None) reading_of dialed h h' held (made_of job file outcome) stood
           (new_by false outcome refl) (each leaves);
-      transfers = record { done = λ number among. absurd (none_among number among); called_back = tt };
+      transfers = record { done = λ number among. absurd (none_among number among); called_back = λ some. absurd (some refl) };
     }
 
   module _ (file : FileVersion) (file_is : file.version ≡ held) (version : MapVersion)
@@ -170,7 +170,7 @@ module _ (job : Job) (h h' : History) (old new : Option History) (was : old ≡ 
           (new_by file file_is (Ok version) gave true (Ok version) refl) (each file file_is (Ok version) gave leaves);
       transfers = record {
         done = λ number among. subst (λ (n : ℕ). Succeeded (world true) log n) (sym (only_done number among)) succeeded;
-        called_back = tt;
+        called_back = λ some. absurd (some refl);
       };
     }
 
@@ -204,5 +204,5 @@ module _ (job : Job) (h h' : History) (old new : Option History) (was : old ≡ 
     crashes = left_crashes job.name job.store (λ name. None) reading_of dialed h h' held None stood (λ version made. absurd cc)
         (λ image left. inl ((subst (λ (o : Option History). LeavesOnly (Some h) o (MayLeave (Some h))) is
         (subst (λ (o : Option History). LeavesOnly o new (MayLeave o)) was leaves)).each image left));
-    transfers = record { done = λ number among. absurd (none_among number among); called_back = tt };
+    transfers = record { done = λ number among. absurd (none_among number among); called_back = λ some. absurd (some refl) };
   }

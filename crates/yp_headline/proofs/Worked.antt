@@ -151,7 +151,7 @@ skewed_source came = (
     at_end = skewed_end came;
     stored = λ number among. absurd (none_among number among);
   },
-  record { done = λ number among. absurd (none_among number among); called_back = tt },
+  record { done = λ number among. absurd (none_among number among); called_back = λ some. absurd (some refl) },
 )
 
 -- ---- three installs of one file

@@ -1,5 +1,5 @@
 -- The headline: what the whole program does, over the bytes that go in and out.
-use Rattle.std.specs.Prelude.{◌≡◌, ◌⊎◌, ℕ, List, Some}
+use Rattle.std.specs.Prelude.{◌≡◌, ◌≢◌, ◌⊎◌, ℕ, List, [], Some}
 use Rattle.std.specs.List.{AllByRecursion}
 use Rattle.yp_io.specs.Disk.{IsImage, LeftIn}
 use Rattle.yp_board.specs.Logs.{Log, shown}
@@ -9,7 +9,7 @@ use Rattle.yp_headline.specs.World.{World}
 use Rattle.yp_headline.specs.Serving.{IsServed, AreServed}
 use Rattle.yp_headline.specs.Publishing.{IsAmong, IsPublishedLog, OfFile, StandsBy}
 use Rattle.yp_headline.specs.Sources.{Succeeded}
-use Rattle.yp_headline.specs.Calling.{IsCallBack}
+use Rattle.yp_headline.specs.Calling.{IsCalledBack}
 use Rattle.yp_headline.specs.Storing.{stood_for}
 
 -- Replies. There is one log of published versions, in which the orders of each map rise. Each connection was answered
@@ -34,8 +34,8 @@ pub record Crashes (world : World) (begun log : Log) : Type 0 where
       → IsImage file.last image → stood_for image ≡ Some (shown number log))
 
 -- Transfers. Each that was told as done is of a map whose version a server gave, over a stream or in datagrams: the log
--- shows it. Where that came of a source whose own log rises, it is the version that the source showed throughout. Each
--- datagram that was posted calls back a transfer that a connection asked for.
+-- shows it. Where that came of a source whose own log rises, it is the version that the source showed throughout. What
+-- was posted calls back transfers that a connection asked for, each of them once at most.
 pub record Transfers (world : World) (log : Log) : Type 0 where
   pub done : (number : ℕ) → IsAmong world.done number → Succeeded world log number
-  pub called_back : AllByRecursion (IsCallBack world log) world.posted
+  pub called_back : world.posted ≢ [] → IsCalledBack world log

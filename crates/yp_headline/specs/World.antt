@@ -23,6 +23,11 @@ pub record Datagram : Type 0 where
   pub sent : Option (List ℕ)
   pub lost : Bool
 
+-- a datagram that was posted, and to whom
+pub record Letter : Type 0 where
+  pub peer : Peer
+  pub bytes : List ℕ
+
 -- the file of a map: as it was at first, at each moment, the last one first, and as it is at the end
 pub record MapFile : Type 0 where
   pub first : DiskState
@@ -56,5 +61,5 @@ pub record World : Type 0 where
   pub connections : List Connection
   pub datagrams : List (List Datagram)
   pub dialed : List Dialed
-  pub posted : List (List ℕ)
+  pub posted : List Letter
   pub done : List ℕ

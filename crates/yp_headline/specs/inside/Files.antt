@@ -15,7 +15,7 @@ use Rattle.yp_answer.specs.declared.procedure.Path.TheVariants.{Stream, Datagram
 use Rattle.yp_answer.specs.declared.session.session.End.{End}
 use Rattle.yp_answer.specs.declared.session.session.End.TheVariants.{Clean, Torn, TooLong}
 use Rattle.yp_answer.specs.declared.session.session.End.TheVariants.{ReadFault, WriteFault, Enough}
-use Rattle.yp_headline.specs.World.{World, Store, Given, Filed, Dialed}
+use Rattle.yp_headline.specs.World.{World, Letter, Store, Given, Filed, Dialed}
 use Rattle.yp_headline.specs.Publishing.{StandsBy}
 
 -- whether a session that ended so was cut short
@@ -68,13 +68,13 @@ abbrev pub walked_of : Peer → List InboxEvent → Dialed
 walked_of peer events = mailed peer (mails_from peer events)
 
 -- the datagrams that a dial posted, but for questions whose answer was awaited
-abbrev pub posted_of : List Sending → List (List ℕ)
+abbrev pub posted_of : List Sending → List Letter
 posted_of [] = []
-posted_of (Posted peer bytes ∷ sent) = bytes ∷ posted_of sent
+posted_of (Posted peer bytes ∷ sent) = record { peer = peer; bytes = bytes } ∷ posted_of sent
 posted_of (Asked peer bytes came ∷ sent) = posted_of sent
 
 -- those that were told more at last than at first
-abbrev pub posted_between : Option (List Sending) → Option (List Sending) → List (List ℕ)
+abbrev pub posted_between : Option (List Sending) → Option (List Sending) → List Letter
 posted_between None new = []
 posted_between (Some old) None = []
 posted_between (Some old) (Some new) = posted_of (drop (length old) new)

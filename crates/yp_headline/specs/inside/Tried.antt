@@ -16,7 +16,7 @@ use Rattle.yp_texts.specs.declared.reading.Reading.TheVariants.{Rows}
 use Rattle.yp_texts.specs.Readings.{reading_of}
 use Rattle.yp_answer.specs.Transfer.{Taken}
 use Rattle.yp_answer.specs.Reply.{make_reply, xfr_reply}
-use Rattle.yp_headline.specs.World.{World, Datagram, Given, Filed, Dialed}
+use Rattle.yp_headline.specs.World.{World, Datagram, Letter, Given, Filed, Dialed}
 use Rattle.yp_headline.specs.inside.Files.{streamed}
 use Rattle.yp_headline.specs.Headline.{Replies, Crashes, Transfers}
 
@@ -296,6 +296,9 @@ xfr_call = words (7 ∷ 0 ∷ 2 ∷ 100004 ∷ 2 ∷ 6 ∷ 0 ∷ 0 ∷ 0 ∷ 0 �
 abbrev pub success_call : List ℕ
 success_call = call_of resp_xfr 5 1073741824 1 1 (5, pos 1)
 
+abbrev pub success_letter : Letter
+success_letter = record { peer = low_caller; bytes = success_call }
+
 abbrev pub fetched_log : Log
 fetched_log = (0, version_with 7 118) ∷ (0, version_with 9 119) ∷ []
 
@@ -316,7 +319,7 @@ transfer_world = record {
   } ∷ [];
   datagrams = [];
   dialed = streamed somebody fetched_bytes ∷ [];
-  posted = success_call ∷ [];
+  posted = success_letter ∷ [];
   done = [];
 }
 

@@ -1,5 +1,5 @@
 -- Worlds of files, and of transfers, of which the headline is false.
-use Rattle.std.specs.Prelude.{ℕ, List, [], ◌∷◌, ◌++◌, Some, None, take}
+use Rattle.std.specs.Prelude.{ℕ, true, List, [], ◌∷◌, ◌++◌, Some, None, take}
 use Rattle.yp_io.specs.Disk.{DiskState}
 use Rattle.yp_rpc.specs.Records.{sent}
 use Rattle.yp_rpc.specs.Reply.{words, reply_head}
@@ -13,7 +13,8 @@ use Rattle.yp_headline.specs.Headline.{Crashes, Transfers}
 use Rattle.yp_headline.specs.inside.Tried.{cell_of, shut_cell, version_with, whole_file, torn_file}
 use Rattle.yp_headline.specs.inside.Tried.{synced, one_file, own_map, text, somebody}
 use Rattle.yp_headline.specs.inside.Tried.{order_reply, master_reply, all_reply}
-use Rattle.yp_headline.specs.inside.Tried.{fetched_bytes, success_call, first_log, transfer_world}
+use Rattle.yp_headline.specs.inside.Tried.{fetched_bytes, success_call, success_letter, xfr_call, first_log}
+use Rattle.yp_headline.specs.inside.Tried.{fetched_log, transfer_world}
 use Rattle.yp_headline.specs.inside.Tried.{IsTornWorld, IsWrongTransfer, served_world}
 
 -- ---- files
@@ -109,17 +110,31 @@ IsWrongStored world = (begun log : Log) → Crashes world begun log → Transfer
 
 -- a transfer that is called back as done where nobody asked for one
 abbrev pub called_unasked : World
-called_unasked = record (one_file [] [] [] [] []) { posted = success_call ∷ [] }
+called_unasked = record (one_file [] [] [] [] []) { posted = success_letter ∷ [] }
 
 -- one that was asked for, where such servers were dialed
 abbrev pub called_of : List Dialed → World
 called_of dialed = record transfer_world { dialed = dialed }
 
+-- one that is called back at another host
+abbrev pub called_elsewhere : World
+called_elsewhere = record transfer_world {
+  posted = record { peer = record { addr = 10 ∷ 0 ∷ 0 ∷ 8 ∷ []; port = 700 }; bytes = success_call } ∷ [];
+}
+
+-- what came is these bytes, and two transfers are called back
+abbrev pub called_two : List ℕ → World
+called_two came = record transfer_world {
+  connections = record { peer = somebody; came = came; sent = []; cut = true } ∷ [];
+  posted = success_letter ∷ success_letter ∷ [];
+}
+
 -- Transfers that are told as done: of no server; of one that gave nothing, its order alone, no rows, or another order
 -- at last; of one that told that it has no such map, or that answered another call; and of one that gave a version,
 -- where the file stands for nothing, for another row, for another order, for no rows, or for a row more. And transfers
 -- that are called back as done: for which nobody asked, of no server, of one that gave its order alone, and of one that
--- gave a version that the log hasn't.
+-- gave a version that the log hasn't; one that is called back at another host than that of its caller; one that is
+-- called back twice; and two of which the second was taken when the one version of the server had been entered.
 pub record TransfersAreFalse : Type 0 where
   pub of_no_server : IsWrongTransfer (one_file [] [] (whole_file 7 118) (0 ∷ []) [])
   pub gave_nothing : IsWrongTransfer (transfer_of [])
@@ -138,6 +153,9 @@ pub record TransfersAreFalse : Type 0 where
   pub called_of_no_server : IsWrongTransfer (called_of [])
   pub called_of_order : IsWrongTransfer (called_of (streamed somebody (sent (order_reply 1 9)) ∷ []))
   pub called_unshown : Transfers transfer_world first_log → ⊥
+  pub of_another_host : IsWrongTransfer called_elsewhere
+  pub called_twice : IsWrongTransfer (called_two (sent xfr_call))
+  pub entered_before : Transfers (called_two (sent xfr_call ++ sent xfr_call)) fetched_log → ⊥
 
 -- ---- a right one
 

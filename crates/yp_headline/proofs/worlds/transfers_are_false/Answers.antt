@@ -24,4 +24,7 @@ returns c =
       called_of_no_server = called.called_of_no_server;
       called_of_order = called.called_of_order one;
       called_unshown = called.called_unshown one;
+      of_another_host = called.of_another_host;
+      called_twice = called.called_twice one;
+      entered_before = called.entered_before one;
     }
