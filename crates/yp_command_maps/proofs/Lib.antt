@@ -7,3 +7,4 @@ pub mod Transferring
 pub mod Transferred
 pub mod Reversing
 pub mod Reversed
+pub mod Surveyed

@@ -137,19 +137,16 @@ pub renews_as : (job job' : Job) (now : ℕ) (result : Result Built Status) (old
 renews_as job job' now result old new netgroup netgroup' faults faults' same h =
     subst (λ (j : Job). Renews j now result old new netgroup netgroup' faults faults') same h
 
-pub made_as : (name : List ℕ) (field field' : Field) (now : ℕ) (last last' : Option MapVersion) (rows : List Row)
-    (version : MapVersion) → field ≡ field' → last ≡ last' → IsReverseVersion name field now last rows version
-    → IsReverseVersion name field' now last' rows version
-made_as name field field' now last last' rows version same same' h =
-    subst (λ (f : Field). IsReverseVersion name f now last' rows version) same
-    (subst (λ (l : Option MapVersion). IsReverseVersion name field now l rows version) same' h)
+pub made_behind : (job : Job) (now : ℕ) (last last' : Option MapVersion) (rows : List Row) (version : MapVersion)
+    → last ≡ last' → IsReverseVersion job.name job.field now last rows version
+    → IsReverseVersion job.name job.field now last' rows version
+made_behind job now last last' rows version same h =
+    subst (λ (l : Option MapVersion). IsReverseVersion job.name job.field now l rows version) same h
 
-pub unmade_as : (name : List ℕ) (field field' : Field) (now : ℕ) (last last' : Option MapVersion) (rows : List Row)
-    (status : Status) → field ≡ field' → last ≡ last' → IsUnmade name field now last rows status
-    → IsUnmade name field' now last' rows status
-unmade_as name field field' now last last' rows status same same' h =
-    subst (λ (f : Field). IsUnmade name f now last' rows status) same
-    (subst (λ (l : Option MapVersion). IsUnmade name field now l rows status) same' h)
+pub unmade_behind : (job : Job) (now : ℕ) (last last' : Option MapVersion) (rows : List Row) (status : Status)
+    → last ≡ last' → IsUnmade job.name job.field now last rows status → IsUnmade job.name job.field now last' rows status
+unmade_behind job now last last' rows status same h =
+    subst (λ (l : Option MapVersion). IsUnmade job.name job.field now l rows status) same h
 
 -- ---- a file that wasn't loaded
 

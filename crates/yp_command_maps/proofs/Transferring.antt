@@ -36,7 +36,8 @@ use Rattle.yp_io.specs.Dials.{Dialing}
 use Rattle.yp_transfer.specs.Dialing.{FetchesFrom}
 use Rattle.yp_transfer.specs.Installing.{marking, of_install, fetched_offer, IsTaken, IsNotTaken, Offers, InstallsFetched}
 use Rattle.yp_transfer.specs.Installing.{OpensAndOffers}
-use Rattle.yp_transfer.specs.Transfers.{request_of, wanted_at, InstallsOutcome}
+use Rattle.yp_transfer.specs.Requests.{TransferRequest, request_of}
+use Rattle.yp_transfer.specs.Transfers.{wanted_at, InstallsOutcome}
 use Rattle.yp_transfer.specs.Transfers as transfers
 use Rattle.yp_command.specs.office.Disks.{only_history, total_faults}
 use Rattle.yp_command_maps.specs.declared.xfr.XfrStop.TheVariants as stop
@@ -293,14 +294,14 @@ module _ {D : Type 0} (history : D → Option History) (faults : D → ℕ) (job
 
     -- the map is level, so it isn't opened again
     opens_put : (version : MapVersion) (result : Result Installed XfrFault)
-        → InstallsFetched keeping 0 version job.force job.flag result old new → Puts (Ok version) result before after
+        → InstallsFetched keeping (request_of 0 job.host.0 job.force job.flag) version result old new → Puts (Ok version) result before after
     opens_put version result (inl h) =
         absurd (of_one old.maps before (λ kept. kept.standing ≡ Level → ⊥) one.olds h.stays.behind one.opened.level)
     opens_put version result (inr h) =
         let same = of_one old.maps before (λ kept. kept.standing ≡ Level → h.middle ≡ old) one.olds h.opens.unchanged
         one.opened.level in
         let here = subst (λ (p : Published D Seen).
-        Offers keeping 0 (fetched_offer keeping 0 version job.force job.flag p) result p new) same h.offers in
+        Offers keeping 0 (fetched_offer keeping (request_of 0 job.host.0 job.force job.flag) version p) result p new) same h.offers in
         offered_put version result (subst (λ (v : Option MapVersion).
         Offers keeping 0 (offer (record version { secure = marking job.flag v }) Fetched job.force) result old new)
         one.shows here)
@@ -471,20 +472,19 @@ module _ {D : Type 0} (history : D → Option History) (faults : D → ℕ) (job
         count = installs.count;
       }
 
-  -- the same of equal hosts and sources
+  -- the same of equal hosts and requests
   pub did_named : (disks news : List D) (old new : Published D Seen) (served : Catalogue)
-      (result : Result Installed XfrFault) (from to : Dialing) (hosts : HostList) (source : List ℕ) → length disks ≡ 1
-      → served ≡ catalogue_of job → BeginsLevel history faults served disks old
-      → news ≡ map (λ (kept : StoredMap D). kept.disk) new.maps → hosts ≡ job.host ∷ [] → source ≡ job.host.0
-      → transfers.Transfers keeping hosts (request_of 0 source job.force job.flag) result from to old new
-      → Did result from to disks news
-  did_named disks news old new served result from to hosts source one named begins given table name did =
+      (result : Result Installed XfrFault) (from to : Dialing) (hosts : HostList) (request : TransferRequest)
+      → length disks ≡ 1 → served ≡ catalogue_of job → BeginsLevel history faults served disks old
+      → news ≡ map (λ (kept : StoredMap D). kept.disk) new.maps → hosts ≡ job.host ∷ []
+      → request ≡ request_of 0 job.host.0 job.force job.flag
+      → transfers.Transfers keeping hosts request result from to old new → Did result from to disks news
+  did_named disks news old new served result from to hosts request one named begins given table is did =
       did_only disks news old new result from to one
       (subst (λ (c : Catalogue). BeginsLevel history faults c disks old) named begins) given
       (subst (λ (h : HostList). transfers.Transfers keeping h (request_of 0 job.host.0 job.force job.flag) result from
       to old new) table
-      (subst (λ (s : List ℕ). transfers.Transfers keeping hosts (request_of 0 s job.force job.flag) result from to old
-      new) name did))
+      (subst (λ (r : TransferRequest). transfers.Transfers keeping hosts r result from to old new) is did))
 
   -- ---- where no publisher was opened
 

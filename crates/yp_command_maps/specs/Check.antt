@@ -20,12 +20,16 @@ use Rattle.yp_command_maps.specs.Inspect.{Inspects}
 abbrev pub mark_text : Bool → List ℕ
 mark_text secure = if secure then codes " secure" else []
 
+-- the line of a version with this order and master, so many rows and this mark
+abbrev pub check_text : Name → ℕ → (order : ℕ) → (master : List ℕ) → (rows : ℕ) → (secure : Bool) → List ℕ
+check_text store generation order master rows secure =
+    map_text store ++ codes " order " ++ decimal order ++ codes " master " ++ master ++ codes " rows " ++ decimal rows
+    ++ codes " generation " ++ decimal generation ++ mark_text secure ++ codes "\n"
+
 -- the line of a version that stands
 abbrev pub check_line : Name → ℕ → MapVersion → List ℕ
 check_line store generation version =
-    map_text store ++ codes " order " ++ decimal version.order ++ codes " master " ++ version.master ++ codes " rows "
-    ++ decimal (length version.rows) ++ codes " generation " ++ decimal generation ++ mark_text version.secure
-    ++ codes "\n"
+    check_text store generation version.order version.master (length version.rows) version.secure
 
 -- the line of the version that a file stands for
 abbrev pub line_of : Name → List ℕ → MapVersion → List ℕ

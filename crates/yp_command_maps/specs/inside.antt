@@ -1,4 +1,5 @@
 pub mod Build
+pub mod Check
 pub mod Revnet
 pub mod Xfr
 pub mod walk

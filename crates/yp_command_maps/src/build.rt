@@ -29,10 +29,10 @@ ghost use Rattle.yp_command_maps.specs.inside.Build.{stop_of_build, stop_of_afte
 ghost use Rattle.yp_command_maps.specs.Build.{JobDoes, BuildDoes, LoadDoes, build_may_end};
 ghost use Rattle.yp_command_maps.specs.inside.Build.{IsShortStop};
 
-use crate::catalog::catalog_of;
+use crate::catalog::{OnlyMap, catalog_of};
 use std::alloc::Global;
 use std::random::RandomSource;
-use yp_board::{Catalog, MapName, PlainBoard};
+use yp_board::{MapName, PlainBoard};
 use yp_command::office::{
     Apart, BYTES_RULE, KEY_RULE, Line, NamedDisk, Office, ROWS_RULE, Status, VALUE_RULE, add,
     add_map, add_number, put_together, take_apart,
@@ -239,28 +239,27 @@ fn renew<D: Disk>(
     })
 }
 
-/// Builds a version of a text behind the one that the only disk has, and stores it there.
+/// Builds a version of a text behind the one that the only map has, and stores it there.
 fn build_over<D: Disk>(
     alloc: Global,
     rt: &impl RandomSource,
     job: &BuildJob,
     text: Vec<u8>,
     now: u32,
-    catalog: Catalog,
-    disks: Vec<D>,
+    only: OnlyMap<D>,
 ) -> (Result<Built, BuildStop>, Vec<D>)
     requires text { length text.items ≤ text_max }
     requires name { length job.now.name.items ≤ master_max }
-    requires own { catalog.own ≡ job.now.name.items }
-    requires map { length catalog.maps ≡ 1 }
-    requires only { length disks.items ≡ 1 }
+    requires own { only.catalog.own ≡ job.now.name.items }
+    requires map { length only.catalog.maps ≡ 1 }
+    requires only { length only.disks.items ≡ 1 }
     ensures builds { BuildsOn (job_view job.now) text.items now result.0
-        (only_history D.history disks.items) (only_history D.history result.1.items)
-        (total_faults D.faults disks.items) (total_faults D.faults result.1.items) }
+        (only_history D.history only.disks.items) (only_history D.history result.1.items)
+        (total_faults D.faults only.disks.items) (total_faults D.faults result.1.items) }
     ensures short { IfErr result.0 IsShortStop }
     ensures only { length result.1.items ≡ 1 }
 {
-    match open_publisher(alloc, rt, catalog, disks) {
+    match open_publisher(alloc, rt, only.catalog, only.disks) {
         Err(refused) => (Err(refused.fault.into()), refused.disks),
         Ok(mut publisher) => {
             let built = renew(alloc, rt, job, text, now, &mut publisher);
@@ -294,7 +293,11 @@ fn build_on<D: Disk>(
         names,
         disks: apart,
     } = take_apart(alloc, disks)?;
-    let (built, apart) = build_over(alloc, rt, job, text, now, catalog, apart);
+    let only = OnlyMap {
+        catalog,
+        disks: apart,
+    };
+    let (built, apart) = build_over(alloc, rt, job, text, now, only);
     let apart = Apart {
         names,
         disks: apart,

@@ -8,6 +8,13 @@ use std::alloc::Global;
 use yp_board::{Catalog, CatalogFault, MapName};
 use yp_io::NoMemory;
 
+/// The only map of a command: the catalogue of it, and its disk, which is the only one.
+#[derive(Drop)]
+pub struct OnlyMap<D> {
+    pub catalog: Catalog,
+    pub disks: Vec<D>,
+}
+
 /// The catalogue of one map, of the host `own`.
 pub fn catalog_of(alloc: Global, own: &[u8], store: &MapName) -> Result<Catalog, NoMemory>
     requires { catalog_fault own.now (name_view store.now ∷ []) ≡ None }

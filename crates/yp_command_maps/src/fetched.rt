@@ -12,16 +12,19 @@ ghost use Rattle.yp_command_maps.specs.Xfr.{Job};
 ghost use Rattle.yp_command_maps.specs.inside.Xfr.{xfr_job_view, catalogue_of, why_of_open, LeavesUnloaded};
 ghost use Rattle.yp_command_maps.specs.inside.Xfr.{StoresFetched, KeepsLoaded};
 ghost use Rattle.yp_command.specs.Words.{host_view};
-ghost use Rattle.yp_transfer.specs.Transfers.{request_of, InstallsOutcome};
+ghost use Rattle.yp_transfer.specs.Requests.{request_of};
+ghost use Rattle.yp_transfer.specs.inside.Requests.{request_view};
+ghost use Rattle.yp_transfer.specs.Transfers.{InstallsOutcome};
 
+use crate::catalog::OnlyMap;
 use std::alloc::Global;
 use std::random::RandomSource;
-use yp_board::{Catalog, PlainBoard};
+use yp_board::PlainBoard;
 use yp_command::XfrJob;
 use yp_io::Disk;
 use yp_map_file::SlotFault;
 use yp_publisher::{Installed, OpenFault, Publisher, open_publisher};
-use yp_transfer::{XfrFault, install_fetched};
+use yp_transfer::{TransferRequest, XfrFault, install_fetched};
 use yp_version::{Order, Version};
 
 /// The file of the only map wasn't loaded. Its disk is handed back, and nothing was written.
@@ -41,23 +44,22 @@ fn why_of_open(fault: OpenFault) -> SlotFault
     }
 }
 
-/// Opens a publisher of the only map of a catalogue, whose file lies on the only disk.
+/// Opens a publisher of the only map.
 pub fn open_only<D: Disk>(
     alloc: Global,
     rt: &impl RandomSource,
-    catalog: Catalog,
-    disks: Vec<D>,
+    only: OnlyMap<D>,
 ) -> Result<Publisher<D, PlainBoard>, NotLoaded<D>>
-    requires catalogue { length catalog.maps ≡ 1 }
-    requires only { length disks.items ≡ 1 }
-    ensures begun { IfOk result (BeginsLevel D.history D.faults catalog disks.items) }
+    requires catalogue { length only.catalog.maps ≡ 1 }
+    requires only { length only.disks.items ≡ 1 }
+    ensures begun { IfOk result (BeginsLevel D.history D.faults only.catalog only.disks.items) }
     ensures only { IfOk result (λ publisher. length publisher.maps ≡ 1) }
     ensures unloaded { IfErr result (λ refused. LeavesUnloaded refused.why
-        (only_history D.history disks.items) (only_history D.history refused.disks.items)
-        (total_faults D.faults disks.items) (total_faults D.faults refused.disks.items)) }
+        (only_history D.history only.disks.items) (only_history D.history refused.disks.items)
+        (total_faults D.faults only.disks.items) (total_faults D.faults refused.disks.items)) }
     ensures kept { IfErr result (λ refused. length refused.disks.items ≡ 1) }
 {
-    match open_publisher(alloc, rt, catalog, disks) {
+    match open_publisher(alloc, rt, only.catalog, only.disks) {
         Ok(publisher) => Ok(publisher),
         Err(refused) => Err(NotLoaded {
             why: why_of_open(refused.fault),
@@ -74,6 +76,19 @@ pub fn shown_order<D: Disk>(publisher: &Publisher<D, PlainBoard>) -> Option<Orde
     publisher.shown(0).map(|version| version.order())
 }
 
+/// What is asked of the transfer of the only map.
+pub(crate) fn request_of(job: &XfrJob) -> TransferRequest<'_>
+    ensures request { request_view result ≡ request_of 0 (host_view job.now.host).0 job.now.force job.now.flag }
+    ensures map { result.map ≡ 0 }
+{
+    TransferRequest {
+        map: 0,
+        source: &job.host.name,
+        force: job.force,
+        mark: job.flag,
+    }
+}
+
 /// Installs what came of a fetch on the first map.
 fn install_outcome<D: Disk>(
     alloc: Global,
@@ -88,7 +103,7 @@ fn install_outcome<D: Disk>(
         publisher.old publisher.new }
 {
     match outcome {
-        Ok(version) => install_fetched(alloc, rt, publisher, 0, version, job.force, job.flag),
+        Ok(version) => install_fetched(alloc, rt, publisher, &request_of(job), version),
         Err(fault) => Err(fault),
     }
 }

@@ -19,7 +19,7 @@ pub mod walk;
 mod xfr;
 
 pub use build::{build_map, load_map};
-pub use catalog::catalog_of;
+pub use catalog::{OnlyMap, catalog_of};
 pub use check::check_map;
 pub use dump::dump_map;
 pub use fetched::{NotLoaded, hand_back, open_only, shown_order, store_fetched};

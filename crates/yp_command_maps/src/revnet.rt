@@ -7,7 +7,6 @@ ghost use Rattle.yp_io.specs.Counts.{HasRisen};
 ghost use Rattle.yp_io.specs.Disk.{LeavesOnly, MayLeave};
 ghost use Rattle.yp_version.specs.Limits.{master_max};
 ghost use Rattle.yp_version.specs.Rows.{Row};
-ghost use Rattle.yp_netgroup.specs.declared.reverse.field.Field.{Field};
 ghost use Rattle.yp_map_file.specs.inside.Slots.{is_ready};
 ghost use Rattle.yp_board.specs.Catalogues.{name_view};
 ghost use Rattle.yp_texts.specs.After.{was_secure};
@@ -18,9 +17,9 @@ ghost use Rattle.yp_command.specs.office.Seeing.{seeing, IsPassedOn};
 ghost use Rattle.yp_command.specs.inside.office.Status.{IsTellable};
 ghost use Rattle.yp_command_maps.specs.Build.{may_have_written, LeavesFew};
 ghost use Rattle.yp_command_maps.specs.inside.Build.{last_view};
-ghost use Rattle.yp_command_maps.specs.Revnet.{job_of, field_of, HasNextOrder, IsReverseVersion, IsUnmade, is_stop};
+ghost use Rattle.yp_command_maps.specs.Revnet.{field_of, HasNextOrder, IsReverseVersion, IsUnmade, is_stop};
 ghost use Rattle.yp_command_maps.specs.Revnet.{StandsForVersion, IsBeforeOrMade, OwnDiskFails};
-ghost use Rattle.yp_command_maps.specs.inside.Revnet.{StopsCommit, Renews};
+ghost use Rattle.yp_command_maps.specs.inside.Revnet.{reverse_job, StopsCommit, Renews};
 ghost use Rattle.yp_command_maps.specs.Revnet.{RevnetDoes, revnet_may_end};
 ghost use Rattle.yp_command_maps.specs.inside.Revnet.{IsToldEnd};
 
@@ -47,26 +46,37 @@ fn field_of(map: &[u8]) -> Field
     }
 }
 
+/// What a reverse is made by.
+#[derive(Clone, Copy)]
+struct Reversal<'a> {
+    /// The own name.
+    name: &'a [u8],
+    /// The part of a triple by which netgroups are reversed.
+    field: Field,
+    /// The moment, in seconds since 1970.
+    moment: u32,
+}
+
 /// The order of a version behind the last one, whose master has to be the own name.
 fn order_behind(
     alloc: Global,
-    name: &[u8],
+    reversal: &Reversal<'_>,
     last: Option<&Version>,
-    now: u32,
 ) -> Result<Order, Status>
-    ensures order { IfOk result (HasNextOrder name.now now (last_view last.entry)) }
-    ensures unmade { IfErr result (λ status. (field : Field) (rows : List Row)
-        → IsUnmade name.now field now (last_view last.entry) rows status) }
+    ensures order { IfOk result (HasNextOrder reversal.now.name.now reversal.now.moment (last_view last.entry)) }
+    ensures unmade { IfErr result (λ status. (rows : List Row)
+        → IsUnmade reversal.now.name.now reversal.now.field reversal.now.moment (last_view last.entry) rows status) }
     ensures stop { IfErr result (λ status. is_stop status ≡ true) }
     ensures tellable { IfErr result IsTellable }
 {
-    if let Some(master) = other_master(name, last) {
+    if let Some(master) = other_master(reversal.name, last) {
         return match Vec::from_slice(alloc, master) {
             Ok(master) => Err(Status::Refused { master }),
             Err(_) => Err(Status::NoMemory),
         };
     }
-    match next_order(last.map(|version: &Version| version.order()), now) {
+    let last = last.map(|version: &Version| version.order());
+    match next_order(last, reversal.moment) {
         Ok(order) => Ok(order),
         Err(_) => Err(Status::OrderSpent),
     }
@@ -86,20 +96,20 @@ fn is_secure(last: Option<&Version>) -> bool
 fn make(
     alloc: Global,
     rt: &impl RandomSource,
-    name: &[u8],
-    field: Field,
-    now: u32,
+    reversal: &Reversal<'_>,
     last: Option<&Version>,
     netgroup: &Version,
 ) -> Result<Version, Status>
-    requires { length name.now ≤ master_max }
-    ensures made { IfOk result (IsReverseVersion name.now field now (last_view last.entry) netgroup.now.rows) }
-    ensures unmade { IfErr result (IsUnmade name.now field now (last_view last.entry) netgroup.now.rows) }
+    requires { length reversal.now.name.now ≤ master_max }
+    ensures made { IfOk result (IsReverseVersion reversal.now.name.now reversal.now.field reversal.now.moment
+        (last_view last.entry) netgroup.now.rows) }
+    ensures unmade { IfErr result (IsUnmade reversal.now.name.now reversal.now.field reversal.now.moment
+        (last_view last.entry) netgroup.now.rows) }
     ensures stop { IfErr result (λ status. is_stop status ≡ true) }
     ensures tellable { IfErr result IsTellable }
 {
-    let order = order_behind(alloc, name, last, now)?;
-    match reverse(alloc, rt, netgroup, field, order, name) {
+    let order = order_behind(alloc, reversal, last)?;
+    match reverse(alloc, rt, netgroup, reversal.field, order, reversal.name) {
         Ok(version) => Ok(version.marked(is_secure(last))),
         Err(RevFault::Row { number, rule }) => Err(Status::Rows { row: number, rule }),
         Err(RevFault::NoMemory) => Err(Status::NoMemory),
@@ -143,16 +153,15 @@ struct MapNames {
 fn renew<D: Disk>(
     alloc: Global,
     rt: &impl RandomSource,
-    name: &[u8],
-    now: u32,
+    reversal: &Reversal<'_>,
     names: MapNames,
     slot: &mut Slot<D>,
     netgroup: &mut Slot<D>,
 ) -> Result<Built, Status>
-    requires name { length name.now ≤ master_max }
+    requires name { length reversal.now.name.now ≤ master_max }
     requires named { IsNamed (name_view names.store) }
     requires netgroup { name_view names.netgroup ≡ netgroup_of (name_view names.store) }
-    ensures renews { Renews (job_of name.now (name_view names.store)) now result
+    ensures renews { Renews (reverse_job reversal.now (name_view names.store)) reversal.now.moment result
         (D.history slot.old.disk) (D.history slot.new.disk) (D.history netgroup.old.disk) (D.history netgroup.new.disk)
         (D.faults slot.old.disk + D.faults netgroup.old.disk) (D.faults slot.new.disk + D.faults netgroup.new.disk) }
     ensures own_disk { IfErr result (λ status. (map : MapName) → status ≡ Status.DiskFault map
@@ -172,8 +181,7 @@ fn renew<D: Disk>(
         }),
         Err(fault) => return Err(status_of_file(names.netgroup, fault)),
     };
-    let field = field_of(&names.store.map);
-    let version = make(alloc, rt, name, field, now, last.as_ref(), &groups)?;
+    let version = make(alloc, rt, reversal, last.as_ref(), &groups)?;
     let generation = commit(names.store, slot, &version)?;
     Ok(Built {
         order: version.order(),
@@ -186,16 +194,15 @@ fn renew<D: Disk>(
 fn renew_named<D: Disk>(
     alloc: Global,
     rt: &impl RandomSource,
-    name: &[u8],
-    now: u32,
+    reversal: &Reversal<'_>,
     names: MapNames,
     disks: &mut Vec<NamedDisk<D>>,
 ) -> Result<Built, Status>
-    requires name { length name.now ≤ master_max }
+    requires name { length reversal.now.name.now ≤ master_max }
     requires named { IsNamed (name_view names.store) }
     requires netgroup { name_view names.netgroup ≡ netgroup_of (name_view names.store) }
     requires both { names_of disks.old.items ≡ name_view names.store ∷ netgroup_of (name_view names.store) ∷ [] }
-    ensures renews { Renews (job_of name.now (name_view names.store)) now result
+    ensures renews { Renews (reverse_job reversal.now (name_view names.store)) reversal.now.moment result
         (told_at D.history 0 disks.old.items) (told_at D.history 0 disks.new.items)
         (told_at D.history 1 disks.old.items) (told_at D.history 1 disks.new.items)
         (faults_of D.faults disks.old.items) (faults_of D.faults disks.new.items) }
@@ -215,7 +222,7 @@ fn renew_named<D: Disk>(
     };
     let mut slot = Slot::new(first.disk);
     let mut netgroup = Slot::new(second.disk);
-    let built = renew(alloc, rt, name, now, names, &mut slot, &mut netgroup);
+    let built = renew(alloc, rt, reversal, names, &mut slot, &mut netgroup);
     disks.push_reserved(NamedDisk {
         name: first.name,
         disk: slot.into_disk(),
@@ -271,6 +278,12 @@ pub fn reverse_map<S: Source, K: Sink, D: Disk, C: Clock, A: Dial, I: Inbox, T: 
         netgroup,
     };
     let now = office.clock.now();
-    let built = renew_named(alloc, rt, &name, now, names, &mut office.disks);
+    let field = field_of(&store.map);
+    let reversal = Reversal {
+        name: &name,
+        field,
+        moment: now,
+    };
+    let built = renew_named(alloc, rt, &reversal, names, &mut office.disks);
     tell_end(&mut office.wire.sink, &store, built)
 }

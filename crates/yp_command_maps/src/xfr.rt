@@ -16,11 +16,11 @@ ghost use Rattle.yp_command_maps.specs.inside.Xfr.{xfr_job_view, catalogue_of, I
 ghost use Rattle.yp_command_maps.specs.inside.Xfr.{IsXfrEnd};
 ghost use Rattle.yp_command_maps.specs.Xfr.{XfrDoes, xfr_may_end};
 
-use crate::catalog::catalog_of;
-use crate::fetched::open_only;
+use crate::catalog::{OnlyMap, catalog_of};
+use crate::fetched::{open_only, request_of};
 use std::alloc::Global;
 use std::random::RandomSource;
-use yp_board::{Catalog, MapName};
+use yp_board::MapName;
 use yp_command::office::{
     Apart, Line, NamedDisk, Office, Status, add, add_map, add_number, put_together, status_of_file,
     take_apart,
@@ -79,42 +79,31 @@ fn table_of(alloc: Global, host: &HostWord) -> Result<Hosts, NoMemory>
     Ok(hosts)
 }
 
-/// Transfers the only map of a catalogue, whose file lies on the only disk.
+/// Transfers the only map.
 fn transfer_over<D: Disk, A: Dial>(
     alloc: Global,
     rt: &impl RandomSource,
     job: &XfrJob,
     hosts: &Hosts,
-    catalog: Catalog,
-    disks: Vec<D>,
+    only: OnlyMap<D>,
     dial: &mut A,
 ) -> (Result<Installed, XfrStop>, Vec<D>)
-    requires catalogue { catalog ≡ catalogue_of (xfr_job_view job.now) }
+    requires catalogue { only.catalog ≡ catalogue_of (xfr_job_view job.now) }
     requires hosts { hosts.now ≡ host_view job.now.host ∷ [] }
-    requires only { length disks.items ≡ 1 }
+    requires only { length only.disks.items ≡ 1 }
     ensures moves { XfrMoves (xfr_job_view job.now) result.0
         (dialing_of A.past A.faults dial.old) (dialing_of A.past A.faults dial.new)
-        (only_history D.history disks.items) (only_history D.history result.1.items)
-        (total_faults D.faults disks.items) (total_faults D.faults result.1.items) }
-    ensures few { LeavesFew (only_history D.history disks.items) (only_history D.history result.1.items) }
+        (only_history D.history only.disks.items) (only_history D.history result.1.items)
+        (total_faults D.faults only.disks.items) (total_faults D.faults result.1.items) }
+    ensures few { LeavesFew (only_history D.history only.disks.items) (only_history D.history result.1.items) }
     ensures undialed { is_undialed result.0 ≡ true → dial.new ≡ dial.old }
     ensures letters { A.letters dial.new ≡ A.letters dial.old }
     ensures only { length result.1.items ≡ 1 }
 {
-    match open_only(alloc, rt, catalog, disks) {
+    match open_only(alloc, rt, only) {
         Err(refused) => (Err(XfrStop::Unloaded(refused.why)), refused.disks),
         Ok(mut publisher) => {
-            let done = transfer(
-                alloc,
-                rt,
-                &mut publisher,
-                dial,
-                hosts,
-                0,
-                &job.host.name,
-                job.force,
-                job.flag,
-            );
+            let done = transfer(alloc, rt, &mut publisher, dial, hosts, &request_of(job));
             let (disks, _board) = publisher.into_parts();
             match done {
                 Ok(installed) => (Ok(installed), disks),
@@ -149,7 +138,11 @@ fn transfer_on<D: Disk, A: Dial>(
         names,
         disks: apart,
     } = take_apart(alloc, disks)?;
-    let (done, apart) = transfer_over(alloc, rt, job, &hosts, catalog, apart, dial);
+    let only = OnlyMap {
+        catalog,
+        disks: apart,
+    };
+    let (done, apart) = transfer_over(alloc, rt, job, &hosts, only, dial);
     let apart = Apart {
         names,
         disks: apart,

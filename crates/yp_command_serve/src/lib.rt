@@ -18,4 +18,4 @@ mod tally;
 
 pub use once::serve_once;
 pub use sample::tell_sample;
-pub use session::serve_session;
+pub use session::{SessionSpec, serve_session};

@@ -29,7 +29,7 @@ use yp_command::HostWord;
 use yp_command::office::{
     Apart, NamedDisk, Office, Status, put_together, status_of_map, table_of, take_apart,
 };
-use yp_host::{ConnectionResources, Desk, serve_wire};
+use yp_host::{ConnectionResources, ConnectionSpec, Desk, serve_wire};
 use yp_io::{Clock, Dial, Disk, Inbox, NoMemory, Pair, Peer, Sink, Source, Texts};
 use yp_publisher::OpenFault;
 use yp_rpc::laws;
@@ -50,69 +50,80 @@ fn status_of(alloc: Global, served: Result<End, OpenFault>, names: &[MapName]) -
     }
 }
 
-/// Serves a wire as one connection over the stored versions of maps, by the host `own`, to a caller at `peer`. The
-/// disks come back under their names, and so does the desk. The witness sees the wire behind each record that was
-/// answered.
+/// What a session serves, and to whom.
+#[derive(Drop)]
+pub struct SessionSpec {
+    /// The name of the host that answers.
+    pub own: Vec<u8>,
+    /// The address of the caller.
+    pub peer: Peer,
+    /// The maps.
+    pub stores: Vec<MapName>,
+}
+
+/// Serves a wire as one connection over the stored versions of maps. The disks come back under their names, and so does
+/// the desk. The witness sees the wire behind each record that was answered.
 fn session_on<S: Source, K: Sink, D: Disk, A: Dial, T: Texts, C: Clock, W: Witness<S, K>>(
     alloc: Global,
     rt: &impl RandomSource,
-    own: Vec<u8>,
-    peer: Peer,
-    stores: Vec<MapName>,
+    spec: SessionSpec,
     wire: &mut Pair<S, K>,
-    disks: &mut Vec<NamedDisk<D>>,
-    desk: Desk<A, T, C>,
+    resources: ConnectionResources<NamedDisk<D>, A, T, C>,
     witness: &mut W,
-) -> (Status, Desk<A, T, C>)
-    requires catalogue { catalog_fault own.items (map name_view stores.items) ≡ None }
-    requires named { All IsNamed (map name_view stores.items) }
-    requires count { length (map name_view stores.items) ≤ maps_max }
-    requires disks { names_of disks.old.items ≡ map name_view stores.items }
+) -> (Status, ConnectionResources<NamedDisk<D>, A, T, C>)
+    requires catalogue { catalog_fault spec.own.items (map name_view spec.stores.items) ≡ None }
+    requires named { All IsNamed (map name_view spec.stores.items) }
+    requires count { length (map name_view spec.stores.items) ≤ maps_max }
+    requires disks { names_of resources.disks.items ≡ map name_view spec.stores.items }
     ensures sessions { SeesMore (W.wires witness.old) (W.wires witness.new) (Sessions
         (service_of (keeping_of D.history D.faults plain_log) (telling_by T.Texts C.Clock A.Dial)
-        (record { own = own.items; maps = map name_view stores.items }) peer) result.0
-        (connection_at (wire_of S.Source K.Sink wire.old) disks.old.items desk)
-        (connection_at (wire_of S.Source K.Sink wire.new) disks.new.items result.1)) }
-    ensures bound { (number : ℕ) → AtDisk number (disks_of disks.old.items) (disks_of disks.new.items)
+        (record { own = spec.own.items; maps = map name_view spec.stores.items }) spec.peer) result.0
+        (connection_at (wire_of S.Source K.Sink wire.old) resources.disks.items resources.desk)
+        (connection_at (wire_of S.Source K.Sink wire.new) result.1.disks.items result.1.desk)) }
+    ensures bound { (number : ℕ) → AtDisk number (disks_of resources.disks.items) (disks_of result.1.disks.items)
         (LeavesOr D.history (λ image. length image ≤ file_max)) }
-    ensures names { names_of disks.new.items ≡ names_of disks.old.items }
-    ensures clock { C.moment result.1.clock ≡ C.moment desk.clock }
-    ensures hosts { result.1.hosts ≡ desk.hosts }
+    ensures names { names_of result.1.disks.items ≡ names_of resources.disks.items }
+    ensures clock { C.moment result.1.desk.clock ≡ C.moment resources.desk.clock }
+    ensures hosts { result.1.desk.hosts ≡ resources.desk.hosts }
     ensures flushed { result.0 ≢ Status.WriteFault
         → IsTrue (K.flushed wire.old.sink) → IsTrue (K.flushed wire.new.sink) }
     ensures read_fault { result.0 ≡ Status.ReadFault → HasRisen (S.faults wire.old.source) (S.faults wire.new.source) }
     ensures write_fault { result.0 ≡ Status.WriteFault → HasRisen (K.faults wire.old.sink) (K.faults wire.new.sink) }
     ensures disk_fault { (map : MapName) → result.0 ≡ Status.DiskFault map
-        → HasRisen (faults_of D.faults disks.old.items) (faults_of D.faults disks.new.items) }
+        → HasRisen (faults_of D.faults resources.disks.items) (faults_of D.faults result.1.disks.items) }
     ensures may_end { IsTrue (session_may_end result.0) }
     ensures tellable { IsTellable result.0 }
 {
-    let catalog = match Catalog::new(alloc, own, stores) {
+    let catalog = match Catalog::new(alloc, spec.own, spec.stores) {
         Ok(catalog) => catalog,
-        Err(CatalogFault::NoMemory) => return (Status::NoMemory, desk),
+        Err(CatalogFault::NoMemory) => return (Status::NoMemory, resources),
         Err(_) => unreachable!(),
     };
-    let Apart {
-        names,
-        disks: apart,
-    } = match take_apart(alloc, disks) {
+    let spec = ConnectionSpec {
+        catalog,
+        peer: spec.peer,
+    };
+    let ConnectionResources {
+        disks: mut named,
+        desk,
+    } = resources;
+    let Apart { names, disks } = match take_apart(alloc, &mut named) {
         Ok(apart) => apart,
-        Err(NoMemory) => return (Status::NoMemory, desk),
+        Err(NoMemory) => {
+            let resources = ConnectionResources { disks: named, desk };
+            return (Status::NoMemory, resources);
+        },
     };
-    let resources = ConnectionResources { disks: apart, desk };
-    let (served, resources) = serve_wire(alloc, rt, catalog, peer, wire, resources, witness);
-    let ConnectionResources { disks: apart, desk } = resources;
+    let resources = ConnectionResources { disks, desk };
+    let (served, resources) = serve_wire(alloc, rt, spec, wire, resources, witness);
+    let ConnectionResources { disks, desk } = resources;
     let status = status_of(alloc, served, &names);
-    let apart = Apart {
-        names,
-        disks: apart,
-    };
-    put_together(disks, apart);
-    (status, desk)
+    put_together(&mut named, Apart { names, disks });
+    (status, ConnectionResources { disks: named, desk })
 }
 
-/// Serves the input as one connection over the stored versions of these maps, by the host `own`, to a caller at `peer`.
-/// The witness sees the wire behind each record that was answered.
+/// Serves the input as one connection over the stored versions of maps. The witness sees the wire behind each record
+/// that was answered.
 fn session_over<
     S: Source,
     K: Sink,
@@ -125,19 +136,17 @@ fn session_over<
 >(
     alloc: Global,
     rt: &impl RandomSource,
-    own: Vec<u8>,
-    peer: Peer,
-    stores: Vec<MapName>,
+    spec: SessionSpec,
     hosts: Hosts,
     office: Office<S, K, D, C, A, I, T>,
     witness: &mut W,
 ) -> (Status, Office<S, K, D, C, A, I, T>)
-    requires catalogue { catalog_fault own.items (map name_view stores.items) ≡ None }
-    requires named { All IsNamed (map name_view stores.items) }
-    requires count { length (map name_view stores.items) ≤ maps_max }
-    requires disks { names_of office.disks.items ≡ map name_view stores.items }
+    requires catalogue { catalog_fault spec.own.items (map name_view spec.stores.items) ≡ None }
+    requires named { All IsNamed (map name_view spec.stores.items) }
+    requires count { length (map name_view spec.stores.items) ≤ maps_max }
+    requires disks { names_of office.disks.items ≡ map name_view spec.stores.items }
     ensures does { SessionDoes (seeing S.Source K.Sink D.Disk C.Clock A.Dial I.Inbox T.Texts)
-        own.items peer (map name_view stores.items) hosts result.0 office result.1
+        spec.own.items spec.peer (map name_view spec.stores.items) hosts result.0 office result.1
         (W.wires witness.old) (W.wires witness.new) }
     ensures may_end { IsTrue (session_may_end result.0) }
     ensures passed_on { IsPassedOn (seeing S.Source K.Sink D.Disk C.Clock A.Dial I.Inbox T.Texts)
@@ -149,7 +158,7 @@ fn session_over<
     laws::rest_is_not_whole();
     let Office {
         mut wire,
-        mut disks,
+        disks,
         clock,
         dial,
         inbox,
@@ -161,9 +170,9 @@ fn session_over<
         clock,
         hosts,
     };
-    let (status, desk) = session_on(
-        alloc, rt, own, peer, stores, &mut wire, &mut disks, desk, witness,
-    );
+    let resources = ConnectionResources { disks, desk };
+    let (status, resources) = session_on(alloc, rt, spec, &mut wire, resources, witness);
+    let ConnectionResources { disks, desk } = resources;
     let Desk {
         dial,
         texts,
@@ -194,19 +203,17 @@ pub fn serve_session<
 >(
     alloc: Global,
     rt: &impl RandomSource,
-    own: Vec<u8>,
-    peer: Peer,
-    stores: Vec<MapName>,
+    spec: SessionSpec,
     hosts: Vec<HostWord>,
     office: Office<S, K, D, C, A, I, T>,
     witness: &mut W,
 ) -> (Status, Office<S, K, D, C, A, I, T>)
-    requires catalogue { catalog_fault own.items (map name_view stores.items) ≡ None }
-    requires named { All IsNamed (map name_view stores.items) }
-    requires count { length (map name_view stores.items) ≤ maps_max }
-    requires disks { names_of office.disks.items ≡ map name_view stores.items }
+    requires catalogue { catalog_fault spec.own.items (map name_view spec.stores.items) ≡ None }
+    requires named { All IsNamed (map name_view spec.stores.items) }
+    requires count { length (map name_view spec.stores.items) ≤ maps_max }
+    requires disks { names_of office.disks.items ≡ map name_view spec.stores.items }
     ensures does { SessionDoes (seeing S.Source K.Sink D.Disk C.Clock A.Dial I.Inbox T.Texts)
-        own.items peer (map name_view stores.items) (map host_view hosts.items) result.0 office result.1
+        spec.own.items spec.peer (map name_view spec.stores.items) (map host_view hosts.items) result.0 office result.1
         (W.wires witness.old) (W.wires witness.new) }
     ensures may_end { IsTrue (session_may_end result.0) }
     ensures passed_on { IsPassedOn (seeing S.Source K.Sink D.Disk C.Clock A.Dial I.Inbox T.Texts)
@@ -214,7 +221,7 @@ pub fn serve_session<
     ensures tellable { IsTellable result.0 }
 {
     match table_of(alloc, hosts) {
-        Ok(hosts) => session_over(alloc, rt, own, peer, stores, hosts, office, witness),
+        Ok(hosts) => session_over(alloc, rt, spec, hosts, office, witness),
         Err(NoMemory) => (Status::NoMemory, office),
     }
 }

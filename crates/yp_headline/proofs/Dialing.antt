@@ -19,7 +19,8 @@ use Rattle.yp_transfer.specs.Fetched.{place_of, Fetched}
 use Rattle.yp_transfer.specs.Dialing.{FetchesOnWire, ByAddress, FetchesFrom, sought}
 use Rattle.yp_transfer.specs.HostTable.{HostList}
 use Rattle.yp_transfer.specs.CallBack.{CallsBack, wants_call}
-use Rattle.yp_transfer.specs.Transfers.{TransferRequest, InstallsOutcome, wanted_at}
+use Rattle.yp_transfer.specs.Requests.{TransferRequest}
+use Rattle.yp_transfer.specs.Transfers.{InstallsOutcome, wanted_at}
 use Rattle.yp_transfer.specs.Installing.{Offers}
 use Rattle.yp_publisher.specs.Installs.{OfferedVersion}
 use Rattle.yp_answer.specs.Answers.{StepsWhere}

@@ -13,14 +13,15 @@ use Rattle.yp_board.specs.Views.{IsFront}
 use Rattle.yp_publisher.specs.Standing.{Published}
 use Rattle.yp_publisher.specs.Keeping.{Keeping}
 use Rattle.yp_publisher.specs.declared.install.Installed.{Installed}
-use Rattle.yp_publisher.specs.inside.Growing.{opened_front}
+use Rattle.yp_publisher.proofs.Growing.{opened_front}
 use Rattle.yp_transfer.specs.declared.fault.XfrFault.{XfrFault}
 use Rattle.yp_transfer.specs.declared.fault.XfrFault.TheVariants as fault
 use Rattle.yp_transfer.specs.declared.calling_back.Asker.{Asker}
 use Rattle.yp_transfer.specs.Fetching.{FetchOutcome}
 use Rattle.yp_transfer.specs.Faults.{stat_of}
 use Rattle.yp_transfer.specs.CallBack.{call_back_bytes, outcome_stat, wants_call, port_told, question, call_to, calls_to, GainsItems, Sends, CallsBack}
-use Rattle.yp_transfer.specs.Transfers.{TransferRequest, InstallsOutcome}
+use Rattle.yp_transfer.specs.Requests.{TransferRequest}
+use Rattle.yp_transfer.specs.Transfers.{InstallsOutcome}
 use Rattle.yp_transfer.specs.Installing.{Offers, fetched_offer}
 use Rattle.yp_answer.specs.Answers.{StepsWhere}
 use Rattle.yp_answer.specs.Maps.{maps_of}
@@ -480,16 +481,16 @@ module _ {D B : Type 0} (keeping : Keeping D B) where
     pub goes_on : IsFront (keeping.log old.board) before
     pub entry : IsFront (before ++ (number, stored) ∷ []) (keeping.log new.board)
 
-  offered_in : (number : ℕ) (version : MapVersion) (force : Bool) (mark : Option Bool) (result : Result Installed XfrFault)
+  offered_in : (request : TransferRequest) (version : MapVersion) (result : Result Installed XfrFault)
       (installed : Installed) (old middle new : Published D B) → result ≡ Ok installed
       → IsFront (keeping.log old.board) (keeping.log middle.board)
-      → Offers keeping number (fetched_offer keeping number version force mark middle) result middle new
-      → IsEntered (Ok version) number old new
-  offered_in number version force mark (Err why) installed old middle new is goes offers = absurd cc
-  offered_in number version force mark (Ok other) installed old middle new is goes offers = record {
+      → Offers keeping request.number (fetched_offer keeping request version middle) result middle new
+      → IsEntered (Ok version) request.number old new
+  offered_in request version (Err why) installed old middle new is goes offers = absurd cc
+  offered_in request version (Ok other) installed old middle new is goes offers = record {
     version = version;
     outcome_is = refl;
-    stored = (fetched_offer keeping number version force mark middle).version;
+    stored = (fetched_offer keeping request version middle).version;
     marked = refl;
     before = keeping.log middle.board;
     goes_on = goes;
@@ -503,6 +504,6 @@ module _ {D B : Type 0} (keeping : Keeping D B) where
       absurd (let e : Ok installed ≡ Err why = sym is ∙ installs.0 in cc)
   installed_in request (Ok version) result installed old new within is installs = ⊎_elim
       (λ shut. absurd (let e : Ok installed ≡ Err _ = sym is ∙ shut.fault_is in cc))
-      (λ opens. offered_in request.number version request.force request.mark result installed old opens.middle new is
+      (λ opens. offered_in request version result installed old opens.middle new is
       (opened_front keeping.log request.number old opens.middle within opens.opens.upheld.elsewhere opens.opens.shown) opens.offers)
       installs

@@ -25,7 +25,7 @@ use Rattle.yp_host.specs.Anew.{IsUnbuilt}
 use Rattle.yp_host.specs.Making.{open_stat, IsInstallStat, built_offer}
 use Rattle.yp_host.specs.Making.{task_on, Makes, OpensAndTries}
 use Rattle.yp_host.specs.Connections.{local_conduct}
-use Rattle.yp_publisher.specs.inside.Growing.{opened_front}
+use Rattle.yp_publisher.proofs.Growing.{opened_front}
 use Rattle.yp_host.proofs.Reversing.{row_is_bad, none_shown}
 
 -- a master is another's

@@ -31,7 +31,7 @@ use Rattle.yp_texts.specs.After.{Material}
 use Rattle.yp_answer.specs.Causes.{Told, Matter, OfText, OfNetgroups, Task, MaterialIsTold, IsMadeOf, IsAnew, TellsSame, task_of, task_at}
 use Rattle.yp_host.specs.Making.{MapIsMade, OpensAndTries}
 use Rattle.yp_host.specs.Connections.{Service, IsCalledFor, Transition, transition_of, transitions_of, GaveVersion, IsGiven, local_conduct}
-use Rattle.yp_publisher.specs.inside.Passing.{front_none, front_then, Respects, Sound, Passes, passes_none, passes_then, stays_on, opens_on}
+use Rattle.yp_publisher.proofs.Passing.{front_none, front_then, Respects, Sound, Passes, passes_none, passes_then, stays_on, opens_on}
 use Rattle.yp_host.proofs.Passing.{offered_on, fetched_on}
 
 -- ---- desks
@@ -189,20 +189,20 @@ module _ {D B E : Type 0} (service : Service D B E) (turns : List Turn) (transit
     gave : GaveVersion service table taken version transition
 
   is_fetched : (taken : Taken) (middle : Published D B) (version : MapVersion) → Fetched taken version
-      → IsGiven service turns transitions first table taken.map (service.keeping.log middle.board) (fetched_offer service.keeping taken.map version false None middle).version
+      → IsGiven service turns transitions first table taken.map (service.keeping.log middle.board) (fetched_offer service.keeping (request_for taken) version middle).version
   is_fetched taken middle version fetched =
       inr (record { taken = taken; of_map = refl; transition = fetched.transition; among = fetched.among; fetched = version; gave = fetched.gave; marked = refl })
 
   offers_fetched : (taken : Taken) (result : Result Installed XfrFault) (old new : Local D B E) (version : MapVersion)
       → Fetched taken version → SoundHost old → taken.map < length old.published.maps
-      → OpensAndOffers service.keeping taken.map version false None result old.published new.published
+      → OpensAndOffers service.keeping (request_for taken) version result old.published new.published
       → Sound service.keeping (IsGiven service turns transitions first table) respects new.published × Passes service.keeping (IsGiven service turns transitions first table) respects old.published new.published
   offers_fetched taken result old new version fetched sound kept step =
       let Is = IsGiven service turns transitions first table in
       let opened = opens_on service.keeping Is respects taken.map old.published step.middle kept sound.maps step.opens in
       let within : taken.map < length step.middle.maps = subst (λ (n : ℕ). taken.map < n) (sym step.opens.upheld.elsewhere.count) kept in
       let given = is_fetched taken step.middle version fetched in
-      let installed = fetched_on service.keeping Is respects taken.map (fetched_offer service.keeping taken.map version false None step.middle) result step.middle new.published
+      let installed = fetched_on service.keeping Is respects taken.map (fetched_offer service.keeping (request_for taken) version step.middle) result step.middle new.published
       within opened.0 step.opens.level refl given step.offers in
       (installed.0, passes_then service.keeping Is respects old.published step.middle new.published opened.1 installed.1)
 

@@ -10,7 +10,7 @@ use Rattle.yp_publisher.specs.Grown.{Making}
 use Rattle.yp_transfer.specs.declared.fault.XfrFault.{XfrFault}
 use Rattle.yp_transfer.specs.Installing as fetching
 use Rattle.yp_host.specs.Making.{OffersBuilt}
-use Rattle.yp_publisher.specs.inside.Passing.{Respects, Sound, Passes, offers_on}
+use Rattle.yp_publisher.proofs.Passing.{Respects, Sound, Passes, offers_on}
 
 module _ {D B : Type 0} (keeping : Keeping D B) (Is : Making) (same : Respects Is) where
   -- a version that was built and is offered

@@ -23,8 +23,8 @@ use Rattle.yp_answer.specs.Causes.{TellsSame}
 use Rattle.yp_host.specs.Locals.{Local, IsUsed}
 use Rattle.yp_publisher.specs.Grown.{IsOfBetween, IsBehindMade, AtDisk, LeavesOr, AreTold}
 use Rattle.yp_host.specs.Connections.{Service, Connection, local_conduct, IsFirstHost, IsLastHost, Transition, transitions_of, IsGiven, log_of, ServesConnection}
-use Rattle.yp_publisher.specs.inside.Leaving.{weaker, left_alone, both_leave_or, told_on, opt_both, opt_then, opt_second, opt_at, opt_put_map, same_places, zip_at, all_at}
-use Rattle.yp_publisher.specs.inside.Leading.{rises_from}
+use Rattle.yp_publisher.proofs.Leaving.{weaker, left_alone, both_leave_or, told_on, opt_both, opt_then, opt_second, opt_at, opt_put_map, same_places, zip_at, all_at}
+use Rattle.yp_publisher.proofs.Leading.{rises_from}
 use Rattle.yp_host.proofs.Hosting.{SoundHost, GoesOnTo, session_on}
 
 -- ---- disks that were only opened

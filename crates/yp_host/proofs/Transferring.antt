@@ -15,7 +15,7 @@ use Rattle.yp_transfer.specs.Fetching.{FetchOutcome}
 use Rattle.yp_transfer.specs.Installing.{Offers, fetched_offer}
 use Rattle.yp_transfer.specs.Transfers.{InstallsOutcome}
 use Rattle.yp_host.specs.Transferring.{request_for}
-use Rattle.yp_publisher.specs.inside.Growing.{front_same, front_more, opened_front}
+use Rattle.yp_publisher.proofs.Growing.{front_same, front_more, opened_front}
 
 -- the catalogue stays, and the log grows
 pub record KeepsAndGrows {D B : Type 0} (keeping : Keeping D B) (old new : Published D B) : Type 0 where
@@ -67,5 +67,5 @@ module _ {D B : Type 0} (keeping : Keeping D B) where
     | inr step ↦
         let opened = opened_front keeping.log taken.map old step.middle within step.opens.upheld.elsewhere step.opens.shown in
         grows_twice old step.middle new (record { catalogue = step.opens.upheld.catalogue; grown = opened })
-        (offers_grow taken.map (fetched_offer keeping taken.map version false None step.middle) result step.middle new refl step.offers)
+        (offers_grow taken.map (fetched_offer keeping (request_for taken) version step.middle) result step.middle new refl step.offers)
   ]

@@ -5,7 +5,8 @@ use Rattle.yp_io.specs.declared.stream.Peer.{Peer}
 use Rattle.yp_answer.specs.Transfer.{Taken}
 use Rattle.yp_publisher.specs.Keeping.{Keeping}
 use Rattle.yp_transfer.specs.declared.calling_back.Asker.{Asker}
-use Rattle.yp_transfer.specs.Transfers.{TransferRequest, request_of, TransfersFor}
+use Rattle.yp_transfer.specs.Requests.{TransferRequest, request_of}
+use Rattle.yp_transfer.specs.Transfers.{TransfersFor}
 use Rattle.yp_host.specs.Locals.{Local, Telling, IsUsed}
 
 -- what a taken transfer asks for: it isn't forced, and has no mark of its own

@@ -4,16 +4,15 @@ ghost use Rattle.std.specs.Prelude.{◌≡◌, ◌⊎◌, ◌<◌, ◌≤◌, �
 ghost use Rattle.std.specs.Prelude.{IfErr};
 ghost use Rattle.yp_io.specs.Counts.{HasRisen};
 ghost use Rattle.yp_io.specs.Texts.{text_max};
-ghost use Rattle.yp_version.specs.Limits.{master_max};
 ghost use Rattle.yp_texts.specs.After.{other_master, was_secure};
 ghost use Rattle.yp_publisher.specs.declared.install.Origin.TheVariants.{Built};
 ghost use Rattle.yp_publisher.specs.Installs.{offer, not_following};
 ghost use Rattle.yp_host.specs.Locals.{told_by, IsUsed, LeavesDial};
 ghost use Rattle.yp_host.specs.inside.Locals.{telling_by};
-ghost use Rattle.yp_answer.specs.Causes.{OfText, OfNetgroups, IsAnew, task_with};
+ghost use Rattle.yp_answer.specs.Causes.{OfText, OfNetgroups, IsAnew};
 ghost use Rattle.yp_answer.specs.inside.Causes.{build_stat};
 ghost use Rattle.yp_host.specs.Anew.{IsUnbuilt};
-ghost use Rattle.yp_host.specs.inside.Anew.{task_from};
+ghost use Rattle.yp_host.specs.inside.Anew.{task_from, task_view, netgroups_in, shown_in};
 
 use crate::desk::Desk;
 use std::alloc::Global;
@@ -26,8 +25,19 @@ use yp_netgroup::reverse::{Field, RevFault, reverse};
 use yp_texts::{AfterFault, BuildFault, Reading, build_after, next_order, other_master};
 use yp_version::Version;
 
-/// Makes a version of a map of the catalogue, where `shown` is the version that is shown of it, and `netgroups` the one
-/// that is shown of the netgroups. It is marked as the one that is shown.
+/// What a version is made of: a map of the catalogue, and what is shown.
+#[derive(Clone, Copy)]
+pub struct BuildTask<'a> {
+    pub catalog: &'a Catalog,
+    /// The map, and how it is made.
+    pub job: MakeJob,
+    /// What is shown of the netgroups in the domain of the map.
+    pub netgroups: Option<&'a Version>,
+    /// What is shown of the map.
+    pub shown: Option<&'a Version>,
+}
+
+/// Makes a version of a map. It is marked as the one that is shown.
 ///
 /// A map with another master is REFUSED, a text that isn't read is FILE, netgroups that aren't shown are NOMAP, an
 /// order that is spent AGE, and a row that passes a limit DBM. Want of memory is RSRC.
@@ -35,35 +45,26 @@ pub fn build_anew<A: Dial, T: Texts, C: Clock>(
     alloc: Global,
     rt: &impl RandomSource,
     desk: &mut Desk<A, T, C>,
-    catalog: &Catalog,
-    job: MakeJob,
-    netgroups: Option<&Version>,
-    shown: Option<&Version>,
+    task: &BuildTask<'_>,
 ) -> Result<Version, XfrStat>
-    requires { job.map < length catalog.now.maps }
-    ensures anew { IfOk result (IsAnew (told_by T.Texts C.Clock desk.old)
-        (task_with catalog.now job (option_map (λ version. version.now) netgroups.entry)
-        (option_map (λ version. version.now) shown.entry))) }
-    ensures follows { IfOk result (λ version. not_following catalog.now.own (offer version Built false)
-        (option_map (λ version. version.now) shown.entry) ≡ None) }
-    ensures unbuilt { IfErr result (λ stat. IsUnbuilt (telling_by T.Texts C.Clock A.Dial)
-        (task_with catalog.now job (option_map (λ version. version.now) netgroups.entry)
-        (option_map (λ version. version.now) shown.entry)) stat desk.old desk.new) }
+    requires { task.now.job.map < length task.now.catalog.now.maps }
+    ensures anew { IfOk result (IsAnew (told_by T.Texts C.Clock desk.old) (task_view task.now)) }
+    ensures follows { IfOk result (λ version. not_following task.now.catalog.now.own (offer version Built false)
+        (shown_in task.now) ≡ None) }
+    ensures unbuilt { IfErr result (λ stat. IsUnbuilt (telling_by T.Texts C.Clock A.Dial) (task_view task.now) stat
+        desk.old desk.new) }
     ensures desk { IsUsed (telling_by T.Texts C.Clock A.Dial) desk.old desk.new }
     ensures dial { LeavesDial (telling_by T.Texts C.Clock A.Dial) desk.old desk.new }
 {
-    let own = catalog.own();
-    if other_master(own, shown).is_some() {
+    if other_master(task.catalog.own(), task.shown).is_some() {
         return Err(XfrStat::Refused);
     }
-    match job.making {
+    match task.job.making {
         Making::Text(reading) => {
-            let name = reading.source(&catalog.name(job.map).map);
-            build_of_text(alloc, rt, desk, own, reading, name, shown)
+            let name = reading.source(&task.catalog.name(task.job.map).map);
+            build_of_text(alloc, rt, desk, task, reading, name)
         }
-        Making::Netgroups(field) => {
-            build_of_netgroups(alloc, rt, desk, own, field, netgroups, shown)
-        }
+        Making::Netgroups(field) => build_of_netgroups(alloc, rt, desk, task, field),
     }
 }
 
@@ -72,26 +73,24 @@ fn build_of_text<A: Dial, T: Texts, C: Clock>(
     alloc: Global,
     rt: &impl RandomSource,
     desk: &mut Desk<A, T, C>,
-    own: &[u8],
+    task: &BuildTask<'_>,
     reading: Reading,
     name: &[u8],
-    shown: Option<&Version>,
 ) -> Result<Version, XfrStat>
-    requires own { length own.now ≤ master_max }
-    requires same { other_master own.now (option_map (λ version. version.now) shown) ≡ None }
+    requires same { other_master task.now.catalog.now.own (shown_in task.now) ≡ None }
     ensures anew { IfOk result (IsAnew (told_by T.Texts C.Clock desk.old)
-        (task_from (OfText reading name.now) own.now (option_map (λ version. version.now) shown.entry))) }
-    ensures follows { IfOk result (λ version. not_following own.now (offer version Built false)
-        (option_map (λ version. version.now) shown.entry) ≡ None) }
+        (task_from (OfText reading name.now) task.now.catalog.now.own (shown_in task.now))) }
+    ensures follows { IfOk result (λ version. not_following task.now.catalog.now.own (offer version Built false)
+        (shown_in task.now) ≡ None) }
     ensures unbuilt { IfErr result (λ stat. IsUnbuilt (telling_by T.Texts C.Clock A.Dial)
-        (task_from (OfText reading name.now) own.now (option_map (λ version. version.now) shown.entry))
-        stat desk.old desk.new) }
+        (task_from (OfText reading name.now) task.now.catalog.now.own (shown_in task.now)) stat desk.old desk.new) }
     ensures desk { IsUsed (telling_by T.Texts C.Clock A.Dial) desk.old desk.new }
     ensures dial { LeavesDial (telling_by T.Texts C.Clock A.Dial) desk.old desk.new }
 {
     let text = read_text(alloc, &mut desk.texts, name)?;
     let now = desk.clock.now();
-    match build_after(alloc, rt, reading, text, shown, None, now, own) {
+    let own = task.catalog.own();
+    match build_after(alloc, rt, reading, text, task.shown, None, now, own) {
         Ok(version) => Ok(version),
         Err(AfterFault::Build(fault)) => Err(build_stat(fault)),
         Err(AfterFault::Foreign { .. }) => unreachable!(),
@@ -103,33 +102,30 @@ fn build_of_netgroups<A: Dial, T: Texts, C: Clock>(
     alloc: Global,
     rt: &impl RandomSource,
     desk: &mut Desk<A, T, C>,
-    own: &[u8],
+    task: &BuildTask<'_>,
     field: Field,
-    netgroups: Option<&Version>,
-    shown: Option<&Version>,
 ) -> Result<Version, XfrStat>
-    requires own { length own.now ≤ master_max }
-    requires same { other_master own.now (option_map (λ version. version.now) shown) ≡ None }
+    requires same { other_master task.now.catalog.now.own (shown_in task.now) ≡ None }
     ensures anew { IfOk result (IsAnew (told_by T.Texts C.Clock desk.old)
-        (task_from (OfNetgroups field (option_map (λ version. version.now) netgroups.entry)) own.now
-        (option_map (λ version. version.now) shown.entry))) }
-    ensures follows { IfOk result (λ version. not_following own.now (offer version Built false)
-        (option_map (λ version. version.now) shown.entry) ≡ None) }
+        (task_from (OfNetgroups field (netgroups_in task.now)) task.now.catalog.now.own (shown_in task.now))) }
+    ensures follows { IfOk result (λ version. not_following task.now.catalog.now.own (offer version Built false)
+        (shown_in task.now) ≡ None) }
     ensures unbuilt { IfErr result (λ stat. IsUnbuilt (telling_by T.Texts C.Clock A.Dial)
-        (task_from (OfNetgroups field (option_map (λ version. version.now) netgroups.entry)) own.now
-        (option_map (λ version. version.now) shown.entry)) stat desk.old desk.new) }
+        (task_from (OfNetgroups field (netgroups_in task.now)) task.now.catalog.now.own (shown_in task.now)) stat
+        desk.old desk.new) }
     ensures desk { IsUsed (telling_by T.Texts C.Clock A.Dial) desk.old desk.new }
     ensures dial { LeavesDial (telling_by T.Texts C.Clock A.Dial) desk.old desk.new }
 {
-    let Some(netgroups) = netgroups else {
+    let Some(netgroups) = task.netgroups else {
         return Err(XfrStat::Nomap);
     };
     let now = desk.clock.now();
-    let Ok(order) = next_order(shown.map(|version: &Version| version.order()), now) else {
+    let last = task.shown.map(|version: &Version| version.order());
+    let Ok(order) = next_order(last, now) else {
         return Err(XfrStat::Age);
     };
-    match reverse(alloc, rt, netgroups, field, order, own) {
-        Ok(version) => Ok(version.marked(is_secure(shown))),
+    match reverse(alloc, rt, netgroups, field, order, task.catalog.own()) {
+        Ok(version) => Ok(version.marked(is_secure(task.shown))),
         Err(RevFault::Row { .. }) => Err(XfrStat::Dbm),
         Err(RevFault::NoMemory) => Err(XfrStat::Rsrc),
     }

@@ -17,7 +17,7 @@ use yp_answer::TransferJob;
 use yp_board::Show;
 use yp_io::{Clock, Dial, Disk, Peer, Texts};
 use yp_publisher::Publisher;
-use yp_transfer::{Asker, transfer_for};
+use yp_transfer::{AskedTransfer, Asker, transfer_for};
 
 /// Transfers the map of a transfer job, and tells the caller at `peer` what came of it, where it wants to be told.
 pub(crate) fn carry_out<D: Disk, B: Show, A: Dial, T: Texts, C: Clock>(
@@ -43,14 +43,10 @@ pub(crate) fn carry_out<D: Disk, B: Show, A: Dial, T: Texts, C: Clock>(
         port: job.port,
         transid: job.transid,
     };
-    transfer_for(
-        alloc,
-        rt,
-        publisher,
-        &mut desk.dial,
-        &desk.hosts,
-        job.map,
-        job.source,
+    let asked = AskedTransfer {
+        map: job.map,
+        source: job.source,
         asker,
-    );
+    };
+    transfer_for(alloc, rt, publisher, &mut desk.dial, &desk.hosts, &asked);
 }

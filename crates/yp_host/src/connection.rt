@@ -25,6 +25,15 @@ use yp_io::{Clock, Dial, Disk, Pair, Peer, Sink, Source, Texts};
 use yp_publisher::laws::{beginning_is_start, log_rises, starts_are_shown};
 use yp_publisher::{OpenFault, OpenRefused, open_publisher};
 
+/// What a connection is served, and to whom.
+#[derive(Drop)]
+pub struct ConnectionSpec {
+    /// The names of the maps.
+    pub catalog: Catalog,
+    /// The address of the caller.
+    pub peer: Peer,
+}
+
 /// What a connection is served from.
 #[derive(Drop)]
 pub struct ConnectionResources<D, A, T, C> {
@@ -33,22 +42,22 @@ pub struct ConnectionResources<D, A, T, C> {
     pub desk: Desk<A, T, C>,
 }
 
-/// Serves one connection from stored maps, to a caller at `peer`: loads the files of all disks, shows what they stand
-/// for, and answers at most [`CALLS_MAX`] records of the wire. The disks, in their order, and the desk come back with
-/// every outcome. Where a file isn't loaded, nothing is read from the wire or written. The witness sees the wire behind
-/// each record that was answered.
+/// Serves one connection from stored maps: loads the files of all disks, shows what they stand for, and answers at most
+/// [`CALLS_MAX`] records of the wire. The disks, in their order, and the desk come back with every outcome. Where a
+/// file isn't loaded, nothing is read from the wire or written. The witness sees the wire behind each record that was
+/// answered.
 pub fn serve_wire<S: Source, K: Sink, D: Disk, A: Dial, T: Texts, C: Clock, W: Witness<S, K>>(
     alloc: Global,
     rt: &impl RandomSource,
-    catalog: Catalog,
-    peer: Peer,
+    spec: ConnectionSpec,
     wire: &mut Pair<S, K>,
     resources: ConnectionResources<D, A, T, C>,
     witness: &mut W,
 ) -> (Result<End, OpenFault>, ConnectionResources<D, A, T, C>)
-    requires { length resources.disks.items ≡ length catalog.maps }
+    requires { length resources.disks.items ≡ length spec.catalog.maps }
     ensures served { IfOk result.0 (λ end. SeesMore (W.wires witness.old) (W.wires witness.new) (ServesConnection
-        (service_of (keeping_of D.history D.faults plain_log) (telling_by T.Texts C.Clock A.Dial) catalog peer) end
+        (service_of (keeping_of D.history D.faults plain_log) (telling_by T.Texts C.Clock A.Dial)
+        spec.catalog spec.peer) end
         (connection_of (wire_of S.Source K.Sink wire.old) resources)
         (connection_of (wire_of S.Source K.Sink wire.new) result.1))) }
 
@@ -80,20 +89,20 @@ pub fn serve_wire<S: Source, K: Sink, D: Disk, A: Dial, T: Texts, C: Clock, W: W
 {
     let ConnectionResources { disks, desk } = resources;
     // The names of a catalogue are within their limits.
-    let _count = catalog.len();
+    let _count = spec.catalog.len();
     let Ok(mut session) = Session::new(alloc) else {
         return (
             Err(OpenFault::NoMemory),
             ConnectionResources { disks, desk },
         );
     };
-    match open_publisher(alloc, rt, catalog, disks) {
+    match open_publisher(alloc, rt, spec.catalog, disks) {
         Ok(publisher) => {
             starts_are_shown();
             beginning_is_start();
             log_rises();
             let mut host = LocalHost::new(alloc, rt, publisher, desk);
-            let end = session.run(wire, &mut host, peer, CALLS_MAX, witness);
+            let end = session.run(wire, &mut host, spec.peer, CALLS_MAX, witness);
             (Ok(end), stock_of(host))
         }
         Err(OpenRefused { disks, fault }) => (Err(fault), ConnectionResources { disks, desk }),

@@ -18,7 +18,7 @@ mod local;
 mod steps;
 pub mod workers;
 
-pub use anew::build_anew;
-pub use connection::{ConnectionResources, serve_wire};
+pub use anew::{BuildTask, build_anew};
+pub use connection::{ConnectionResources, ConnectionSpec, serve_wire};
 pub use desk::Desk;
 pub use local::LocalHost;

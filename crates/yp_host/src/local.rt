@@ -18,7 +18,7 @@ ghost use Rattle.yp_host.specs.Anew.{IsUnbuilt};
 ghost use Rattle.yp_host.specs.Making.{task_on, Tries, Makes, MapIsMade};
 ghost use Rattle.yp_host.specs.Transferring.{MapIsTransferred};
 
-use crate::anew::build_anew;
+use crate::anew::{BuildTask, build_anew};
 use crate::carrying::carry_out;
 use crate::desk::Desk;
 use crate::steps::{install, reopen};
@@ -175,7 +175,13 @@ fn build_for<D: Disk, B: Show, A: Dial, T: Texts, C: Clock>(
 {
     let shown = held(publisher, job.map);
     let netgroups = netgroups(publisher, job);
-    build_anew(alloc, rt, desk, publisher.catalog(), job, netgroups, shown)
+    let task = BuildTask {
+        catalog: publisher.catalog(),
+        job,
+        netgroups,
+        shown,
+    };
+    build_anew(alloc, rt, desk, &task)
 }
 
 /// The version that is shown of the netgroups in the domain of a map.

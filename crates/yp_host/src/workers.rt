@@ -21,9 +21,11 @@ mod host;
 mod journal;
 mod making;
 mod outcome;
+mod setting;
 
 pub use charges::{Account, Charges};
 pub use desk::{FailedSources, ReachedOrders, SharedDesk, Supplies, UnreadTexts};
 pub use host::WorkerHost;
 pub use journal::{Event, Events, Journal};
 pub use outcome::{Group, Outcomes, Totals};
+pub use setting::WorkerSetting;

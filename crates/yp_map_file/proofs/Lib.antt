@@ -10,6 +10,9 @@ pub mod Past
 pub mod Filling
 pub mod Committing
 pub mod Rows
+pub mod Local
+pub mod Windows
+pub mod Surveying
 pub mod Places
 pub mod Judging
 pub mod Loading

@@ -109,7 +109,7 @@ secure_within end at true two next le h = h false
 secure_within end at false true next le h = h true
 secure_within end at false false next le h = le
 
-head_within : (end : ℕ) (left : Remaining) → end_of left ≡ end → Within end (head_at left)
+pub head_within : (end : ℕ) (left : Remaining) → end_of left ≡ end → Within end (head_at left)
 unfolding head_at
 head_within end left is =
     then_within end (item U32 left) _ (u32_within end left is) (λ number n.
@@ -119,7 +119,7 @@ head_within end left is =
     then_within end (item U32 master.1) _ (u32_within end master.1 m) (λ count c.
     guard_within end (ltb count.0 (suc rows_max)) master.1.at 7 _ (omega arith) c)))))
 
-row_within : (end : ℕ) (last : Option (List ℕ)) (left : Remaining) → end_of left ≡ end → Within end (row_at last left)
+pub row_within : (end : ℕ) (last : Option (List ℕ)) (left : Remaining) → end_of left ≡ end → Within end (row_at last left)
 unfolding row_at
 row_within end last left is =
     then_within end (item (Opaque key_max) left) _ (bytes_within end key_max left is) (λ key k.

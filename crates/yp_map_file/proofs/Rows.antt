@@ -8,13 +8,9 @@ use Rattle.yp_version.specs.Rows.{Row, row_len, rows_len}
 use Rattle.yp_version.specs.inside.Slabs.{places_from}
 use Rattle.yp_map_file.specs.declared.wrong.Wrong.{Wrong}
 use Rattle.yp_map_file.specs.Bodies.{row_at, rows_at, ◌>>=◌}
+use Rattle.yp_map_file.specs.inside.Surveys.{before}
 
--- what was read before some rows, and they
-abbrev pub before : List Row → Result (List Row × Remaining) Wrong → Result (List Row × Remaining) Wrong
-before done (Ok rows) = Ok (done ++ rows.0, rows.1)
-before done (Err wrong) = Err wrong
-
-before_before : (one other : List Row) (r : Result (List Row × Remaining) Wrong)
+pub before_before : (one other : List Row) (r : Result (List Row × Remaining) Wrong)
     → before one (before other r) ≡ before (one ++ other) r
 before_before one other (Ok rows) = ap (λ (l : List Row). Ok (l, rows.1)) (sym (append_assoc one other rows.0))
 before_before one other (Err wrong) = refl
@@ -29,11 +25,11 @@ rows_joined : (row : Row) (r : Result (List Row × Remaining) Wrong)
 rows_joined row (Ok rows) = refl
 rows_joined row (Err wrong) = refl
 
-rows_step : (n : ℕ) (last : Option (List ℕ)) (left new : Remaining) (row : Row) → row_at last left ≡ Ok (row, new)
+pub rows_step : (n : ℕ) (last : Option (List ℕ)) (left new : Remaining) (row : Row) → row_at last left ≡ Ok (row, new)
     → rows_at (suc n) last left ≡ before (row ∷ []) (rows_at n (Some row.0) new)
 rows_step n last left new row is = rw is (rows_joined row (rows_at n (Some row.0) new))
 
-rows_stop : (n : ℕ) (last : Option (List ℕ)) (left : Remaining) (wrong : Wrong) → row_at last left ≡ Err wrong
+pub rows_stop : (n : ℕ) (last : Option (List ℕ)) (left : Remaining) (wrong : Wrong) → row_at last left ≡ Err wrong
     → rows_at (suc n) last left ≡ Err wrong
 rows_stop n last left wrong is = rw is refl
 

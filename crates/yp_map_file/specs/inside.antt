@@ -6,3 +6,5 @@ pub mod Slots
 pub mod Laws
 pub mod Heads
 pub mod Loads
+pub mod Surveys
+pub mod Summaries

@@ -5,18 +5,20 @@ ghost use Rattle.std.specs.Prelude.{IsTrue};
 ghost use Rattle.std.specs.Option.{option_map};
 ghost use Rattle.yp_io.specs.Counts.{CountsFaults, HasRisen};
 ghost use Rattle.yp_io.specs.Disk.{LeavesOnly, MayLeave, IsWithin, after_sync};
-ghost use Rattle.yp_version.specs.Limits.{body_max};
+ghost use Rattle.yp_version.specs.Limits.{body_max, master_max};
 ghost use Rattle.yp_map_file.specs.Cells.{bytes_at, entry};
 ghost use Rattle.yp_map_file.specs.Bodies.{body_at};
 ghost use Rattle.yp_map_file.specs.Stands.{file_max, has_room};
 ghost use Rattle.yp_map_file.specs.inside.Stands.{standing};
 ghost use Rattle.yp_map_file.specs.inside.Slots.{Settles, LiesWithin};
+ghost use Rattle.yp_map_file.specs.inside.Surveys.{SurveysFile};
 ghost use Rattle.yp_map_file.specs.inside.Loads.{LoadsBody, LoadsFile, Judges, JudgesFile, JudgesWinner, HasBody};
 
 use crate::cells::{CELLS_LEN, Cell, Entry, Winner};
 use crate::fault::SlotFault;
 use crate::known::Known;
 use crate::read::read_version;
+use crate::survey::{Summary, survey_body};
 use std::alloc::Global;
 use std::random::RandomSource;
 use yp_io::{Disk, Failed};
@@ -141,6 +143,45 @@ fn read_file<D: Disk>(
             Ok((known, Some(version)))
         }
     }
+}
+
+/// What a file stands for but for its rows, and what is known of it then.
+fn survey_file<D: Disk>(alloc: Global, disk: &mut D) -> Result<(Known, Option<Summary>), SlotFault>
+    ensures surveys { IfSome (D.history disk.old) (λ h. SurveysFile h.state.reads result) }
+    ensures master { IfOk result (λ found. IfSome found.1 (λ summary. length summary.master.items ≤ master_max)) }
+    ensures winner { IfOk result (λ found. IfSome found.0.winner LiesWithin) }
+    ensures same { D.history disk.new ≡ D.history disk.old }
+    ensures never_falls { D.faults disk.old ≤ D.faults disk.new }
+    ensures cause { IsErrOf result SlotFault.DiskFault → HasRisen (D.faults disk.old) (D.faults disk.new) }
+{
+    let known = judge_file(disk)?;
+    match &known.winner {
+        None => Ok((known, None)),
+        Some(entry) => {
+            let summary = survey_body(alloc, disk, entry)?;
+            Ok((known, Some(summary)))
+        }
+    }
+}
+
+/// Syncs the disk and surveys its file.
+pub(crate) fn survey<D: Disk>(
+    alloc: Global,
+    disk: &mut D,
+) -> Result<(Known, Option<Summary>), SlotFault>
+    ensures surveys { IfSome (D.history disk.old) (λ h. SurveysFile h.state.reads result) }
+    ensures settled { IfOk result (λ found. Settles found.0 (D.history disk.new)) }
+    ensures master { IfOk result (λ found. IfSome found.1 (λ summary. length summary.master.items ≤ master_max)) }
+    ensures winner { IfOk result (λ found. IfSome found.0.winner LiesWithin) }
+    ensures synced { OnOk result (D.history disk.new ≡ option_map after_sync (D.history disk.old)) }
+    ensures nothing_written { (D.history disk.new ≡ D.history disk.old)
+        ⊎ (D.history disk.new ≡ option_map after_sync (D.history disk.old)) }
+    ensures crash { LeavesOnly (D.history disk.old) (D.history disk.new) (MayLeave (D.history disk.old)) }
+    ensures never_falls { D.faults disk.old ≤ D.faults disk.new }
+    ensures cause { IsErrOf result SlotFault.DiskFault → HasRisen (D.faults disk.old) (D.faults disk.new) }
+{
+    disk.sync()?;
+    survey_file(alloc, disk)
 }
 
 /// Syncs the disk and loads its file, in at most four calls of the disk.

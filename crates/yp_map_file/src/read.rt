@@ -33,7 +33,7 @@ pub(crate) struct FileFront<'a> {
 
 /// Reads what stands before the rows.
 #[tactic(auto, using(crate::proofs::Past::word, crate::proofs::Past::opaque), unfolding(crate::specs::Bodies::head_at))]
-fn read_front<'a>(cursor: &mut Cursor<'a>) -> Result<FileFront<'a>, Wrong>
+pub(crate) fn read_front<'a>(cursor: &mut Cursor<'a>) -> Result<FileFront<'a>, Wrong>
     ensures read { Finds (head_at (unread cursor.old)) head_view result (unread cursor.new) }
     ensures passed { OnOk result (Passes (unread cursor.old) (unread cursor.new)) }
     ensures place { IfOk result (λ front. (unread cursor.new).at
@@ -74,7 +74,10 @@ fn is_over(last: Option<&[u8]>, key: &[u8]) -> bool
 
 /// Reads a row, whose key has to be over the one before it.
 #[tactic(auto, using(crate::proofs::Past::opaque), unfolding(crate::specs::Bodies::row_at))]
-fn read_row<'a>(cursor: &mut Cursor<'a>, last: Option<&[u8]>) -> Result<(&'a [u8], &'a [u8]), Wrong>
+pub(crate) fn read_row<'a>(
+    cursor: &mut Cursor<'a>,
+    last: Option<&[u8]>,
+) -> Result<(&'a [u8], &'a [u8]), Wrong>
     ensures read { Finds (row_at (option_map (λ last. last.now) last.entry) (unread cursor.old))
         (λ row. (row.0.now, row.1.now)) result (unread cursor.new) }
     ensures passed { OnOk result (Passes (unread cursor.old) (unread cursor.new)) }

@@ -10,6 +10,7 @@ ghost use Rattle.yp_version.specs.Versions.{MapVersion};
 use crate::cells::{Cell, Entry};
 use crate::fault::SlotFault;
 use crate::known::{Known, Stage};
+use crate::survey::Summary;
 use crate::{load, parts};
 use std::alloc::Global;
 use std::marker::Model;
@@ -48,6 +49,8 @@ impl<D: Disk> Slot<D> {
     ghost use Rattle.yp_map_file.specs.Commits.{generation_max};
     ghost use Rattle.yp_map_file.specs.inside.Commits.{target, laid, closed, filled, opened, committed};
     ghost use Rattle.yp_map_file.specs.Loads.{Loads};
+    ghost use Rattle.yp_map_file.specs.inside.Summaries.{Surveys};
+    ghost use Rattle.yp_version.specs.Limits.{master_max};
     ghost use Rattle.yp_map_file.specs.Slots.{HasGeneration, IsSound, IsAsBefore};
     ghost use Rattle.yp_map_file.specs.inside.Slots.{is_ready, ReadIsTold, IsAsBeforeOr};
     ghost use Rattle.yp_map_file.specs.inside.Slots.{IsAsBeforeOrOpened, WouldStand, ReadsChanged};
@@ -134,6 +137,36 @@ impl<D: Disk> Slot<D> {
         self.known = known;
         self.stage = Stage::Loaded;
         Ok(version)
+    }
+
+    /// Syncs the disk, answers what its file stands for but for the rows, and releases it. It reads all that a load
+    /// does, takes at most 1.2 MB of memory for it, and writes nothing.
+    pub fn survey(&mut self, alloc: Global) -> Result<Option<Summary>, SlotFault>
+        ensures stage { self.new.stage ≡ (if is_ok result then Loaded else Unready) }
+
+        // It answers what the bytes stand for that a read gives.
+        ensures stands { IfSome (D.history self.old.disk) (λ h. Surveys (stands h.state.reads) result) }
+        ensures master { IfOk result (λ found. IfSome found (λ summary. length summary.master.items ≤ master_max)) }
+        ensures generation { OnOk result (HasGeneration (D.history self.old.disk) self.new.generation) }
+        ensures generation_kept { OnErr result (self.new.generation ≡ self.old.generation) }
+        ensures synced { OnOk result (D.history self.new.disk ≡ option_map after_sync (D.history self.old.disk)) }
+        ensures nothing_written { (D.history self.new.disk ≡ D.history self.old.disk)
+            ⊎ (D.history self.new.disk ≡ option_map after_sync (D.history self.old.disk)) }
+        ensures any_moment { LeavesOnly (D.history self.old.disk) (D.history self.new.disk)
+            (MayLeave (D.history self.old.disk)) }
+        ensures durable { OnOk result (IsDurable (D.history self.new.disk)) }
+        ensures numbered { OnOk result (HasGeneration (D.history self.new.disk) self.new.generation) }
+        ensures never_falls { D.faults self.old.disk ≤ D.faults self.new.disk }
+        ensures cause { IsErrOf result SlotFault.DiskFault
+            → HasRisen (D.faults self.old.disk) (D.faults self.new.disk) }
+    {
+        self.stage = Stage::Unready;
+        let surveyed = load::survey(alloc, &mut self.disk);
+        self.disk.release();
+        let (known, summary) = surveyed?;
+        self.known = known;
+        self.stage = Stage::Loaded;
+        Ok(summary)
     }
 
     /// Makes both cells, where the file is shorter than they are; else makes no call of the disk.

@@ -47,6 +47,21 @@ fn load<R: RandomSource>(rt: &R, alloc: Global, slot: &mut Slot<MemDisk>) -> Fou
     }
 }
 
+// What a survey finds, which is what a load finds.
+fn survey(alloc: Global, slot: &mut Slot<MemDisk>) -> Found {
+    match slot.survey(alloc) {
+        Ok(None) => Ok(None),
+        Ok(Some(summary)) => Ok(Some((summary.order.number(), summary.secure, slot.generation()))),
+        Err(fault) => Err(fault),
+    }
+}
+
+// What is surveyed of a disk with this file.
+fn surveyed_in(alloc: Global, file: Vec<u8>) -> Found {
+    let mut slot = Slot::new(MemDisk::new(alloc, file, None, Vec::new(alloc)));
+    survey(alloc, &mut slot)
+}
+
 // What is loaded of a disk with this file, some of whose calls fail.
 fn found_in<R: RandomSource>(rt: &R, alloc: Global, file: Vec<u8>, failing: Vec<u64>) -> Found {
     let mut slot = Slot::new(MemDisk::new(alloc, file, None, failing));
@@ -67,8 +82,15 @@ fn check_file<R: RandomSource + Abort>(
             *old = *byte;
         }
     }
+    let surveyed = surveyed_in(alloc, file.to_vec(alloc).expect(rt, "memory for a file"));
     let came = found_in(rt, alloc, file, Vec::new(alloc));
     assert_same(rt, &(changes, came), &(changes, found), "other bytes");
+    assert_same(
+        rt,
+        &(changes, surveyed),
+        &(changes, found),
+        "bytes that are surveyed",
+    );
 }
 
 // Looks at what is loaded of the first bytes of the hosts file, where the call with this number fails.

@@ -32,8 +32,8 @@ use yp_command::office::{NamedDisk, Office, Status};
 use yp_command::{Command, ParseFault, ServeJob, parse};
 use yp_command_mail::{ask_mapper, bind_domain, push_map, serve_ports};
 use yp_command_maps::{build_map, check_map, dump_map, load_map, reverse_map};
-use yp_command_serve::serve::{Doors, serve_maps};
-use yp_command_serve::{serve_once, serve_session, tell_sample};
+use yp_command_serve::serve::{Doors, ServeOutside, serve_maps};
+use yp_command_serve::{SessionSpec, serve_once, serve_session, tell_sample};
 use yp_io::{Clock, Dial, Disk, Hall, Inbox, Pair, Sink, Source, Texts, Trail, write_all};
 
 /// What the program reaches outside itself.
@@ -140,7 +140,7 @@ fn obey<S: Source, K: Sink, D: Disk, C: Clock, A: Dial, I: Inbox, T: Texts, W: W
     let status = match command {
         Command::Once { store, rows } => serve_once(alloc, rt, store, &rows, &mut office, witness),
         Command::Sample { start, count } => tell_sample(alloc, rt, start, count, &mut office),
-        Command::Check { store } => check_map(alloc, rt, store, &mut office),
+        Command::Check { store } => check_map(alloc, store, &mut office),
         Command::Dump { store } => dump_map(alloc, rt, store, &mut office),
         Command::Build { name, store, flag } => build_map(
             alloc,
@@ -179,7 +179,14 @@ fn obey<S: Source, K: Sink, D: Disk, C: Clock, A: Dial, I: Inbox, T: Texts, W: W
             addr,
             stores,
             hosts,
-        } => return serve_session(alloc, rt, name, addr, stores, hosts, office, witness),
+        } => {
+            let spec = SessionSpec {
+                own: name,
+                peer: addr,
+                stores,
+            };
+            return serve_session(alloc, rt, spec, hosts, office, witness);
+        },
         Command::Push(job) => return push_map(alloc, rt, job, office),
         Command::Serve(_) => unreachable!(),
     };
@@ -271,8 +278,13 @@ where
         (office_of outside) (office_of result.1) }
 {
     let (office, notes, doors) = unpack(outside);
-    let (status, office, doors, notes) = serve_maps(alloc, rt, job, office, doors, notes);
-    let outside = finish(&status, office, notes, doors);
+    let reached = ServeOutside {
+        office,
+        doors,
+        notes,
+    };
+    let (status, reached) = serve_maps(alloc, rt, job, reached);
+    let outside = finish(&status, reached.office, reached.notes, reached.doors);
     (status, outside)
 }
 

@@ -8,3 +8,7 @@ pub mod Loading
 pub mod Refusals
 pub mod Changing
 pub mod Opening
+pub mod Leaving
+pub mod Growing
+pub mod Leading
+pub mod Passing

@@ -5,7 +5,3 @@ pub mod Rising
 pub mod Begins
 pub mod Laws
 pub mod sharing
-pub mod Leaving
-pub mod Growing
-pub mod Leading
-pub mod Passing

@@ -1,5 +1,5 @@
 -- What workers of datagrams knew, in the log of the writer.
-use Rattle.std.proofs.Common.{◌≡◌, ◌⊎◌, inl, inr, Bool, true, false, ℕ, ◌<◌, List, [], ◌∷◌, ◌++◌, ◌||◌, length, map, get_or, refl, sym, ap, ◌∙◌, subst, append_assoc, arith}
+use Rattle.std.proofs.Common.{◌≡◌, inl, inr, Bool, true, false, ℕ, ◌<◌, List, [], ◌∷◌, ◌++◌, ◌||◌, length, map, get_or, refl, sym, ap, ◌∙◌, subst, append_assoc, arith}
 use Rattle.std.specs.List.{AllZip, AllByRecursion, list_any}
 use Rattle.std.proofs.lemmas.List.{append-nil}
 use Rattle.yp_io.specs.Counts.{HasRisen}

@@ -1,7 +1,7 @@
 -- Workers at their places, and what work leaves of them.
 use Rattle.std.proofs.Common.{◌≡◌, ℕ, zero, suc, ◌+◌, ◌<◌, get_or, List, [], ◌∷◌, ◌++◌, length, map, reverse, refl, sym, ap, ◌∙◌, subst, append_assoc, arith}
 use Rattle.std.specs.List.{AllZip}
-use Rattle.std.proofs.lemmas.List.{append-nil, map-append, length_push, replicate_more, reverse-append, same_from_push}
+use Rattle.std.proofs.lemmas.List.{append-nil, map-append, replicate_more, reverse-append, same_from_push}
 use Rattle.yp_worker.specs.inside.Receptions.{Passed}
 use Rattle.yp_server.specs.declared.datagrams.DatagramWorker.{DatagramWorker}
 use Rattle.yp_server.specs.declared.workers.ServerWorker.{ServerWorker}

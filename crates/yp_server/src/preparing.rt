@@ -33,7 +33,9 @@ use std::sync::{Mutex, Wait};
 use std::thread::Threads;
 use yp_answer::session::{Buffers, CALLS_MAX};
 use yp_board::Tell;
-use yp_host::workers::{Account, Charges, Journal, SharedDesk, Supplies, WorkerHost};
+use yp_host::workers::{
+    Account, Charges, Journal, SharedDesk, Supplies, WorkerHost, WorkerSetting,
+};
 use yp_io::{Clock, Dial, Disk, Hall, Inbox, Texts};
 use yp_publisher::sharing::{Accounts, Locked};
 use yp_rpc::Room;
@@ -95,6 +97,17 @@ impl<
     G: Gate,
     R: RandomSource + Wait,
 > WorkerMaker<'a, J, D, B, A, T, C, G, R> {
+    /// What each worker has.
+    fn setting(&self) -> WorkerSetting<'a, J, D, B, A, T, C, &'a R> {
+        WorkerSetting {
+            alloc: self.alloc,
+            rt: self.rt,
+            publisher: self.publisher,
+            desk: self.desk,
+            journal: self.journal,
+        }
+    }
+
     /// A worker with this reader and this memory, which is charged by these, and does what takes long where that is
     /// said.
     fn worker(
@@ -111,15 +124,7 @@ impl<
             (terms_by J.Reception) result }
         ensures none { totals_of result.host ≡ no_totals }
     {
-        let host = WorkerHost::new(
-            self.alloc,
-            self.rt,
-            reader,
-            self.publisher,
-            self.desk,
-            charges,
-            self.journal,
-        );
+        let host = WorkerHost::new(self.setting(), reader, charges);
         Worker::new(host, buffers, self.gate, self.most, carries)
     }
 
@@ -168,15 +173,7 @@ impl<
             room,
             transfers,
         } = datagram_resources;
-        let host = WorkerHost::new(
-            self.alloc,
-            self.rt,
-            reader,
-            self.publisher,
-            self.desk,
-            charges,
-            self.journal,
-        );
+        let host = WorkerHost::new(self.setting(), reader, charges);
         let server = MailServer::new(host, self.pending, transfers, self.rt);
         DatagramWorker::new(inbox, server, room, turns)
     }

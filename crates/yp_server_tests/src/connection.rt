@@ -60,8 +60,12 @@ fn serve_all<R: RandomSource + Abort>(
 ) -> (Result<End, OpenFault>, Resources) {
     assert_fits(rt, disks.len(), &catalog);
     let resources = ConnectionResources { disks, desk };
+    let spec = ConnectionSpec {
+        catalog,
+        peer: OWN_HOST,
+    };
     let mut trail = Trail::new();
-    serve_wire(alloc, rt, catalog, OWN_HOST, wire, resources, &mut trail)
+    serve_wire(alloc, rt, spec, wire, resources, &mut trail)
 }
 
 // Serves calls with this input, and hands back what they are served from.

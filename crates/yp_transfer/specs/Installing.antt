@@ -14,6 +14,7 @@ use Rattle.yp_publisher.specs.Installs.{OfferedVersion, offer, Installs, Refuses
 use Rattle.yp_publisher.specs.Opens.{Opens, StaysBehind}
 use Rattle.yp_transfer.specs.declared.fault.XfrFault.{XfrFault}
 use Rattle.yp_transfer.specs.declared.fault.XfrFault.TheVariants.{Age, File, Refused, NoMemory}
+use Rattle.yp_transfer.specs.Requests.{TransferRequest}
 
 -- a file that isn't opened again
 abbrev pub of_slot : SlotFault → XfrFault
@@ -36,11 +37,12 @@ marking (Some secure) shown = secure
 marking None (Some shown) = shown.secure
 marking None None = false
 
--- a fetched version, as it is offered of a map
-abbrev pub fetched_offer : {D B : Type 0} → Keeping D B → ℕ → MapVersion → Bool → Option Bool → Published D B
+-- a fetched version, as it is offered for a transfer
+abbrev pub fetched_offer : {D B : Type 0} → Keeping D B → TransferRequest → MapVersion → Published D B
     → OfferedVersion
-fetched_offer keeping number version force mark published =
-    offer (record version { secure = marking mark (shown number (keeping.log published.board)) }) Fetched force
+fetched_offer keeping request version published =
+    offer (record version { secure = marking request.mark (shown request.number (keeping.log published.board)) })
+    Fetched request.force
 
 -- A fetched version was installed: nothing stood against it, and it is stored and shown.
 pub record IsTaken {D B : Type 0} (keeping : Keeping D B) (number : ℕ) (offered : OfferedVersion)
@@ -71,15 +73,15 @@ pub record IsNotReopened {D B : Type 0} (keeping : Keeping D B) (number : ℕ) (
 
 -- The map is level, where it was behind by opening its file again, and then the version is offered. What its file stood
 -- for fixes what is shown between.
-pub record OpensAndOffers {D B : Type 0} (keeping : Keeping D B) (number : ℕ) (version : MapVersion) (force : Bool)
-    (mark : Option Bool) (result : Result Installed XfrFault) (old new : Published D B) : Type 0 where
+pub record OpensAndOffers {D B : Type 0} (keeping : Keeping D B) (request : TransferRequest) (version : MapVersion)
+    (result : Result Installed XfrFault) (old new : Published D B) : Type 0 where
   pub middle : Published D B
-  pub opens : Opens keeping number old middle
-  pub offers : Offers keeping number (fetched_offer keeping number version force mark middle) result middle new
+  pub opens : Opens keeping request.number old middle
+  pub offers : Offers keeping request.number (fetched_offer keeping request version middle) result middle new
 
 -- A fetched version was installed, or wasn't.
-abbrev pub InstallsFetched : {D B : Type 0} → Keeping D B → ℕ → MapVersion → Bool → Option Bool
-    → Result Installed XfrFault → Published D B → Published D B → Type 0
-InstallsFetched keeping number version force mark result old new =
-    IsNotReopened keeping number result old new
-    ⊎ OpensAndOffers keeping number version force mark result old new
+abbrev pub InstallsFetched : {D B : Type 0} → Keeping D B → TransferRequest → MapVersion → Result Installed XfrFault
+    → Published D B → Published D B → Type 0
+InstallsFetched keeping request version result old new =
+    IsNotReopened keeping request.number result old new
+    ⊎ OpensAndOffers keeping request version result old new

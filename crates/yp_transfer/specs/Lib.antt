@@ -1,4 +1,5 @@
 pub mod Faults
+pub mod Requests
 pub mod Fetching
 pub mod Fetched
 pub mod Called

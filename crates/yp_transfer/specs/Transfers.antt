@@ -1,5 +1,5 @@
 -- A transfer: what is fetched of a map is installed.
-use Rattle.std.specs.Prelude.{◌≡◌, ℕ, ◌≤◌, min, Bool, List, Option, option_map, IfSome, slice_get, Result, Ok, Err}
+use Rattle.std.specs.Prelude.{◌≡◌, ◌≤◌, min, option_map, IfSome, slice_get, Result, Ok, Err}
 use Rattle.yp_io.specs.Counts.{last_count}
 use Rattle.yp_io.specs.Dials.{Dialing, DialTells, wires_told}
 use Rattle.yp_board.specs.Catalogues.{Name}
@@ -8,22 +8,13 @@ use Rattle.yp_publisher.specs.declared.install.Installed.{Installed}
 use Rattle.yp_publisher.specs.Standing.{Published}
 use Rattle.yp_publisher.specs.Keeping.{Keeping}
 use Rattle.yp_transfer.specs.declared.fault.XfrFault.{XfrFault}
+use Rattle.yp_transfer.specs.Requests.{TransferRequest}
 use Rattle.yp_transfer.specs.Fetching.{Wanted, wanted_of, FetchOutcome}
 use Rattle.yp_transfer.specs.HostTable.{HostList}
 use Rattle.yp_transfer.specs.Dialing.{FetchesFrom}
 use Rattle.yp_transfer.specs.Installing.{InstallsFetched}
 use Rattle.yp_transfer.specs.declared.calling_back.Asker.{Asker}
 use Rattle.yp_transfer.specs.CallBack.{outcome_stat, wants_call, CallsBack}
-
--- what is asked for: a map by its number, from a source by its name, whether it is forced, and its mark, if it has one
-pub record TransferRequest : Type 0 where
-  pub number : ℕ
-  pub source : List ℕ
-  pub force : Bool
-  pub mark : Option Bool
-
-abbrev pub request_of : ℕ → List ℕ → Bool → Option Bool → TransferRequest
-request_of number source force mark = record { number = number; source = source; force = force; mark = mark }
 
 -- the map by its name in the catalogue, and the order of the version that is shown of it
 abbrev pub wanted_at : {D B : Type 0} → Keeping D B → TransferRequest → Name → Published D B → Wanted
@@ -35,7 +26,7 @@ wanted_at keeping request name published =
 abbrev pub InstallsOutcome : {D B : Type 0} → Keeping D B → TransferRequest → FetchOutcome → Result Installed XfrFault
     → Published D B → Published D B → Type 0
 InstallsOutcome keeping request (Ok version) result old new =
-    InstallsFetched keeping request.number version request.force request.mark result old new
+    InstallsFetched keeping request version result old new
 InstallsOutcome keeping request (Err fault) result old new = (result ≡ Err fault) × (new ≡ old)
 
 -- The map was fetched from the source, the wire was given back, and then what came of it was installed.

@@ -8,8 +8,10 @@ ghost use Rattle.yp_transfer.specs.Fetching.{InMemory, Unless, Gives};
 ghost use Rattle.yp_transfer.specs.Fetched.{IsFetched};
 ghost use Rattle.yp_transfer.specs.Called.{by_calls, FetchesByCalls};
 ghost use Rattle.yp_transfer.specs.inside.Begun.{BeginsDraft};
+ghost use Rattle.yp_transfer.specs.inside.Requests.{wanted_by};
 
 use crate::fault::XfrFault;
+use crate::requests::FetchRequest;
 use std::alloc::Global;
 use std::random::RandomSource;
 use yp_client::Client;
@@ -20,30 +22,26 @@ use yp_version::{Order, Version, VersionBuilder};
 /// Fetches a map of a domain from the server that the client calls: ORDER, MASTER, ALL and again ORDER, each where
 /// nothing stands against it. The rows go from the reply into the version, which isn't secure.
 ///
-/// `shown` is the order of the version that is shown, if one is; unless it is forced, an order that isn't over that is
-/// refused after the first reply.
+/// Unless it is forced, an order that isn't over the one that is shown is refused after the first reply.
 pub fn fetch<S: Source, K: Sink>(
     alloc: Global,
     rt: &impl RandomSource,
     client: &mut Client<S, K>,
-    domain: &[u8],
-    map: &[u8],
-    shown: Option<Order>,
-    force: bool,
+    request: &FetchRequest<'_>,
 ) -> Result<Version, XfrFault>
-    requires domain { length domain.now ≤ name_max }
-    requires map { length map.now ≤ name_max }
+    requires domain { length request.now.domain.now ≤ name_max }
+    requires map { length request.now.map.now ≤ name_max }
     requires unspent { client.old.spent ≡ false }
 
     // What was called, and what it came to.
-    ensures fetches { FetchesByCalls (wanted_of domain.now map.now shown force) result
+    ensures fetches { FetchesByCalls (wanted_by request.now) result
         (state_of S.Source K.Sink client.old) (state_of S.Source K.Sink client.new) }
 
     // It is what the bytes of the replies say.
-    ensures fetched { IsFetched (wanted_of domain.now map.now shown force) result
+    ensures fetched { IsFetched (wanted_by request.now) result
         (state_of S.Source K.Sink client.old) (state_of S.Source K.Sink client.new) }
 {
-    fetch_by_calls(alloc, rt, client, domain, map, shown, force)
+    fetch_by_calls(alloc, rt, client, request)
 }
 
 /// Fetches a map, as a statement about the four calls alone.
@@ -51,27 +49,24 @@ fn fetch_by_calls<S: Source, K: Sink>(
     alloc: Global,
     rt: &impl RandomSource,
     client: &mut Client<S, K>,
-    domain: &[u8],
-    map: &[u8],
-    shown: Option<Order>,
-    force: bool,
+    request: &FetchRequest<'_>,
 ) -> Result<Version, XfrFault>
-    requires domain { length domain.now ≤ name_max }
-    requires map { length map.now ≤ name_max }
-    ensures { FetchesByCalls (wanted_of domain.now map.now shown force) result
+    requires domain { length request.now.domain.now ≤ name_max }
+    requires map { length request.now.map.now ≤ name_max }
+    ensures { FetchesByCalls (wanted_by request.now) result
         (state_of S.Source K.Sink client.old) (state_of S.Source K.Sink client.new) }
 {
-    if domain.is_empty() || map.is_empty() {
+    if request.domain.is_empty() || request.map.is_empty() {
         return Err(XfrFault::Badargs);
     }
-    let order = match client.order(domain, map) {
+    let order = match client.order(request.domain, request.map) {
         Ok(order) => order,
         Err(fault) => return Err(fault.into()),
     };
-    if let Some(fault) = against_order(shown, force, order) {
+    if let Some(fault) = against_order(request.shown, request.force, order) {
         return Err(fault);
     }
-    fetch_newer(alloc, rt, client, domain, map, order)
+    fetch_newer(alloc, rt, client, request, order)
 }
 
 /// Why a version with this order isn't fetched.
@@ -92,21 +87,20 @@ fn fetch_newer<S: Source, K: Sink>(
     alloc: Global,
     rt: &impl RandomSource,
     client: &mut Client<S, K>,
-    domain: &[u8],
-    map: &[u8],
+    request: &FetchRequest<'_>,
     order: Order,
 ) -> Result<Version, XfrFault>
-    requires domain { length domain.now ≤ name_max }
-    requires map { length map.now ≤ name_max }
-    ensures { AsksMaster (by_calls domain.now map.now) order result
+    requires domain { length request.now.domain.now ≤ name_max }
+    requires map { length request.now.map.now ≤ name_max }
+    ensures { AsksMaster (by_calls request.now.domain.now request.now.map.now) order result
         (state_of S.Source K.Sink client.old) (state_of S.Source K.Sink client.new) }
 {
-    let begun = match client.master(domain, map) {
+    let begun = match client.master(request.domain, request.map) {
         Ok(master) => begin(alloc, rt, order, master),
         Err(fault) => Err(fault.into()),
     };
     match begun {
-        Ok(builder) => fetch_rows(client, domain, map, builder),
+        Ok(builder) => fetch_rows(client, request, builder),
         Err(fault) => Err(fault),
     }
 }
@@ -132,37 +126,35 @@ pub fn begin(
 /// Fetches the rows of a version.
 fn fetch_rows<S: Source, K: Sink>(
     client: &mut Client<S, K>,
-    domain: &[u8],
-    map: &[u8],
+    request: &FetchRequest<'_>,
     builder: VersionBuilder,
 ) -> Result<Version, XfrFault>
-    requires domain { length domain.now ≤ name_max }
-    requires map { length map.now ≤ name_max }
-    ensures { AsksRows (by_calls domain.now map.now) builder result
+    requires domain { length request.now.domain.now ≤ name_max }
+    requires map { length request.now.map.now ≤ name_max }
+    ensures { AsksRows (by_calls request.now.domain.now request.now.map.now) builder result
         (state_of S.Source K.Sink client.old) (state_of S.Source K.Sink client.new) }
 {
     let mut builder = builder;
-    match client.all(domain, map, &mut builder) {
+    match client.all(request.domain, request.map, &mut builder) {
         Ok(()) => {}
         Err(fault) => return Err(fault.into()),
     }
-    fetch_second(client, domain, map, builder)
+    fetch_second(client, request, builder)
 }
 
 /// Asks for the order again. The version is the source's where it is the same.
 fn fetch_second<S: Source, K: Sink>(
     client: &mut Client<S, K>,
-    domain: &[u8],
-    map: &[u8],
+    request: &FetchRequest<'_>,
     builder: VersionBuilder,
 ) -> Result<Version, XfrFault>
-    requires domain { length domain.now ≤ name_max }
-    requires map { length map.now ≤ name_max }
-    ensures { AsksAgain (by_calls domain.now map.now) builder result
+    requires domain { length request.now.domain.now ≤ name_max }
+    requires map { length request.now.map.now ≤ name_max }
+    ensures { AsksAgain (by_calls request.now.domain.now request.now.map.now) builder result
         (state_of S.Source K.Sink client.old) (state_of S.Source K.Sink client.new) }
 {
     let first = builder.order().number();
-    let second = match client.order(domain, map) {
+    let second = match client.order(request.domain, request.map) {
         Ok(order) => order.number(),
         Err(fault) => return Err(fault.into()),
     };

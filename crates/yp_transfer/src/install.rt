@@ -4,8 +4,10 @@ ghost use Rattle.std.specs.Prelude.{◌≡◌, ◌<◌, length, option_map};
 ghost use Rattle.std.specs.Arc.{arc_value};
 ghost use Rattle.yp_publisher.specs.Keeping.{keeping_of};
 ghost use Rattle.yp_transfer.specs.Installing.{of_slot, of_install, marking, InstallsFetched};
+ghost use Rattle.yp_transfer.specs.inside.Requests.{request_view};
 
 use crate::fault::XfrFault;
+use crate::requests::TransferRequest;
 use std::alloc::Global;
 use std::random::RandomSource;
 use std::sync::Arc;
@@ -15,31 +17,27 @@ use yp_map_file::SlotFault;
 use yp_publisher::{InstallFault, Installed, Origin, Publisher};
 use yp_version::Version;
 
-/// Installs a fetched version of a map, and shows it. A map that is behind is opened again first. The version is
-/// marked secure or not as `mark` says, and without a mark as the version that is then shown, so not secure where none
-/// is.
+/// Installs the version that was fetched for a transfer, and shows it. A map that is behind is opened again first.
 ///
 /// At each moment a crash leaves a file that stands as the map stood, or for that version.
 pub fn install_fetched<D: Disk, B: Show>(
     alloc: Global,
     rt: &impl RandomSource,
     publisher: &mut Publisher<D, B>,
-    map: u32,
+    request: &TransferRequest<'_>,
     version: Version,
-    force: bool,
-    mark: Option<bool>,
 ) -> Result<Installed, XfrFault>
-    requires { map < length publisher.old.maps }
-    ensures { InstallsFetched (keeping_of D.history D.faults B.log) map version force mark result
+    requires { request.now.map < length publisher.old.maps }
+    ensures { InstallsFetched (keeping_of D.history D.faults B.log) (request_view request.now) version result
         publisher.old publisher.new }
 {
-    match publisher.reopen(alloc, rt, map) {
+    match publisher.reopen(alloc, rt, request.map) {
         Ok(()) => {}
         Err(fault) => return Err(of_slot(fault)),
     }
-    let secure = marking(mark, publisher.shown(map));
+    let secure = marking(request.mark, publisher.shown(request.map));
     let marked = version.marked(secure);
-    match publisher.install(alloc, map, marked, Origin::Fetched, force) {
+    match publisher.install(alloc, request.map, marked, Origin::Fetched, request.force) {
         Ok(installed) => Ok(installed),
         Err(fault) => Err(of_install(&fault)),
     }

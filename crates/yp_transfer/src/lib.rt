@@ -15,6 +15,7 @@ mod fetching;
 mod hosts;
 mod install;
 pub mod laws;
+mod requests;
 mod transferring;
 pub mod walk;
 
@@ -24,4 +25,5 @@ pub use fault::XfrFault;
 pub use fetching::{against_order, begin, fetch};
 pub use hosts::Hosts;
 pub use install::install_fetched;
+pub use requests::{AskedTransfer, FetchRequest, TransferRequest};
 pub use transferring::{transfer, transfer_for};

@@ -9,7 +9,7 @@ use std::process::Abort;
 use std::random::RandomSource;
 use yp_memory::MemDial;
 use yp_messages::YpStat;
-use yp_transfer::{Hosts, XfrFault, fetch_from};
+use yp_transfer::{FetchRequest, Hosts, XfrFault, fetch_from};
 use yp_version::{Order, Version};
 
 /// A version: its order, its master, whether it is secure, how many rows it has, and the first one.
@@ -65,9 +65,13 @@ fn fetch_over<R: RandomSource>(
     shown: Option<u32>,
     force: bool,
 ) -> Result<Version, XfrFault> {
-    let map = b"hosts.byname";
-    let shown = shown.map(|number| Order(number));
-    fetch_from(alloc, rt, dial, hosts, b"m1", b"lab", map, shown, force)
+    let request = FetchRequest {
+        domain: b"lab",
+        map: b"hosts.byname",
+        shown: shown.map(|number| Order(number)),
+        force,
+    };
+    fetch_from(alloc, rt, dial, hosts, b"m1", &request)
 }
 
 fn assert_came<R: Abort>(

@@ -14,7 +14,7 @@ use yp_board::{Catalog, MapName, PlainBoard};
 use yp_io::Peer;
 use yp_memory::{MemDial, MemDisk};
 use yp_publisher::{Installed, Publisher, open_publisher};
-use yp_transfer::{Asker, Hosts, XfrFault, transfer, transfer_for};
+use yp_transfer::{AskedTransfer, Asker, Hosts, TransferRequest, XfrFault, transfer, transfer_for};
 use yp_version::Order;
 
 // The cells of a file of one version, at generation 1, and the second one of a file of two: the body behind the first.
@@ -90,7 +90,13 @@ fn transfer_over<R: RandomSource + Abort>(
     mark: Option<bool>,
 ) -> Came {
     assert!(rt; 0 < maps.catalog().len());
-    let came = match transfer(alloc, rt, maps, dial, hosts, 0, b"m1", force, mark) {
+    let request = TransferRequest {
+        map: 0,
+        source: b"m1",
+        force,
+        mark,
+    };
+    let came = match transfer(alloc, rt, maps, dial, hosts, &request) {
         Ok(Installed { order, generation }) => Ok((order.number(), generation)),
         Err(fault) => Err(fault),
     };
@@ -295,7 +301,12 @@ fn try_caller<R: RandomSource + Abort>(rt: &R, alloc: Global, caller: &Caller) {
     let hosts = table(rt, alloc);
     let mut maps = published(rt, alloc, b"s1", &[], &[]);
     assert!(rt; 0 < maps.catalog().len());
-    transfer_for(alloc, rt, &mut maps, &mut dial, &hosts, 0, b"m1", *asker);
+    let asked = AskedTransfer {
+        map: 0,
+        source: b"m1",
+        asker: *asker,
+    };
+    transfer_for(alloc, rt, &mut maps, &mut dial, &hosts, &asked);
     assert_letter(rt, alloc, &dial, letter, *name);
 }
 

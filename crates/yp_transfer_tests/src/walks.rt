@@ -11,8 +11,8 @@ use std::process::Abort;
 use std::random::RandomSource;
 use yp_io::Peer;
 use yp_messages::YpStat;
-use yp_transfer::XfrFault;
 use yp_transfer::walk::{Walk, Walked};
+use yp_transfer::{FetchRequest, XfrFault};
 use yp_version::Order;
 
 const SOURCE: Peer = Peer {
@@ -170,7 +170,13 @@ fn asks(walk: &Walk) -> End {
 fn hosts_walk<R: Abort>(rt: &R, alloc: Global, shown: Option<Order>, force: bool) -> Walk
     ensures { IsAsking result.standing }
 {
-    Walk::new(alloc, SOURCE, b"lab", b"hosts.byname", shown, force).expect(rt, "a walk")
+    let request = FetchRequest {
+        domain: b"lab",
+        map: b"hosts.byname",
+        shown,
+        force,
+    };
+    Walk::new(alloc, SOURCE, &request).expect(rt, "a walk")
 }
 
 // How a walk should end: asking, with a body of these words, or refused.
@@ -621,7 +627,13 @@ fn longest_key(rt: HostRuntime) {
 fn check_empty<R: Abort>(rt: &R, alloc: Global, domain: &[u8], map: &[u8]) {
     assert!(rt; domain.len() <= 64);
     assert!(rt; map.len() <= 64);
-    let fault = Walk::new(alloc, SOURCE, domain, map, None, false).err();
+    let request = FetchRequest {
+        domain,
+        map,
+        shown: None,
+        force: false,
+    };
+    let fault = Walk::new(alloc, SOURCE, &request).err();
     assert_same(rt, &fault, &Some(XfrFault::Badargs), "an empty name");
 }
 

@@ -11,9 +11,14 @@ use Rattle.yp_command.specs.declared.office.status.Status.{Status}
 use Rattle.yp_command.specs.declared.office.status.Status.TheVariants.{DiskFault, GenerationsSpent}
 use Rattle.yp_command.specs.office.Disks.{IsOnlyRead}
 use Rattle.yp_command_maps.specs.declared.build.Built.{Built}
+use Rattle.yp_command_maps.specs.declared.revnet.Reversal.{Reversal}
 use Rattle.yp_command_maps.specs.Build.{build_line, TellsLine, LeavesFew, may_have_written}
 use Rattle.yp_command_maps.specs.Revnet.{Job, RevnetInputs, ReverseIsPlanned, StopsRevnet, OfMade, StandsForVersion}
 use Rattle.yp_command_maps.specs.Revnet.{AtFiles, IsBeforeOrMade}
+
+-- what is to be made, as the code has it
+abbrev pub reverse_job : Reversal → Name → Job
+reverse_job reversal store = record { name = reversal.name.now; store = store; field = reversal.field }
 
 -- a version isn't stored behind this generation
 abbrev pub StopsCommit : Name → ℕ → Status → Type 0

@@ -23,10 +23,12 @@ ghost use Rattle.yp_command_maps.specs.inside.walk.Walk.{Moved, is_unmailed, IsW
 ghost use Rattle.yp_command_maps.specs.walk.Walk.{WalkDoes};
 
 use crate::walk::walker::{Came, walk_inbox};
-use crate::{XfrStop, catalog_of, hand_back, open_only, shown_order, store_fetched, tell_transfer};
+use crate::{
+    OnlyMap, XfrStop, catalog_of, hand_back, open_only, shown_order, store_fetched, tell_transfer,
+};
 use std::alloc::Global;
 use std::random::RandomSource;
-use yp_board::{Catalog, MapName, PlainBoard};
+use yp_board::{MapName, PlainBoard};
 use yp_command::WalkJob;
 use yp_command::office::{Apart, NamedDisk, Office, Status, put_together, take_apart};
 use yp_io::{Clock, Dial, Disk, Inbox, NoMemory, Sink, Source, Texts};
@@ -92,28 +94,27 @@ fn store_came<D: Disk>(
     }
 }
 
-/// Walks over the only map of a catalogue, whose file lies on the only disk.
+/// Walks over the only map.
 fn walk_over<D: Disk, I: Inbox, R: RandomSource>(
     alloc: Global,
     rt: &R,
     job: &WalkJob,
     room: &mut Room,
-    catalog: Catalog,
-    disks: Vec<D>,
+    only: OnlyMap<D>,
     inbox: &mut I,
 ) -> (Result<Installed, WalkStop>, Vec<D>)
-    requires catalogue { catalog ≡ catalogue_of (xfr_job_view job.now.xfr) }
+    requires catalogue { only.catalog ≡ catalogue_of (xfr_job_view job.now.xfr) }
     requires named { IsNamed (name_view job.now.xfr.store) }
-    requires only { length disks.items ≡ 1 }
+    requires only { length only.disks.items ≡ 1 }
     ensures moves { Moved (xfr_job_view job.now.xfr) job.now.turns result.0
         (box_by I.Inbox inbox.old) (box_by I.Inbox inbox.new)
-        (only_history D.history disks.items) (only_history D.history result.1.items)
-        (total_faults D.faults disks.items) (total_faults D.faults result.1.items) }
+        (only_history D.history only.disks.items) (only_history D.history result.1.items)
+        (total_faults D.faults only.disks.items) (total_faults D.faults result.1.items) }
     ensures unmailed { is_unmailed result.0 ≡ true → inbox.new ≡ inbox.old }
     ensures failed { result.0 ≡ Err NoInbox → HasRisen (I.faults inbox.old) (I.faults inbox.new) }
     ensures only { length result.1.items ≡ 1 }
 {
-    match open_only(alloc, rt, catalog, disks) {
+    match open_only(alloc, rt, only) {
         Err(refused) => (
             Err(WalkStop::Transfer(XfrStop::Unloaded(refused.why))),
             refused.disks,
@@ -153,7 +154,11 @@ fn walk_on<D: Disk, I: Inbox, R: RandomSource>(
         names,
         disks: apart,
     } = take_apart(alloc, disks)?;
-    let (done, apart) = walk_over(alloc, rt, job, &mut room, catalog, apart, inbox);
+    let only = OnlyMap {
+        catalog,
+        disks: apart,
+    };
+    let (done, apart) = walk_over(alloc, rt, job, &mut room, only, inbox);
     let apart = Apart {
         names,
         disks: apart,

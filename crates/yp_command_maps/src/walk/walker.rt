@@ -17,8 +17,8 @@ use std::random::RandomSource;
 use yp_command::WalkJob;
 use yp_io::{Failed, Inbox, NoMemory, Peer};
 use yp_rpc::{Handler, Room, Wish, take_turns};
-use yp_transfer::XfrFault;
 use yp_transfer::walk::{Walk, Walked};
+use yp_transfer::{FetchRequest, XfrFault};
 use yp_version::{Order, Version};
 
 /// What came of the turns of a walk.
@@ -124,15 +124,14 @@ pub fn walk_inbox<R: RandomSource, I: Inbox>(
 {
     let xfr = &job.xfr;
     let store = &xfr.store;
-    // No name is empty, so memory ran out where no walk is begun.
-    let Ok(walk) = Walk::new(
-        alloc,
-        xfr.host.peer,
-        &store.domain,
-        &store.map,
+    let request = FetchRequest {
+        domain: &store.domain,
+        map: &store.map,
         shown,
-        xfr.force,
-    ) else {
+        force: xfr.force,
+    };
+    // No name is empty, so memory ran out where no walk is begun.
+    let Ok(walk) = Walk::new(alloc, xfr.host.peer, &request) else {
         return Err(NoMemory);
     };
     let mut walker = Walker {

@@ -93,8 +93,8 @@ first_of maps = record { log = starts 0 (versions maps); standings = map (λ kep
 -- that were shown, with the maps that are behind a version that wasn't built so, are at most as many as the wires that
 -- give a version. Each version that was shown was new behind the log before it: it was built so, or a wire gave it. At
 -- each moment a crash leaves of each map what it might have left once it was loaded, or bytes that stand for what was
--- shown of it or for a version that was new. The dial was used for transfers of the maps alone: to fetch one from a host
--- of the table, and to tell a caller.
+-- shown of it or for a version that was new. The dial was used for transfers of the maps alone: to fetch one from a
+-- host of the table, and to tell a caller.
 pub record IsAccounted {D : Type 0} (history : D → Option History) (faults : D → ℕ) (setup : ServeSetup)
     (first : PublisherState)
     (maps : List (StoredMap D)) (most : ℕ) (hosted : Hosted) (old new : ServerTells) (log : Log)

@@ -180,7 +180,8 @@ pub record HasServeCauses {S K D C A I T : Type 0} (seen : Seeing S K D C A I T)
 pub record ServeDoes {S K D C A I T : Type 0} (seen : Seeing S K D C A I T) (job : Job) (status : Status)
     (old new : Office S K D C A I T) (door door' : DoorTells) (logged : List ℕ) : Type 0 where
   pub serves : ServesOrRefuses seen job status old new door door' logged
-  pub complete : All (IsUndamaged seen.disk.history) (disks_of old.disks.items) → ¬ HasRisen door.listen.faults door'.listen.faults
+  pub complete : All (IsUndamaged seen.disk.history) (disks_of old.disks.items)
+      → ¬ HasRisen door.listen.faults door'.listen.faults
       → ¬ SomeInboxFails seen old new door door' → ¬ DiskFails seen old new → ¬ WriteFails seen old new
       → (status ≡ Done) ⊎ (status ≡ NoMemory)
   pub causes : HasServeCauses seen status old new door door'

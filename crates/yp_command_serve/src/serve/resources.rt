@@ -57,10 +57,38 @@ pub(crate) struct HostResources<D, A, T, C, L, I> {
     pub(crate) inboxes: Vec<I>,
 }
 
-/// What a board begins with: a catalogue once more, the versions of its maps, which were loaded, and how many readers
-/// it has.
+/// Maps whose files were loaded, and what they are served by.
 #[derive(Drop)]
+struct LoadedResources<D: Disk, A, T, C, L, I> {
+    catalog: Catalog,
+    /// The maps, in the order of the catalogue.
+    loaded: Loaded<D>,
+    desk: Desk<A, T, C>,
+    listen: L,
+    /// Ends of one port, at least one.
+    inboxes: Vec<I>,
+}
+
+/// The disks of maps that were loaded, once they aren't served, with what they would have been served by.
+fn unload<D: Disk, A, T, C, L, I>(
+    resources: LoadedResources<D, A, T, C, L, I>,
+) -> HostResources<D, A, T, C, L, I>
+    ensures disks { result.disks.items ≡ disks_of resources.loaded }
+    ensures rest { (result.desk ≡ resources.desk) × (result.listen ≡ resources.listen)
+        × (result.inboxes ≡ resources.inboxes) }
+{
+    HostResources {
+        disks: resources.loaded.into_disks(),
+        desk: resources.desk,
+        listen: resources.listen,
+        inboxes: resources.inboxes,
+    }
+}
+
+/// What a board begins with: a book, a catalogue once more, the versions of its maps, which were loaded, and how many
+/// readers it has.
 struct BoardStart {
+    opened: Opened,
     catalog: Catalog,
     versions: Vec<Option<Arc<Version>>>,
     readers: u32,
@@ -84,10 +112,11 @@ fn starting<D: Disk>(
 {
     let readers = readers_of(workers, inboxes).ok_or(NoMemory)?;
     let copy = catalog.copy(alloc)?;
-    let start = loaded.shown(alloc)?;
+    let versions = loaded.shown(alloc)?;
     Ok(BoardStart {
+        opened: Opened::new(),
         catalog: copy,
-        versions: start,
+        versions,
         readers,
     })
 }
@@ -211,9 +240,16 @@ where
     // A catalogue has at most 64 maps.
     prove!(disks.len() <= catalog.len() as usize);
     match load_all(alloc, rt, disks) {
-        Ok(loaded) => host_loaded(
-            alloc, rt, catalog, spec, loaded, desk, listen, inboxes, journal,
-        ),
+        Ok(loaded) => {
+            let resources = LoadedResources {
+                catalog,
+                loaded,
+                desk,
+                listen,
+                inboxes,
+            };
+            host_loaded(alloc, rt, spec, resources, journal)
+        },
         Err(StartRefused { disks, map, fault }) => {
             let resources = HostResources {
                 disks,
@@ -230,12 +266,8 @@ where
 fn host_loaded<D, A, T, C, L, I, R>(
     alloc: Global,
     rt: &R,
-    catalog: Catalog,
     spec: &ServeSpec,
-    loaded: Loaded<D>,
-    desk: Desk<A, T, C>,
-    listen: L,
-    inboxes: Vec<I>,
+    resources: LoadedResources<D, A, T, C, L, I>,
     journal: Option<&Mutex<Journal>>,
 ) -> (Result<Hosted, NotHosted>, HostResources<D, A, T, C, L, I>)
 where
@@ -253,56 +285,51 @@ where
     A::In: Send,
     A::Out: Send,
     R: Threads + Wait + RandomSource + Sync,
-    requires count { length loaded ≡ length catalog.maps }
-    requires level { All (λ standing. standing ≡ Level) (map (λ kept. kept.standing) loaded) }
-    requires inboxes { 1 ≤ vec_len inboxes }
+    requires count { length resources.loaded ≡ length resources.catalog.maps }
+    requires level { All (λ standing. standing ≡ Level) (map (λ kept. kept.standing) resources.loaded) }
+    requires inboxes { 1 ≤ vec_len resources.inboxes }
     requires workers { (1 ≤ spec.now.workers) × (spec.now.workers ≤ workers_max) }
     requires most { spec.now.most ≡ CALLS_MAX }
     ensures hosted { IfOk result.0 (λ hosted. IsServed D.history D.faults
-        (setup_of catalog (T.text desk.texts) desk.hosts spec.now.turns) loaded hosted
-        (server_tells (opening_by L.Hall listen) (map (box_by I.Inbox) inboxes.items)
-        (supply_of (T.faults desk.texts) (dial_by A.Dial desk.dial)))
+        (setup_of resources.catalog (T.text resources.desk.texts) resources.desk.hosts spec.now.turns)
+        resources.loaded hosted
+        (server_tells (opening_by L.Hall resources.listen) (map (box_by I.Inbox) resources.inboxes.items)
+        (supply_of (T.faults resources.desk.texts) (dial_by A.Dial resources.desk.dial)))
         (server_tells (opening_by L.Hall result.1.listen) (map (box_by I.Inbox) result.1.inboxes.items)
         (supply_of (T.faults result.1.desk.texts) (dial_by A.Dial result.1.desk.dial)))
         result.1.disks.items) }
     ensures unhosted { IfErr result.0 (λ why. why ≡ NotHosted.NoMemory) }
-    ensures disks { OnErr result.0 (result.1.disks.items ≡ disks_of loaded) }
-    ensures untouched { OnErr result.0
-        ((result.1.desk ≡ desk) × (result.1.listen ≡ listen) × (result.1.inboxes ≡ inboxes)) }
+    ensures disks { OnErr result.0 (result.1.disks.items ≡ disks_of resources.loaded) }
+    ensures untouched { OnErr result.0 ((result.1.desk ≡ resources.desk) × (result.1.listen ≡ resources.listen)
+        × (result.1.inboxes ≡ resources.inboxes)) }
     ensures inbox_fault { IfOk result.0 (λ hosted. hosted.inbox_fault ≡ true
-        → SomeHasRisen (map I.faults inboxes.items) (map I.faults result.1.inboxes.items)) }
-    ensures texts { (file : List ℕ) → T.text result.1.desk.texts file ≡ T.text desk.texts file }
-    ensures moment { C.moment result.1.desk.clock ≡ C.moment desk.clock }
-    ensures count { length result.1.disks.items ≡ length loaded }
-    ensures inboxes { length result.1.inboxes.items ≡ length inboxes.items }
+        → SomeHasRisen (map I.faults resources.inboxes.items) (map I.faults result.1.inboxes.items)) }
+    ensures texts { (file : List ℕ) → T.text result.1.desk.texts file ≡ T.text resources.desk.texts file }
+    ensures moment { C.moment result.1.desk.clock ≡ C.moment resources.desk.clock }
+    ensures count { length result.1.disks.items ≡ length resources.loaded }
+    ensures inboxes { length result.1.inboxes.items ≡ length resources.inboxes.items }
 {
-    let Ok(start) = starting(alloc, &catalog, &loaded, spec.workers, inboxes.len()) else {
-        let resources = HostResources {
-            disks: loaded.into_disks(),
-            desk,
-            listen,
-            inboxes,
-        };
-        return (Err(NotHosted::NoMemory), resources);
+    let inboxes = resources.inboxes.len();
+    let begun = starting(
+        alloc,
+        &resources.catalog,
+        &resources.loaded,
+        spec.workers,
+        inboxes,
+    );
+    let Ok(start) = begun else {
+        return (Err(NotHosted::NoMemory), unload(resources));
     };
-    let opened = Opened::new();
-    host_shown::<Brand, Brand, D, A, T, C, L, I, R>(
-        alloc, rt, opened, start, catalog, spec, loaded, desk, listen, inboxes, journal,
-    )
+    host_shown::<Brand, Brand, D, A, T, C, L, I, R>(alloc, rt, start, spec, resources, journal)
 }
 
 /// Serves maps whose files were loaded, and whose versions are shown on a board for threads.
 fn host_shown<J, M, D, A, T, C, L, I, R>(
     alloc: Global,
     rt: &R,
-    opened: Opened,
     starting: BoardStart,
-    catalog: Catalog,
     spec: &ServeSpec,
-    loaded: Loaded<D>,
-    desk: Desk<A, T, C>,
-    listen: L,
-    inboxes: Vec<I>,
+    resources: LoadedResources<D, A, T, C, L, I>,
     journal: Option<&Mutex<Journal>>,
 ) -> (Result<Hosted, NotHosted>, HostResources<D, A, T, C, L, I>)
 where
@@ -322,57 +349,53 @@ where
     A::In: Send,
     A::Out: Send,
     R: Threads + Wait + RandomSource + Sync,
-    requires opened { opened ≡ J.book }
-    requires moment { C.moment desk.clock ≡ M.moment }
-    requires copy { starting.catalog ≡ catalog }
-    requires start { map (option_map arc_value) starting.versions.items ≡ versions loaded }
-    requires readers { starting.readers ≡ spec.now.workers + 1 + vec_len inboxes }
-    requires few { vec_len inboxes < 2 ^ 32 }
-    requires count { length loaded ≡ length catalog.maps }
-    requires level { All (λ standing. standing ≡ Level) (map (λ kept. kept.standing) loaded) }
-    requires inboxes { 1 ≤ vec_len inboxes }
+    requires opened { starting.opened ≡ J.book }
+    requires moment { C.moment resources.desk.clock ≡ M.moment }
+    requires copy { starting.catalog ≡ resources.catalog }
+    requires start { map (option_map arc_value) starting.versions.items ≡ versions resources.loaded }
+    requires readers { starting.readers ≡ spec.now.workers + 1 + vec_len resources.inboxes }
+    requires few { vec_len resources.inboxes < 2 ^ 32 }
+    requires count { length resources.loaded ≡ length resources.catalog.maps }
+    requires level { All (λ standing. standing ≡ Level) (map (λ kept. kept.standing) resources.loaded) }
+    requires inboxes { 1 ≤ vec_len resources.inboxes }
     requires workers { (1 ≤ spec.now.workers) × (spec.now.workers ≤ workers_max) }
     requires most { spec.now.most ≡ CALLS_MAX }
     ensures hosted { IfOk result.0 (λ hosted. IsServed D.history D.faults
-        (setup_of catalog (T.text desk.texts) desk.hosts spec.now.turns) loaded hosted
-        (server_tells (opening_by L.Hall listen) (map (box_by I.Inbox) inboxes.items)
-        (supply_of (T.faults desk.texts) (dial_by A.Dial desk.dial)))
+        (setup_of resources.catalog (T.text resources.desk.texts) resources.desk.hosts spec.now.turns)
+        resources.loaded hosted
+        (server_tells (opening_by L.Hall resources.listen) (map (box_by I.Inbox) resources.inboxes.items)
+        (supply_of (T.faults resources.desk.texts) (dial_by A.Dial resources.desk.dial)))
         (server_tells (opening_by L.Hall result.1.listen) (map (box_by I.Inbox) result.1.inboxes.items)
         (supply_of (T.faults result.1.desk.texts) (dial_by A.Dial result.1.desk.dial)))
         result.1.disks.items) }
     ensures unhosted { IfErr result.0 (λ why. why ≡ NotHosted.NoMemory) }
-    ensures disks { OnErr result.0 (result.1.disks.items ≡ disks_of loaded) }
-    ensures untouched { OnErr result.0
-        ((result.1.desk ≡ desk) × (result.1.listen ≡ listen) × (result.1.inboxes ≡ inboxes)) }
+    ensures disks { OnErr result.0 (result.1.disks.items ≡ disks_of resources.loaded) }
+    ensures untouched { OnErr result.0 ((result.1.desk ≡ resources.desk) × (result.1.listen ≡ resources.listen)
+        × (result.1.inboxes ≡ resources.inboxes)) }
     ensures inbox_fault { IfOk result.0 (λ hosted. hosted.inbox_fault ≡ true
-        → SomeHasRisen (map I.faults inboxes.items) (map I.faults result.1.inboxes.items)) }
-    ensures texts { (file : List ℕ) → T.text result.1.desk.texts file ≡ T.text desk.texts file }
-    ensures moment { C.moment result.1.desk.clock ≡ C.moment desk.clock }
-    ensures count { length result.1.disks.items ≡ length loaded }
-    ensures inboxes { length result.1.inboxes.items ≡ length inboxes.items }
+        → SomeHasRisen (map I.faults resources.inboxes.items) (map I.faults result.1.inboxes.items)) }
+    ensures texts { (file : List ℕ) → T.text result.1.desk.texts file ≡ T.text resources.desk.texts file }
+    ensures moment { C.moment result.1.desk.clock ≡ C.moment resources.desk.clock }
+    ensures count { length result.1.disks.items ≡ length resources.loaded }
+    ensures inboxes { length result.1.inboxes.items ≡ length resources.inboxes.items }
 {
     let BoardStart {
+        opened,
         catalog: copy,
         versions: start,
         readers: count,
     } = starting;
     let Ok((writer, readers)) = board::<J, &R>(alloc, rt, opened, copy, start, count) else {
-        let resources = HostResources {
-            disks: loaded.into_disks(),
-            desk,
-            listen,
-            inboxes,
-        };
-        return (Err(NotHosted::NoMemory), resources);
+        return (Err(NotHosted::NoMemory), unload(resources));
     };
-    let publisher = publisher_of(loaded, catalog, writer);
-    let desk = shared::<M, A, T, C>(desk);
+    let publisher = publisher_of(resources.loaded, resources.catalog, writer);
+    let desk = shared::<M, A, T, C>(resources.desk);
     let lent = ServerResources {
         publisher,
         readers,
         desk,
-        listen,
-        inboxes,
+        listen: resources.listen,
+        inboxes: resources.inboxes,
     };
     match serve(alloc, rt, lent, spec, journal, &OpenGate) {
         Ok(served) => {

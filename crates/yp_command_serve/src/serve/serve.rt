@@ -18,7 +18,7 @@ ghost use Rattle.yp_command_serve.specs.inside.serve.Serve.{IsWithin};
 
 use crate::serve::resources::{HostResources, NotHosted};
 use crate::serve::tally::{Hosted, tell_served};
-use crate::serve::telling::host_told;
+use crate::serve::telling::{HostSpec, host_told};
 use std::alloc::Global;
 use std::random::RandomSource;
 use std::sync::Wait;
@@ -41,6 +41,16 @@ use yp_transfer::Hosts;
 pub struct Doors<L, I> {
     pub listen: L,
     pub more: Vec<I>,
+}
+
+/// What serving reaches outside.
+#[derive(Drop)]
+pub struct ServeOutside<S, K, D, C, A, I, T, L, N> {
+    pub office: Office<S, K, D, C, A, I, T>,
+    /// What callers come by.
+    pub doors: Doors<L, I>,
+    /// Where it is told what is done.
+    pub notes: N,
 }
 
 /// Tells what was served, or answers why nobody was.
@@ -66,18 +76,14 @@ fn tell_end<K: Sink>(
     }
 }
 
-/// Serves the maps of a catalogue from the disks of an office, and tells what was served.
+/// Serves maps from the disks of an office, and tells what was served.
 fn serve_catalog<S, K, D, C, A, I, T, L, N, R>(
     alloc: Global,
     rt: &R,
-    catalog: Catalog,
-    spec: &ServeSpec,
+    spec: HostSpec,
     hosts: Hosts,
-    log: bool,
-    office: Office<S, K, D, C, A, I, T>,
-    doors: Doors<L, I>,
-    notes: N,
-) -> (Status, Office<S, K, D, C, A, I, T>, Doors<L, I>, N)
+    outside: ServeOutside<S, K, D, C, A, I, T, L, N>,
+) -> (Status, ServeOutside<S, K, D, C, A, I, T, L, N>)
 where
     S: Source,
     K: Sink,
@@ -96,89 +102,78 @@ where
     L::Waker: Send,
     N: Sink + Send + Drop,
     R: Threads + Wait + RandomSource + time::Clock + Sync,
-    requires named { All IsNamed catalog.maps }
-    requires disks { names_of office.disks.items ≡ catalog.maps }
-    requires workers { (1 ≤ spec.now.workers) × (spec.now.workers ≤ workers_max) }
-    requires most { spec.now.most ≡ CALLS_MAX }
+    requires named { All IsNamed spec.catalog.maps }
+    requires disks { names_of outside.office.disks.items ≡ spec.catalog.maps }
+    requires workers { (1 ≤ spec.serve.workers) × (spec.serve.workers ≤ workers_max) }
+    requires most { spec.serve.most ≡ CALLS_MAX }
     ensures does { (logged : List ℕ)
         × ((connections : ℕ) → ServeDoes (seeing S.Source K.Sink D.Disk C.Clock A.Dial I.Inbox T.Texts)
-        (serve_job_of catalog.own connections spec.now.turns catalog.maps hosts log) result.0 office result.1
-        (doors_by L.Hall I.Inbox doors) (doors_by L.Hall I.Inbox result.2) logged)
-        × (¬ HasRisen (N.faults notes) (N.faults result.3)
-        → Appends (N.output notes) (N.output result.3) logged) }
-    ensures never_falls { N.faults notes ≤ N.faults result.3 }
+        (serve_job_of spec.catalog.own connections spec.serve.turns spec.catalog.maps hosts spec.log) result.0
+        outside.office result.1.office
+        (doors_by L.Hall I.Inbox outside.doors) (doors_by L.Hall I.Inbox result.1.doors) logged)
+        × (¬ HasRisen (N.faults outside.notes) (N.faults result.1.notes)
+        → Appends (N.output outside.notes) (N.output result.1.notes) logged) }
+    ensures never_falls { N.faults outside.notes ≤ N.faults result.1.notes }
     ensures may_end { IsTrue (serve_may_end result.0) }
     ensures passed_on { IsPassedOn (seeing S.Source K.Sink D.Disk C.Clock A.Dial I.Inbox T.Texts)
-        result.0 office result.1 }
+        result.0 outside.office result.1.office }
     ensures tellable { IsTellable result.0 }
 {
-    let mut office = office;
-    let mut doors = doors;
-    if doors.more.reserve(1).is_err() {
-        return (Status::NoMemory, office, doors, notes);
+    let mut outside = outside;
+    if outside.doors.more.reserve(1).is_err() {
+        return (Status::NoMemory, outside);
     }
-    let Apart { names, disks } = match take_apart(alloc, &mut office.disks) {
+    let Apart { names, disks } = match take_apart(alloc, &mut outside.office.disks) {
         Ok(apart) => apart,
-        Err(NoMemory) => return (Status::NoMemory, office, doors, notes),
+        Err(NoMemory) => return (Status::NoMemory, outside),
     };
-    let Office {
-        mut wire,
-        disks: mut named,
-        clock,
-        dial,
-        inbox,
-        texts,
-    } = office;
-    let Doors {
-        listen,
-        more: mut inboxes,
-    } = doors;
-    inboxes.push_reserved(inbox);
+    let ServeOutside {
+        office,
+        doors,
+        notes,
+    } = outside;
+    let mut inboxes = doors.more;
+    inboxes.push_reserved(office.inbox);
     let desk = Desk {
-        dial,
-        texts,
-        clock,
+        dial: office.dial,
+        texts: office.texts,
+        clock: office.clock,
         hosts,
     };
     let resources = HostResources {
         disks,
         desk,
-        listen,
+        listen: doors.listen,
         inboxes,
     };
-    let (hosted, resources, notes) = host_told(
-        alloc, rt, catalog, spec, resources, log, &names, notes,
-    );
+    let (hosted, resources, notes) = host_told(alloc, rt, spec, resources, &names, notes);
+    let (mut wire, mut named) = (office.wire, office.disks);
     let status = tell_end(alloc, &mut wire.sink, hosted, &names);
-    let HostResources {
-        disks,
-        desk,
-        listen,
-        mut inboxes,
-    } = resources;
+    let disks = resources.disks;
     put_together(&mut named, Apart { names, disks });
-    let Desk {
-        dial,
-        texts,
-        clock,
-        hosts: _,
-    } = desk;
+    let mut inboxes = resources.inboxes;
     let Some(inbox) = inboxes.pop() else {
         unreachable!()
     };
+    let desk = resources.desk;
     let office = Office {
         wire,
         disks: named,
-        clock,
-        dial,
+        clock: desk.clock,
+        dial: desk.dial,
         inbox,
-        texts,
+        texts: desk.texts,
     };
     let doors = Doors {
-        listen,
+        listen: resources.listen,
         more: inboxes,
     };
-    (status, office, doors, notes)
+    let outside = ServeOutside {
+        office,
+        doors,
+        notes,
+    };
+    (status, outside)
 }
 
 /// Serves stored maps to all who call, and tells how many connections came and how many of their records were read.
@@ -188,10 +183,8 @@ pub fn serve_maps<S, K, D, C, A, I, T, L, N, R>(
     alloc: Global,
     rt: &R,
     job: ServeJob,
-    office: Office<S, K, D, C, A, I, T>,
-    doors: Doors<L, I>,
-    notes: N,
-) -> (Status, Office<S, K, D, C, A, I, T>, Doors<L, I>, N)
+    outside: ServeOutside<S, K, D, C, A, I, T, L, N>,
+) -> (Status, ServeOutside<S, K, D, C, A, I, T, L, N>)
 where
     S: Source,
     K: Sink,
@@ -212,17 +205,18 @@ where
     R: Threads + Wait + RandomSource + time::Clock + Sync,
     requires catalogue { catalog_fault job.name.items (map name_view job.stores.items) ≡ None }
     requires named { All IsNamed (map name_view job.stores.items) }
-    requires disks { names_of office.disks.items ≡ map name_view job.stores.items }
+    requires disks { names_of outside.office.disks.items ≡ map name_view job.stores.items }
     requires workers { (1 ≤ job.workers) × (job.workers ≤ workers_max) }
     ensures does { (logged : List ℕ) × ServeDoes (seeing S.Source K.Sink D.Disk C.Clock A.Dial I.Inbox T.Texts)
-        (serve_job_view job) result.0 office result.1
-        (doors_by L.Hall I.Inbox doors) (doors_by L.Hall I.Inbox result.2) logged
-        × (¬ HasRisen (N.faults notes) (N.faults result.3)
-        → Appends (N.output notes) (N.output result.3) logged) }
-    ensures never_falls { N.faults notes ≤ N.faults result.3 }
+        (serve_job_view job) result.0
+        outside.office result.1.office
+        (doors_by L.Hall I.Inbox outside.doors) (doors_by L.Hall I.Inbox result.1.doors) logged
+        × (¬ HasRisen (N.faults outside.notes) (N.faults result.1.notes)
+        → Appends (N.output outside.notes) (N.output result.1.notes) logged) }
+    ensures never_falls { N.faults outside.notes ≤ N.faults result.1.notes }
     ensures may_end { IsTrue (serve_may_end result.0) }
     ensures passed_on { IsPassedOn (seeing S.Source K.Sink D.Disk C.Clock A.Dial I.Inbox T.Texts)
-        result.0 office result.1 }
+        result.0 outside.office result.1.office }
     ensures tellable { IsTellable result.0 }
 {
     let ServeJob {
@@ -236,17 +230,22 @@ where
         log,
     } = job;
     let Ok(hosts) = table_of(alloc, hosts) else {
-        return (Status::NoMemory, office, doors, notes);
+        return (Status::NoMemory, outside);
     };
     let catalog = match Catalog::new(alloc, name, stores) {
         Ok(catalog) => catalog,
-        Err(CatalogFault::NoMemory) => return (Status::NoMemory, office, doors, notes),
+        Err(CatalogFault::NoMemory) => return (Status::NoMemory, outside),
         Err(_) => unreachable!(),
     };
-    let spec = ServeSpec {
+    let serve = ServeSpec {
         workers,
         most: CALLS_MAX,
         turns,
     };
-    serve_catalog(alloc, rt, catalog, &spec, hosts, log, office, doors, notes)
+    let spec = HostSpec {
+        catalog,
+        serve,
+        log,
+    };
+    serve_catalog(alloc, rt, spec, hosts, outside)
 }

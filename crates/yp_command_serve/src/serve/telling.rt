@@ -29,15 +29,23 @@ use yp_host::workers::Journal;
 use yp_io::{Clock, Dial, Disk, Failed, Hall, Inbox, Sink, Texts};
 use yp_server::ServeSpec;
 
+/// What is served, and how.
+#[derive(Drop)]
+pub(crate) struct HostSpec {
+    /// The names of the maps.
+    pub(crate) catalog: Catalog,
+    pub(crate) serve: ServeSpec,
+    /// Whether it is told what is done.
+    pub(crate) log: bool,
+}
+
 /// Serves maps as [`host`] does, and tells the notes what is done and at the end what was counted, where that is to be
 /// told. A fault of the notes ends nothing else.
 pub(crate) fn host_told<D, A, T, C, L, I, N, R>(
     alloc: Global,
     rt: &R,
-    catalog: Catalog,
-    spec: &ServeSpec,
+    spec: HostSpec,
     resources: HostResources<D, A, T, C, L, I>,
-    log: bool,
     names: &[MapName],
     notes: N,
 ) -> (
@@ -61,13 +69,13 @@ where
     A::Out: Send,
     N: Sink + Send + Drop,
     R: Threads + Wait + RandomSource + time::Clock + Sync,
-    requires count { length resources.disks.items ≡ length catalog.maps }
+    requires count { length resources.disks.items ≡ length spec.catalog.maps }
     requires inboxes { 1 ≤ vec_len resources.inboxes }
-    requires workers { (1 ≤ spec.now.workers) × (spec.now.workers ≤ workers_max) }
-    requires most { spec.now.most ≡ CALLS_MAX }
+    requires workers { (1 ≤ spec.serve.workers) × (spec.serve.workers ≤ workers_max) }
+    requires most { spec.serve.most ≡ CALLS_MAX }
     requires named { All IsNamed (map name_view names.now) }
     ensures hosted { IfOk result.0 (λ hosted. IsHosted D.history D.faults
-        (setup_of catalog (T.text resources.desk.texts) resources.desk.hosts spec.now.turns) hosted
+        (setup_of spec.catalog (T.text resources.desk.texts) resources.desk.hosts spec.serve.turns) hosted
         (server_tells (opening_by L.Hall resources.listen) (map (box_by I.Inbox) resources.inboxes.items)
         (supply_of (T.faults resources.desk.texts) (dial_by A.Dial resources.desk.dial)))
         (server_tells (opening_by L.Hall result.1.listen) (map (box_by I.Inbox) result.1.inboxes.items)
@@ -83,10 +91,16 @@ where
     ensures count { length result.1.disks.items ≡ length resources.disks.items }
     ensures inboxes { length result.1.inboxes.items ≡ length resources.inboxes.items }
     ensures never_falls { N.faults notes ≤ N.faults result.2 }
-    ensures logged { (text : List ℕ) × IsLog log (map name_view names.now) (totals_told result.0) text
+    ensures logged { (text : List ℕ) × IsLog spec.log (map name_view names.now) (totals_told result.0) text
         × (¬ HasRisen (N.faults notes) (N.faults result.2)
         → Appends (N.output notes) (N.output result.2) text) }
 {
+    let HostSpec {
+        catalog,
+        serve: spec,
+        log,
+    } = spec;
+    let spec = &spec;
     if !log {
         let (hosted, resources) = host(alloc, rt, catalog, spec, resources, None);
         return (hosted, resources, notes);

@@ -13,12 +13,12 @@ const FILE: Words = &[
 ];
 
 const TOLD: Row = Row {
-    name: "no fifth call of the disk",
+    name: "no sixth call of the disk",
     words: &["check", "lab/hosts.byname"],
     text: "left",
     read: 4,
     file: FILE,
-    disk: 4,
+    disk: 5,
     output: "lab/hosts.byname order 100 master m1 rows 1 generation 1\n",
     stands: Some((100, 1, false)),
     left: FILE,
@@ -34,9 +34,9 @@ const NOT_LOADED: Row = Row {
     ..TOLD
 };
 
-/// Of the disk there are the sync, the length, the cells and the body, and no fifth call, and of the output the write
-/// and the flush.
-static FAULTS: [Row; 8] = [
+/// Of the disk there are the sync, the length, the cells, what stands before the rows, and the rows, and no sixth call,
+/// and of the output the write and the flush.
+static FAULTS: [Row; 9] = [
     TOLD,
     NOT_LOADED,
     Row {
@@ -50,8 +50,13 @@ static FAULTS: [Row; 8] = [
         ..NOT_LOADED
     },
     Row {
-        name: "no body",
+        name: "nothing before the rows",
         disk: 3,
+        ..NOT_LOADED
+    },
+    Row {
+        name: "no rows",
+        disk: 4,
         ..NOT_LOADED
     },
     Row {

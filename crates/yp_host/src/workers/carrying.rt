@@ -10,17 +10,17 @@ ghost use Rattle.yp_host.specs.inside.workers.Statuses.{HasStatus, IsInstalledAs
 ghost use Rattle.yp_host.specs.inside.workers.Wires.{orders_in, sources_in, IsAgedBy, IsNoted};
 
 use crate::workers::charges::Charges;
-use crate::workers::desk::{SharedDesk, Supplies};
+use crate::workers::desk::Supplies;
 use crate::workers::outcome::{Group, group_of, shared_stat};
-use std::alloc::Global;
+use crate::workers::setting::WorkerSetting;
 use std::random::RandomSource;
-use std::sync::{Mutex, Wait};
+use std::sync::Wait;
 use yp_answer::TransferJob;
 use yp_board::{Tell, View};
 use yp_io::{Clock, Dial, Disk, Peer, Texts};
 use yp_messages::XfrStat;
 use yp_publisher::Origin;
-use yp_publisher::sharing::{Accounts, FetchesFront, Locked, Site, install_shared};
+use yp_publisher::sharing::{Accounts, FetchesFront, Site, install_shared};
 use yp_transfer::{Asker, XfrFault};
 use yp_version::{Order, Version};
 
@@ -28,10 +28,7 @@ use yp_version::{Order, Version};
 /// be told: what that came to, and its status. The desk's lock is held while it is fetched, and again while the caller
 /// is told, which may wait for its port mapper; no look-up takes that lock.
 pub(crate) fn carry_out<S, D, B, A, T, C, R>(
-    alloc: Global,
-    rt: &R,
-    publisher: &Mutex<Locked<S, D, B>>,
-    desk: &Mutex<SharedDesk<S, A, T, C>>,
+    setting: &WorkerSetting<'_, S, D, B, A, T, C, R>,
     reader: &mut B::Reader,
     charges: &mut Charges<S>,
     job: &TransferJob<'_>,
@@ -55,7 +52,7 @@ where
     ensures learned { Learns (B.Reader.seen reader.old) (B.Reader.seen reader.new) }
     ensures charged { ChargesMore (cost_of_transfer result.0) charges.old charges.new }
 {
-    let (group, stat) = fetch_and_install(alloc, rt, publisher, desk, reader, charges, job);
+    let (group, stat) = fetch_and_install(setting, reader, charges, job);
     let addr = peer.addr;
     let asker = Asker {
         addr,
@@ -63,16 +60,13 @@ where
         port: job.port,
         transid: job.transid,
     };
-    desk.lock(rt).tell_back(&asker, stat);
+    setting.desk.lock(&setting.rt).tell_back(&asker, stat);
     (group, stat)
 }
 
 /// Fetches the map of a transfer job and installs it: what that came to, and the status that the caller is told.
 fn fetch_and_install<S, D, B, A, T, C, R>(
-    alloc: Global,
-    rt: &R,
-    publisher: &Mutex<Locked<S, D, B>>,
-    desk: &Mutex<SharedDesk<S, A, T, C>>,
+    setting: &WorkerSetting<'_, S, D, B, A, T, C, R>,
     reader: &mut B::Reader,
     charges: &mut Charges<S>,
     job: &TransferJob<'_>,
@@ -98,18 +92,20 @@ where
     let name = reader.catalog().name(job.map);
     let shown = order_of(reader.held(job.map));
     let mut known = None;
-    let fetched = desk
-        .lock(rt)
-        .fetch(alloc, rt, job.source, name, shown, &mut known, charges);
+    let fetched = setting.desk.lock(&setting.rt).fetch(
+        setting.alloc,
+        &setting.rt,
+        job.source,
+        name,
+        shown,
+        &mut known,
+        charges,
+    );
     let shown = order_of(reader.held(job.map));
     match fetched {
         None => (Group::NoAddress, XfrStat::Maddr),
         Some(Err(fault)) => (failed_group(&fault, shown), fault.stat()),
-        Some(Ok(version)) => {
-            install_for(
-                alloc, rt, publisher, reader, charges, job.map, version, known,
-            )
-        },
+        Some(Ok(version)) => { install_for(setting, reader, charges, job.map, version, known) },
     }
 }
 
@@ -139,10 +135,8 @@ fn failed_group(fault: &XfrFault, shown: Option<Order>) -> Group
 /// Installs a version that was fetched: what that came to, and its status. Where it isn't known to be fetched, that is
 /// as if memory had run out.
 #[tactic(auto, using(crate::proofs::workers::Stating::not_known))]
-fn install_for<S, D, B, R>(
-    alloc: Global,
-    rt: &R,
-    publisher: &Mutex<Locked<S, D, B>>,
+fn install_for<S, D, B, A, T, C, R>(
+    setting: &WorkerSetting<'_, S, D, B, A, T, C, R>,
     reader: &mut B::Reader,
     charges: &mut Charges<S>,
     map: u32,
@@ -153,6 +147,9 @@ where
     S: Site + Accounts + Supplies,
     D: Disk,
     B: Tell,
+    A: Dial,
+    T: Texts,
+    C: Clock,
     R: RandomSource + Wait,
     requires map { map < length S.catalogue.maps }
     requires fetched { 0 < charges.old.versions }
@@ -168,9 +165,9 @@ where
         return (Group::NoMemory, XfrStat::Rsrc);
     };
     let stat = match install_shared(
-        alloc,
-        rt,
-        publisher,
+        setting.alloc,
+        &setting.rt,
+        setting.publisher,
         reader,
         map,
         version,

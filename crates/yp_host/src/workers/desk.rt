@@ -1,10 +1,10 @@
 //! A desk that threads share, under one lock.
 
-ghost use Rattle.std.specs.Prelude.{◌≡◌, ◌⊎◌, ℕ, ◌+◌, ◌<◌, ◌≤◌, ◌↔◌, ◌∷◌, ◌++◌, None, length, option_map, IfSome, IfOk, IfErr};
+ghost use Rattle.std.specs.Prelude.{◌≡◌, ◌⊎◌, ℕ, ◌+◌, ◌<◌, ◌≤◌, ◌↔◌, ◌∷◌, ◌++◌, None, length, IfSome, IfOk, IfErr};
 ghost use Rattle.std.specs.Prelude.{IsNone, [], false};
 ghost use Rattle.std.specs.Option.{option_map_or};
 ghost use Rattle.yp_texts.specs.After.{HasLaterOrder};
-ghost use Rattle.yp_answer.specs.Causes.{IsAnew, task_with};
+ghost use Rattle.yp_answer.specs.Causes.{IsAnew};
 ghost use Rattle.yp_io.specs.Dials.{wires_told};
 ghost use Rattle.yp_transfer.specs.inside.Dials.{dial_by};
 ghost use Rattle.yp_messages.specs.Numbers.{name_max};
@@ -15,6 +15,7 @@ ghost use Rattle.yp_transfer.specs.HostTable.{find};
 ghost use Rattle.yp_host.specs.Locals.{IsUsed, LeavesDial};
 ghost use Rattle.yp_host.specs.inside.Locals.{telling_by};
 ghost use Rattle.yp_host.specs.Anew.{IsUnbuilt};
+ghost use Rattle.yp_host.specs.inside.Anew.{task_view, shown_in};
 ghost use Rattle.yp_host.specs.workers.Desks.{texts_alone};
 ghost use Rattle.yp_host.specs.inside.workers.Desks.{telling_texts, IsSupplied};
 ghost use Rattle.yp_host.specs.inside.workers.Charges.{CoversUnread, unread_in};
@@ -26,18 +27,17 @@ ghost use Rattle.yp_host.specs.workers.Uses.{IsAmong, IsUsedForTransfers};
 ghost use Rattle.yp_host.specs.inside.workers.Uses.{dial_told};
 
 use crate::workers::charges::Charges;
-use crate::{Desk, build_anew};
+use crate::{BuildTask, Desk, build_anew};
 use std::alloc::Global;
 use std::marker::{Brand, Model, PhantomData};
 use std::random::RandomSource;
 use std::sync::ledger::{Book, Ledger, Share};
-use yp_answer::MakeJob;
-use yp_board::{Catalog, MapName};
+use yp_board::MapName;
 use yp_io::{Clock, Dial, Texts};
 use yp_messages::XfrStat;
 use yp_publisher::sharing::{Accounts, FetchedVersions, Fetches, FetchesFront, Site};
 use yp_transfer::laws::fetched_is_one;
-use yp_transfer::{Asker, XfrFault, fetch_from, tell_back};
+use yp_transfer::{Asker, FetchRequest, XfrFault, fetch_from, tell_back};
 use yp_version::{Order, Version};
 
 /// What a desk of a site has, whoever uses it: it never changes; how often its texts and its dial had failed before it
@@ -243,25 +243,19 @@ impl<S: Site + Accounts + Supplies, A: Dial, T: Texts, C: Clock> SharedDesk<S, A
         &mut self,
         alloc: Global,
         rt: &impl RandomSource,
-        catalog: &Catalog,
-        job: MakeJob,
-        netgroups: Option<&Version>,
-        shown: Option<&Version>,
+        task: &BuildTask<'_>,
         charges: &mut Charges<S>,
     ) -> Result<Version, XfrStat>
-        requires { job.map < length catalog.now.maps }
-        ensures anew { IfOk result (IsAnew (texts_alone S.text)
-            (task_with catalog.now job (option_map (λ version. version.now) netgroups.entry)
-            (option_map (λ version. version.now) shown.entry))) }
-        ensures over { IfOk result (HasLaterOrder (option_map (λ version. version.now) shown.entry)) }
+        requires { task.now.job.map < length task.now.catalog.now.maps }
+        ensures anew { IfOk result (IsAnew (texts_alone S.text) (task_view task.now)) }
+        ensures over { IfOk result (HasLaterOrder (shown_in task.now)) }
         ensures unbuilt { IfErr result (λ stat. IsUnbuilt (telling_texts S.text (telling_by T.Texts C.Clock A.Dial))
-            (task_with catalog.now job (option_map (λ version. version.now) netgroups.entry)
-            (option_map (λ version. version.now) shown.entry)) stat self.old self.new) }
+            (task_view task.now) stat self.old self.new) }
         ensures desk { IsUsed (telling_by T.Texts C.Clock A.Dial) self.old self.new }
         ensures dial { LeavesDial (telling_by T.Texts C.Clock A.Dial) self.old self.new }
         ensures charged { charges.new ≡ record charges.old { unread = charges.old.unread + unread_in result } }
     {
-        let built = build_anew(alloc, rt, &mut self.desk, catalog, job, netgroups, shown);
+        let built = build_anew(alloc, rt, &mut self.desk, task);
         self.unread.add(&mut charges.unread, unread_in(&built));
         built
     }
@@ -297,16 +291,19 @@ impl<S: Site + Accounts + Supplies, A: Dial, T: Texts, C: Clock> SharedDesk<S, A
     {
         fetched_is_one();
         self.desk.hosts.find(source)?;
+        let request = FetchRequest {
+            domain: &name.domain,
+            map: &name.map,
+            shown,
+            force: false,
+        };
         let fetched = fetch_from(
             alloc,
             rt,
             &mut self.desk.dial,
             &self.desk.hosts,
             source,
-            &name.domain,
-            &name.map,
-            shown,
-            false,
+            &request,
         );
         self.orders.add(&mut charges.orders, orders_in(&fetched));
         self.sources.add(&mut charges.sources, sources_in(&fetched));

@@ -12,20 +12,20 @@ ghost use Rattle.yp_host.specs.workers.Charges.{no_totals, totals_of, totals_plu
 
 use crate::workers::carrying::{carry_out, order_of};
 use crate::workers::charges::{Account, Charges};
-use crate::workers::desk::{SharedDesk, Supplies};
-use crate::workers::journal::{Event, Journal};
+use crate::workers::desk::Supplies;
+use crate::workers::journal::Event;
 use crate::workers::making::make_shared;
 use crate::workers::outcome::{Outcomes, Totals, files_after, made_after};
-use std::alloc::Global;
+use crate::workers::setting::WorkerSetting;
 use std::marker::Model;
 use std::random::RandomSource;
-use std::sync::{Arc, Mutex, Wait};
+use std::sync::{Arc, Wait};
 use yp_answer::session::Host;
 use yp_answer::{MakeJob, Outcome, TransferJob, make_check, outcome_of};
 use yp_board::{Catalog, Tell, View};
 use yp_io::{Clock, Dial, Disk, NoMemory, Peer, Texts};
 use yp_messages::XfrStat;
-use yp_publisher::sharing::{Accounts, Locked, Site, tell_shared};
+use yp_publisher::sharing::{Accounts, Site, tell_shared};
 use yp_version::Version;
 use yp_worker::{CatchUp, HandsOver};
 
@@ -45,13 +45,9 @@ pub struct WorkerHost<
     R: RandomSource + Wait,
 > {
     reader: B::Reader,
-    publisher: &'a Mutex<Locked<S, D, B>>,
-    desk: &'a Mutex<SharedDesk<S, A, T, C>>,
+    setting: WorkerSetting<'a, S, D, B, A, T, C, R>,
     totals: Totals,
     charges: Charges<S>,
-    journal: Option<&'a Mutex<Journal>>,
-    alloc: Global,
-    rt: R,
 }
 
 impl<
@@ -93,17 +89,12 @@ impl<
     C: Clock,
     R: RandomSource + Wait,
 > WorkerHost<'a, S, D, B, A, T, C, R> {
-    /// A host with this reader of the maps of its site, which is charged by these, and tells the journal what it does,
-    /// where there is one. What it builds has to be what the site says of a built version. Its memory is taken by
-    /// `alloc`, the tables of its builds are made with the randomness of `rt`, and it waits for the locks by that.
+    /// A host with this reader of the maps of its site, which is charged by these. What it builds has to be what the
+    /// site says of a built version.
     pub fn new(
-        alloc: Global,
-        rt: R,
+        setting: WorkerSetting<'a, S, D, B, A, T, C, R>,
         reader: B::Reader,
-        publisher: &'a Mutex<Locked<S, D, B>>,
-        desk: &'a Mutex<SharedDesk<S, A, T, C>>,
         charges: Charges<S>,
-        journal: Option<&'a Mutex<Journal>>,
     ) -> WorkerHost<'a, S, D, B, A, T, C, R>
         requires catalogue { (B.Reader.seen reader).catalogue ≡ S.catalogue }
         requires builds { SiteBuilds S.text S.catalogue S.built }
@@ -117,13 +108,9 @@ impl<
     {
         WorkerHost {
             reader,
-            publisher,
-            desk,
+            setting,
             totals: Totals::none(),
             charges,
-            journal,
-            alloc,
-            rt,
         }
     }
 
@@ -135,13 +122,9 @@ impl<
     {
         let WorkerHost {
             reader,
-            publisher: _,
-            desk: _,
+            setting: _,
             totals: _,
             charges: _,
-            journal: _,
-            alloc: _,
-            rt: _,
         } = self;
         reader
     }
@@ -159,13 +142,14 @@ impl<
         ensures same { self.new ≡ record self.old { reader = self.new.reader } }
         ensures refused { OnErr result (self.new ≡ self.old) }
     {
-        tell_shared(&self.rt, self.publisher, &mut self.reader)
+        let setting = &self.setting;
+        tell_shared(&setting.rt, setting.publisher, &mut self.reader)
     }
 
     /// Tells what happened, where there is a journal.
     fn tell(&self, event: Event) {
-        if let Some(journal) = self.journal {
-            journal.lock(&self.rt).push(event);
+        if let Some(journal) = self.setting.journal {
+            journal.lock(&self.setting.rt).push(event);
         }
     }
 
@@ -264,11 +248,9 @@ impl<
     ghost made = { WorkerMakesMap B.Reader.seen S.text };
 
     fn make(&mut self, job: MakeJob) -> XfrStat {
-        let mut desk = self.desk.lock(&self.rt);
+        let mut desk = self.setting.desk.lock(&self.setting.rt);
         let stat = make_shared(
-            self.alloc,
-            &self.rt,
-            self.publisher,
+            &self.setting,
             &mut *desk,
             &mut self.reader,
             &mut self.charges,
@@ -283,10 +265,7 @@ impl<
 
     fn transfer(&mut self, job: &TransferJob<'_>, peer: Peer) {
         let (group, stat) = carry_out(
-            self.alloc,
-            &self.rt,
-            self.publisher,
-            self.desk,
+            &self.setting,
             &mut self.reader,
             &mut self.charges,
             job,
@@ -298,7 +277,7 @@ impl<
     }
 
     fn replied(&self, peer: Peer, message: &[u8], reply: &[u8]) {
-        if self.journal.is_none() {
+        if self.setting.journal.is_none() {
             return;
         }
         if let Some(outcome) = outcome_of(message, reply)

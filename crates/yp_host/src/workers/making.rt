@@ -10,27 +10,26 @@ ghost use Rattle.yp_host.specs.workers.Makings.{IsMadeSo};
 ghost use Rattle.yp_host.specs.inside.workers.Makings.{SiteBuilds, IsOvertaken};
 ghost use Rattle.yp_host.specs.inside.workers.Charges.{ChargesMore, cost_of_make, no_cost};
 
+use crate::BuildTask;
 use crate::workers::charges::Charges;
 use crate::workers::desk::{SharedDesk, Supplies};
 use crate::workers::outcome::shared_stat;
-use std::alloc::Global;
+use crate::workers::setting::WorkerSetting;
 use std::random::RandomSource;
-use std::sync::{Mutex, Wait};
+use std::sync::Wait;
 use yp_answer::MakeJob;
 use yp_board::{Tell, View};
 use yp_io::{Clock, Dial, Disk, NoMemory, Texts};
 use yp_messages::XfrStat;
 use yp_publisher::Origin;
-use yp_publisher::sharing::{Accounts, Locked, Site, install_shared, tell_shared};
+use yp_publisher::sharing::{Accounts, Site, install_shared, tell_shared};
 use yp_texts::laws::built_is_built_behind;
 use yp_version::Version;
 
 /// Makes a map anew, behind all that was shown, and lets the reader know it. Where another version of the map is shown
 /// meanwhile, it is built again behind that, so the orders of the map rise with each round.
 pub(crate) fn make_shared<S, D, B, A, T, C, R>(
-    alloc: Global,
-    rt: &R,
-    publisher: &Mutex<Locked<S, D, B>>,
+    setting: &WorkerSetting<'_, S, D, B, A, T, C, R>,
     desk: &mut SharedDesk<S, A, T, C>,
     reader: &mut B::Reader,
     charges: &mut Charges<S>,
@@ -53,11 +52,11 @@ where
     ensures learned { Learns (B.Reader.seen reader.old) (B.Reader.seen reader.new) }
     ensures charged { ChargesMore (cost_of_make result) charges.old charges.new }
 {
-    if let Err(NoMemory) = tell_shared(rt, publisher, reader) {
+    if let Err(NoMemory) = tell_shared(&setting.rt, setting.publisher, reader) {
         return XfrStat::Rsrc;
     }
     'rounds: loop {
-        if let Some(stat) = make_behind(alloc, rt, publisher, desk, reader, charges, job) {
+        if let Some(stat) = make_behind(setting, desk, reader, charges, job) {
             return stat;
         }
     }
@@ -66,9 +65,7 @@ where
 /// Builds a map behind what the reader knows, and installs it. Where another version of the map was shown meanwhile,
 /// which isn't lower, there is no status, and the reader knows that version.
 fn make_behind<S, D, B, A, T, C, R>(
-    alloc: Global,
-    rt: &R,
-    publisher: &Mutex<Locked<S, D, B>>,
+    setting: &WorkerSetting<'_, S, D, B, A, T, C, R>,
     desk: &mut SharedDesk<S, A, T, C>,
     reader: &mut B::Reader,
     charges: &mut Charges<S>,
@@ -95,16 +92,22 @@ where
 {
     let shown = reader.held(job.map);
     let netgroups = netgroups(reader, job);
-    let version = match desk.build(alloc, rt, reader.catalog(), job, netgroups, shown, charges) {
+    let task = BuildTask {
+        catalog: reader.catalog(),
+        job,
+        netgroups,
+        shown,
+    };
+    let version = match desk.build(setting.alloc, &setting.rt, &task, charges) {
         Ok(version) => version,
         Err(stat) => return Some(stat),
     };
     let _order = version.order();
     built_is_built_behind();
     match install_shared(
-        alloc,
-        rt,
-        publisher,
+        setting.alloc,
+        &setting.rt,
+        setting.publisher,
         reader,
         job.map,
         version,

@@ -21,8 +21,8 @@ use Rattle.yp_publisher.specs.Opens.{Opens}
 use Rattle.yp_publisher.specs.Rising.{PublisherState, publisher_state}
 use Rattle.yp_publisher.specs.Grown.{Making, AreMade, GrowsBy, IsOfBetween, IsBehindMade, LeavesOr}
 use Rattle.yp_publisher.specs.inside.Rising.{IsStart}
-use Rattle.yp_publisher.specs.inside.Leaving.{weaker, left_alone, both_leave_or, told_before, opt_one, opt_both, same_places}
-use Rattle.yp_publisher.specs.inside.Passing.{front_none, front_then, Respects, Sound, Passes, grows_none, grows_then, wider, passes_none, passes_then, stays_on, opens_on, offers_on}
+use Rattle.yp_publisher.proofs.Leaving.{weaker, left_alone, both_leave_or, told_before, opt_one, opt_both, same_places}
+use Rattle.yp_publisher.proofs.Passing.{front_none, front_then, Respects, Sound, Passes, grows_none, grows_then, wider, passes_none, passes_then, stays_on, opens_on, offers_on}
 use Rattle.yp_publisher.specs.declared.sharing.locked.ShareFault.{ShareFault}
 use Rattle.yp_publisher.specs.declared.sharing.locked.ShareFault.TheVariants.{Shut, Unfit, Untold}
 use Rattle.yp_publisher.specs.sharing.Failures.{disks_of}

@@ -1,6 +1,6 @@
 //! The log of the versions that were fetched for a site, as the history of a book (`logbook`). It exists for contracts
-//! alone: what runs is one word, which counts. Whoever fetches has the log, and gives a front of it to whoever installs a
-//! version, which shows that it was fetched.
+//! alone: what runs is one word, which counts. Whoever fetches has the log, and gives a front of it to whoever installs
+//! a version, which shows that it was fetched.
 
 ghost use Rattle.std.specs.Prelude.{◌≡◌, ◌+◌, ◌-◌, ◌^◌, ◌<◌, ◌≤◌, [], ◌∷◌, ◌++◌, length};
 ghost use Rattle.std.specs.Prelude.{IfSome, MatchBool, if◌then◌else◌};

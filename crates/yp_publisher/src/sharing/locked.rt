@@ -52,8 +52,8 @@ impl Site for Brand {
 }
 
 /// How a site stood before its publisher was shared, what its disks told and how often they had failed, the ledgers of
-/// what is counted since then, and the log of what is fetched since then. Each call of a program that shares a publisher
-/// picks it.
+/// what is counted since then, and the log of what is fetched since then. Each call of a program that shares a
+/// publisher picks it.
 pub trait Accounts {
     ghost use Rattle.std.specs.Prelude.{ℕ, List, Option};
     ghost use Rattle.logbook.specs.Pages.{Book};
@@ -163,8 +163,8 @@ pub enum ShareFault {
 }
 
 /// A publisher of the maps that are served, for a lock to keep, with the books of the files that failed and of the
-/// built versions that were shown since it is shared, with what stands for the fetched versions that were installed, and
-/// with a front of the log of fetched versions that has them. It is seen as that publisher.
+/// built versions that were shown since it is shared, with what stands for the fetched versions that were installed,
+/// and with a front of the log of fetched versions that has them. It is seen as that publisher.
 #[derive(Drop)]
 pub struct Locked<S: Site + Accounts, D: Disk, B: Show> {
     publisher: Publisher<D, B>,

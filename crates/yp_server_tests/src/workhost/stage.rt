@@ -24,7 +24,7 @@ use yp_board::{Catalog, Tell, View};
 use yp_host::Desk;
 use yp_host::workers::{
     Account, Charges, FailedSources, ReachedOrders, SharedDesk, Supplies, Totals, UnreadTexts,
-    WorkerHost,
+    WorkerHost, WorkerSetting,
 };
 use yp_io::{Peer, Texts};
 use yp_memory::{MemDial, MemDisk, SetClock};
@@ -174,8 +174,22 @@ fn meet<
     let mut charges = charges;
     let (one, other) = (charges.split_off(), charges.split_off());
     let front = Writer::<J, &'r R>::known(&readers.0);
-    let mut first = WorkerHost::new(alloc, rt, readers.0, maps, tools, one, None);
-    let mut second = WorkerHost::new(alloc, rt, readers.1, maps, tools, other, None);
+    let setting = WorkerSetting {
+        alloc,
+        rt,
+        publisher: maps,
+        desk: tools,
+        journal: None,
+    };
+    let mut first = WorkerHost::new(setting, readers.0, one);
+    let setting = WorkerSetting {
+        alloc,
+        rt,
+        publisher: maps,
+        desk: tools,
+        journal: None,
+    };
+    let mut second = WorkerHost::new(setting, readers.1, other);
     let mut account = Account::new(charges, front);
     let came = play(rt, alloc, &mut first, &mut second, script);
     first.hand_over(&mut account);

@@ -3,12 +3,13 @@
 ghost use Rattle.std.specs.Prelude.{◌≡◌, ◌≤◌, length, take};
 ghost use Rattle.yp_messages.specs.Numbers.{name_max};
 ghost use Rattle.yp_rpc.specs.Turns.{datagram_max};
-ghost use Rattle.yp_transfer.specs.Fetching.{wanted_of};
+ghost use Rattle.yp_transfer.specs.inside.Requests.{wanted_by};
 ghost use Rattle.yp_transfer.specs.walk.Standings.{IsAsking};
 ghost use Rattle.yp_transfer.specs.walk.Schedules.{outstanding, Hears, AddsDelivery, answers, is_awaited, told};
 ghost use Rattle.yp_transfer.specs.inside.walk.Walks.{WalkIsBegun, map_call, WalkIsDone, WalkGoesOn, WalkGivesVersion};
 
 use crate::XfrFault;
+use crate::requests::FetchRequest;
 use crate::walk::stage::{WalkRequest, WalkStage};
 use crate::walk::state_after::state_after;
 use crate::walk::walked::Walked;
@@ -21,7 +22,7 @@ use yp_io::{NoMemory, Peer};
 use yp_messages::protocol::{FIRST, MASTER, NEXT, ORDER, YPPROG, YPVERS};
 use yp_messages::{ReqKey, ReqNokey};
 use yp_rpc::protocol::REPLY;
-use yp_version::{Order, Version};
+use yp_version::Version;
 use yp_xdr::Cursor;
 
 /// A map of a domain that is fetched row by row from a source that serves datagrams. It has one builder and one
@@ -72,25 +73,19 @@ fn answers(mail: &[u8], xid: u32) -> bool
 impl Walk {
     /// A walk over a map of a domain at a source, of which nothing was asked. A name that is empty is refused.
     ///
-    /// `shown` is the order of the version that is shown, if one is; unless it is forced, an order that isn't over that
-    /// is refused by the first reply.
-    pub fn new(
-        alloc: Global,
-        source: Peer,
-        domain: &[u8],
-        map: &[u8],
-        shown: Option<Order>,
-        force: bool,
-    ) -> Result<Walk, XfrFault>
-        requires domain { length domain.now ≤ name_max }
-        requires map { length map.now ≤ name_max }
-        ensures { WalkIsBegun source (wanted_of domain.now map.now shown force) result }
+    /// Unless it is forced, an order that isn't over the one that is shown is refused by the first reply.
+    pub fn new(alloc: Global, source: Peer, request: &FetchRequest<'_>) -> Result<Walk, XfrFault>
+        requires domain { length request.now.domain.now ≤ name_max }
+        requires map { length request.now.map.now ≤ name_max }
+        ensures { WalkIsBegun source (wanted_by request.now) result }
     {
-        if domain.is_empty() || map.is_empty() {
+        if request.domain.is_empty() || request.map.is_empty() {
             return Err(XfrFault::Badargs);
         }
-        let (Ok(domain), Ok(map)) = (Vec::from_slice(alloc, domain), Vec::from_slice(alloc, map))
-        else {
+        let (Ok(domain), Ok(map)) = (
+            Vec::from_slice(alloc, request.domain),
+            Vec::from_slice(alloc, request.map),
+        ) else {
             return Err(XfrFault::NoMemory);
         };
         Ok(Walk {
@@ -99,8 +94,8 @@ impl Walk {
                 alloc,
                 domain,
                 map,
-                shown,
-                force,
+                shown: request.shown,
+                force: request.force,
             },
             xid: 1,
             stage: WalkStage::Order,

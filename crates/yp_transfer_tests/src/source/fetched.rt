@@ -10,7 +10,7 @@ use std::random::RandomSource;
 use yp_client::Client;
 use yp_io::Pair;
 use yp_memory::{MemSink, MemSource};
-use yp_transfer::XfrFault;
+use yp_transfer::{FetchRequest, XfrFault};
 
 // What a server replies to ORDER, MASTER, ALL and ORDER, where it shows order 100 of the master `m1` and the row
 // `alpha`.
@@ -33,7 +33,13 @@ fn fetch_over<R: RandomSource + Abort>(
         sink: MemSink::new(alloc, 16, Vec::new(alloc)),
     };
     let mut client = Client::new(alloc, wire, 1).ok().expect(rt, "a client");
-    let fetched = fetch_from_server(alloc, rt, &mut client, b"lab", b"hosts.byname", None, false);
+    let request = FetchRequest {
+        domain: b"lab",
+        map: b"hosts.byname",
+        shown: None,
+        force: false,
+    };
+    let fetched = fetch_from_server(alloc, rt, &mut client, &request);
     match fetched {
         Ok(version) => Ok((version.order().number(), version.len())),
         Err(fault) => Err(fault),

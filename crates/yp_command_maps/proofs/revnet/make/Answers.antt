@@ -6,6 +6,7 @@ use Rattle.yp_command_maps.proofs.revnet.make.Goals as goal
 pub returns-in_err-order-clause-unmade : goal.returns-in_err-order-clause-unmade
 returns-in_err-order-clause-unmade g c =
     let rows = c.args.netgroup.now.rows in
+    let reversal = c.args.reversal.now in
     err_same c.from_residual.result c.in_err-order.field-0.0
-    (IsUnmade c.args.name.now c.args.field c.args.now (last_view c.args.last) rows) c.from_residual.ensures.1
-    (c.in_err-order.ensures.unmade c.args.field rows)
+    (IsUnmade reversal.name.now reversal.field reversal.moment (last_view c.args.last) rows) c.from_residual.ensures.1
+    (c.in_err-order.ensures.unmade rows)

@@ -16,16 +16,16 @@ returns-clause-does g c =
     let did = c.session_on-status in
     let old = c.args.office in
     let hosts = c.args.hosts in
-    let desk = did.result.1 in
-    let new : Office g.row.S.Denot g.row.K.Denot g.row.D.Denot g.row.C.Denot g.row.A.Denot g.row.I.Denot g.row.T.Denot = record { wire = did.new.wire; disks = did.new.disks; clock = desk.clock; dial = desk.dial; inbox = old.inbox; texts = desk.texts } in
+    let desk = did.result.1.desk in
+    let new : Office g.row.S.Denot g.row.K.Denot g.row.D.Denot g.row.C.Denot g.row.A.Denot g.row.I.Denot g.row.T.Denot = record { wire = did.new.wire; disks = did.result.1.disks; clock = desk.clock; dial = desk.dial; inbox = old.inbox; texts = desk.texts } in
     let after : HostList → Connection g.row.D.Denot (Desk g.row.A.Denot g.row.T.Denot g.row.C.Denot) = λ h. connection seen h new in
-    let sessions = subst (λ (h : HostList). SeesMore (g.W.Witness.wires c.args.witness.now) (g.W.Witness.wires did.new.witness) (Sessions (service seen c.args.own.items c.args.peer (map name_view c.args.stores.items)) did.result.0 (connection seen hosts old) (after h))) did.ensures.hosts did.ensures.sessions in
+    let sessions = subst (λ (h : HostList). SeesMore (g.W.Witness.wires c.args.witness.now) (g.W.Witness.wires did.new.witness) (Sessions (service seen c.args.spec.own.items c.args.spec.peer (map name_view c.args.spec.stores.items)) did.result.0 (connection seen hosts old) (after h))) did.ensures.hosts did.ensures.sessions in
     record {
       serves = sessions;
       bound = did.ensures.bound;
       complete = λ sound disks stream messages rest told cut reads writes.
           session_completes (record { one = c.cut_is_one.ensures; front = c.first_is_one.ensures; rest = c.rest_is_not_whole.ensures })
-          (service seen c.args.own.items c.args.peer (map name_view c.args.stores.items)) (connection seen hosts old)
+          (service seen c.args.spec.own.items c.args.spec.peer (map name_view c.args.spec.stores.items)) (connection seen hosts old)
           (connection seen hosts new)
           sessions.more old.disks.items stream messages rest told cut refl sound did.result.0 sessions.done
           (λ e. reads (did.ensures.read_fault e)) (λ e. writes (did.ensures.write_fault e)) (λ store e. disks (did.ensures.disk_fault store e));

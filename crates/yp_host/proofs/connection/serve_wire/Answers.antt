@@ -29,7 +29,7 @@ returns-clause-count g c = count_of g.D.Disk.history g.D.Disk.faults c.args.reso
 pub returns-in-Ok-open_publisher : goal.returns-in-Ok-open_publisher
 returns-in-Ok-open_publisher g c =
     let wire = wire_of g.S.Source g.K.Sink in
-    let service = service_of (keeping_of g.D.Disk.history g.D.Disk.faults plain_log) (telling_by g.T.Texts g.C.Clock g.A.Dial) c.args.catalog c.args.peer in
+    let service = service_of (keeping_of g.D.Disk.history g.D.Disk.faults plain_log) (telling_by g.T.Texts g.C.Clock g.A.Dial) c.args.spec.catalog c.args.spec.peer in
     let old = connection_of (wire c.args.wire.now) c.args.resources in
     let new = connection_of (wire c.run-end.new.wire) c.stock_of.result in
     let start = c.new-host.result in

@@ -1,4 +1,4 @@
-use Rattle.yp_publisher.specs.inside.Growing.{opened_front}
+use Rattle.yp_publisher.proofs.Growing.{opened_front}
 use Rattle.yp_host.proofs.steps.reopen.Goals as goal
 
 pub returns-in-Ok-clause-grown : goal.returns-in-Ok-clause-grown

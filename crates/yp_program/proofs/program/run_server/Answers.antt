@@ -20,12 +20,12 @@ returns-clause-does g c =
     let does = did.ensures.does in (
       does.0,
       same_served seen did.result.0 (serve_job_view c.args.job) does.0 (office_of outside) begun.result.0
-          (office_of end.result) did.result.1 (tells (doors_of outside)) (tells begun.result.2) (tells (doors_of end.result))
-          (tells did.result.2) (sym begun.ensures.office) end.ensures.office (sym (ap tells begun.ensures.doors))
+          (office_of end.result) did.result.1.office (tells (doors_of outside)) (tells begun.result.2) (tells (doors_of end.result))
+          (tells did.result.1.doors) (sym begun.ensures.office) end.ensures.office (sym (ap tells begun.ensures.doors))
           (ap tells end.ensures.doors) does.1,
       subst (λ (notes : g.row.K.Denot). IsNoted (faults notes) (faults end.result.notes) (output notes)
           (output end.result.notes) does.0 did.result.0) begun.ensures.notes
-          (noted did.result.0 does.0 (output begun.result.1) (output did.result.3) (output end.result.notes)
-          (faults begun.result.1) (faults did.result.3) (faults end.result.notes) did.ensures.never_falls
+          (noted did.result.0 does.0 (output begun.result.1) (output did.result.1.notes) (output end.result.notes)
+          (faults begun.result.1) (faults did.result.1.notes) (faults end.result.notes) did.ensures.never_falls
           end.ensures.never_falls does.2 end.ensures.note),
     )

@@ -9,8 +9,8 @@ abbrev pub no_version : MapVersion
 no_version = unmarked 0 [] []
 
 -- The first word of a book counts its words. Of those, the first two are at home, and one more for each version of the
--- log. So a version comes with the first word that isn't at home, and only whoever has the pen of that one makes the log
--- longer.
+-- log. So a version comes with the first word that isn't at home, and only whoever has the pen of that one makes the
+-- log longer.
 pub record IsCounted (cells : List Cell) (log : FetchLog) : Type 0 where
   pub count : cell cells 0 ≡ (length cells, true)
   pub home : (key : ℕ) → 0 < key → key < length cells → (cell cells key).1 ≡ nat_lt key (length log + 2)

@@ -1,4 +1,4 @@
-use Rattle.std.proofs.Common.{map, sym, subst, ◌<◌, arith}
+use Rattle.std.proofs.Common.{arith}
 use Rattle.std.proofs.lemmas.List.{length-map}
 use Rattle.yp_rpc.specs.inside.Turns.{box_by}
 use Rattle.yp_server.proofs.Fronts.{starts_in, served_of}

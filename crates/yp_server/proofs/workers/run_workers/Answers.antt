@@ -13,7 +13,7 @@ use Rattle.yp_worker.specs.datagrams.Queues.{weigh}
 use Rattle.yp_server.specs.Counting.{EachCounts}
 use Rattle.yp_server.specs.inside.Counting.{BeginsMail}
 use Rattle.yp_server.specs.inside.Handing.{Handed, left_by, carried_by}
-use Rattle.yp_server.specs.inside.Workers.{AnswersDatagrams, workers_of, mails_in, held_in}
+use Rattle.yp_server.specs.inside.Workers.{AnswersDatagrams}
 use Rattle.yp_server.specs.inside.Serving.{before_work, after_work}
 use Rattle.yp_server.proofs.Fronts.{front_then, fronts_then, each_mailed, queues, parts_are, some_fails}
 use Rattle.yp_server.proofs.Handing.{rec_reverse}

@@ -17,8 +17,8 @@ returns-in-Ok-walk_inbox-clause-moves g c =
     let job = xfr_job_view c.args.job.now.xfr in
     let before = box_by g.I.Inbox c.args.inbox.now in
     let after = box_by g.I.Inbox c.walk_inbox.new.inbox in
-    (c.store_came.ensures.moves c.args.disks.items before after c.requires.only
-    (subst (λ (served : Catalogue). BeginsLevel g.D.Disk.history g.D.Disk.faults served c.args.disks.items
+    (c.store_came.ensures.moves c.args.only.disks.items before after c.requires.only
+    (subst (λ (served : Catalogue). BeginsLevel g.D.Disk.history g.D.Disk.faults served c.args.only.disks.items
     c.in-Ok.publisher) c.requires.catalogue c.in-Ok.ensures.begun)
     (subst (λ (o : Option ℕ). WalksTo job.host.1 (wanted_of job.store.0 job.store.1 o job.force)
     c.args.job.now.turns c.in-Ok-walk_inbox.came before after) c.shown_order-shown.ensures
@@ -29,8 +29,8 @@ returns-in-Ok-walk_inbox-clause-only g c =
     let job = xfr_job_view c.args.job.now.xfr in
     let before = box_by g.I.Inbox c.args.inbox.now in
     let after = box_by g.I.Inbox c.walk_inbox.new.inbox in
-    (c.store_came.ensures.moves c.args.disks.items before after c.requires.only
-    (subst (λ (served : Catalogue). BeginsLevel g.D.Disk.history g.D.Disk.faults served c.args.disks.items
+    (c.store_came.ensures.moves c.args.only.disks.items before after c.requires.only
+    (subst (λ (served : Catalogue). BeginsLevel g.D.Disk.history g.D.Disk.faults served c.args.only.disks.items
     c.in-Ok.publisher) c.requires.catalogue c.in-Ok.ensures.begun)
     (subst (λ (o : Option ℕ). WalksTo job.host.1 (wanted_of job.store.0 job.store.1 o job.force)
     c.args.job.now.turns c.in-Ok-walk_inbox.came before after) c.shown_order-shown.ensures
@@ -42,18 +42,18 @@ returns-in-Err-walk_inbox-clause-moves g c =
     let turns = c.args.job.now.turns in
     let before = box_by g.I.Inbox c.args.inbox.now in
     let after = box_by g.I.Inbox c.walk_inbox.new.inbox in
-    let h = only_history g.D.Disk.history c.args.disks.items in
+    let h = only_history g.D.Disk.history c.args.only.disks.items in
     let h' = only_history g.D.Disk.history c.hand_back.result.items in
-    let f = total_faults g.D.Disk.faults c.args.disks.items in
+    let f = total_faults g.D.Disk.faults c.args.only.disks.items in
     let f' = total_faults g.D.Disk.faults c.hand_back.result.items in
-    let kept = c.hand_back.ensures job c.args.disks.items c.requires.only
-    (subst (λ (served : Catalogue). BeginsLevel g.D.Disk.history g.D.Disk.faults served c.args.disks.items
+    let kept = c.hand_back.ensures job c.args.only.disks.items c.requires.only
+    (subst (λ (served : Catalogue). BeginsLevel g.D.Disk.history g.D.Disk.faults served c.args.only.disks.items
     c.in-Ok.publisher) c.requires.catalogue c.in-Ok.ensures.begun) in
     subst (λ (why : WalkStop). Moved job turns (Err why) before after h h' f f') (sym c.into.ensures)
     (moved_unbegun job turns before after (shown 0 c.in-Ok.publisher.board.known) h h' f f' kept.0)
 
 pub returns-in-Err-walk_inbox-clause-only : goal.returns-in-Err-walk_inbox-clause-only
 returns-in-Err-walk_inbox-clause-only g c =
-    (c.hand_back.ensures (xfr_job_view c.args.job.now.xfr) c.args.disks.items c.requires.only
-    (subst (λ (served : Catalogue). BeginsLevel g.D.Disk.history g.D.Disk.faults served c.args.disks.items
+    (c.hand_back.ensures (xfr_job_view c.args.job.now.xfr) c.args.only.disks.items c.requires.only
+    (subst (λ (served : Catalogue). BeginsLevel g.D.Disk.history g.D.Disk.faults served c.args.only.disks.items
     c.in-Ok.publisher) c.requires.catalogue c.in-Ok.ensures.begun)).1

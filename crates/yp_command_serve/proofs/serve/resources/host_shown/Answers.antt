@@ -25,7 +25,7 @@ use Rattle.yp_command_serve.proofs.serve.resources.host_shown.Goals as goal
 pub board-requires-clause-starts : goal.board-requires-clause-starts
 board-requires-clause-starts g c =
     sym (length-map c.args.starting.versions.items (option_map arc_value)) ∙ ap length c.requires.start
-    ∙ length-map c.args.loaded (λ (k : StoredMap g.row.D.Denot). k.version) ∙ c.requires.count
+    ∙ length-map c.args.resources.loaded (λ (k : StoredMap g.row.D.Denot). k.version) ∙ c.requires.count
     ∙ sym (ap (λ (served : Catalogue). length served.maps) c.requires.copy)
 
 pub publisher_of-publisher-requires-clause-log : goal.publisher_of-publisher-requires-clause-log
@@ -56,13 +56,13 @@ returns-in-Ok-serve-clause-hosted g c =
     let tells = dial_by g.A.Dial in
     let given = supply_of (g.T.Texts.faults c.shared-desk.result.texts) (tells c.shared-desk.result.dial) in
     let left = supply_of (g.T.Texts.faults c.in-Ok-serve.served.desk.texts) (tells c.in-Ok-serve.served.desk.dial) in
-    served_as g.D.Disk.history g.D.Disk.faults c.args.loaded _ _ _
-    (server_tells (here c.args.listen) (letters c.args.inboxes.items) given)
+    served_as g.D.Disk.history g.D.Disk.faults c.args.resources.loaded _ _ _
+    (server_tells (here c.args.resources.listen) (letters c.args.resources.inboxes.items) given)
     (server_tells (here c.in-Ok-serve.served.listen) (letters c.in-Ok-serve.served.inboxes.items) left)
     c.in-Ok-serve.served.disks.items c.in-Ok-serve.served.writer.log
-    c.args.spec.now.turns c.args.catalog c.publisher_of-publisher.result.catalogue _ _ _ _
+    c.args.spec.now.turns c.args.resources.catalog c.publisher_of-publisher.result.catalogue _ _ _ _
     (publisher_state (λ (w : Written). w.log) c.publisher_of-publisher.result) c.args.spec.now.most
-    (ap (λ (d : Desk g.row.A.Denot g.row.T.Denot g.row.C.Denot). server_tells (here c.args.listen) (letters c.args.inboxes.items)
+    (ap (λ (d : Desk g.row.A.Denot g.row.T.Denot g.row.C.Denot). server_tells (here c.args.resources.listen) (letters c.args.resources.inboxes.items)
     (supply_of (g.T.Texts.faults d.texts) (tells d.dial))) c.shared-desk.ensures)
     (ap (λ (d : Desk g.row.A.Denot g.row.T.Denot g.row.C.Denot). server_tells (here c.in-Ok-serve.served.listen)
     (letters c.in-Ok-serve.served.inboxes.items)
@@ -70,7 +70,7 @@ returns-in-Ok-serve-clause-hosted g c =
     (ap (λ (p : Published g.row.D.Denot Written). p.catalogue) made.publisher)
     (ap (λ (d : Desk g.row.A.Denot g.row.T.Denot g.row.C.Denot). g.T.Texts.text d.texts) c.shared-desk.ensures)
     (ap (λ (d : Desk g.row.A.Denot g.row.T.Denot g.row.C.Denot). d.hosts) c.shared-desk.ensures)
-    (first_as c.publisher_of-publisher.result c.args.catalog c.args.loaded c.in-Ok.writer made.publisher
+    (first_as c.publisher_of-publisher.result c.args.resources.catalog c.args.resources.loaded c.in-Ok.writer made.publisher
     (ap (λ (w : Written). w.log) c.in-Ok.ensures.writer
     ∙ ap (λ (l : List (Option MapVersion)). starts 0 l) c.requires.start))
     c.requires.most (
@@ -108,7 +108,7 @@ returns-in-Ok-serve-clause-count g c =
 pub returns-in-Ok-serve-clause-inboxes : goal.returns-in-Ok-serve-clause-inboxes
 returns-in-Ok-serve-clause-inboxes g c =
     let box = box_by g.I.Inbox in
-    let long = served_long _ _ _ _ _ _ _ (map box c.args.inboxes.items) (map box c.in-Ok-serve.served.inboxes.items) c.in-Ok-serve.ensures.datagrams in
-    let old = length-map c.args.inboxes.items box in
+    let long = served_long _ _ _ _ _ _ _ (map box c.args.resources.inboxes.items) (map box c.in-Ok-serve.served.inboxes.items) c.in-Ok-serve.ensures.datagrams in
+    let old = length-map c.args.resources.inboxes.items box in
     let new = length-map c.in-Ok-serve.served.inboxes.items box in
     omega (arith, long, old, new)

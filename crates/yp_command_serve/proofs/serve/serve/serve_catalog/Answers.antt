@@ -25,10 +25,10 @@ returns-then-is_err-clause-does g c = (
   [],
   λ connections.
       nothing_done (seeing g.S.Source g.K.Sink g.D.Disk g.C.Clock g.A.Dial g.I.Inbox g.T.Texts)
-      (serve_job_of c.args.catalog.own connections c.args.spec.now.turns c.args.catalog.maps c.args.hosts c.args.log)
-      c.args.office (doors_by g.L.Hall g.I.Inbox c.args.doors) (doors_by g.L.Hall g.I.Inbox (record { listen = c.args.doors.listen; more = c.reserve.new.self }))
-      (ap (λ (l : List g.row.I.Denot). record { listen = opening_by g.L.Hall c.args.doors.listen; more = map (end_by g.I.Inbox) l }) c.reserve.ensures.items),
-  λ fine. Appends-nil (g.N.Sink.output c.args.notes),
+      (serve_job_of c.args.spec.catalog.own connections c.args.spec.serve.turns c.args.spec.catalog.maps c.args.hosts c.args.spec.log)
+      c.args.outside.office (doors_by g.L.Hall g.I.Inbox c.args.outside.doors) (doors_by g.L.Hall g.I.Inbox (record { listen = c.args.outside.doors.listen; more = c.reserve.new.self }))
+      (ap (λ (l : List g.row.I.Denot). record { listen = opening_by g.L.Hall c.args.outside.doors.listen; more = map (end_by g.I.Inbox) l }) c.reserve.ensures.items),
+  λ fine. Appends-nil (g.N.Sink.output c.args.outside.notes),
 )
 
 pub returns-in-Err-clause-does : goal.returns-in-Err-clause-does
@@ -36,10 +36,10 @@ returns-in-Err-clause-does g c = (
   [],
   λ connections. rw c.in-Err.ensures.err
       (nothing_done (seeing g.S.Source g.K.Sink g.D.Disk g.C.Clock g.A.Dial g.I.Inbox g.T.Texts)
-      (serve_job_of c.args.catalog.own connections c.args.spec.now.turns c.args.catalog.maps c.args.hosts c.args.log)
-      c.args.office (doors_by g.L.Hall g.I.Inbox c.args.doors) (doors_by g.L.Hall g.I.Inbox (record { listen = c.args.doors.listen; more = c.reserve.new.self }))
-      (ap (λ (l : List g.row.I.Denot). record { listen = opening_by g.L.Hall c.args.doors.listen; more = map (end_by g.I.Inbox) l }) c.reserve.ensures.items)),
-  λ fine. Appends-nil (g.N.Sink.output c.args.notes),
+      (serve_job_of c.args.spec.catalog.own connections c.args.spec.serve.turns c.args.spec.catalog.maps c.args.hosts c.args.spec.log)
+      c.args.outside.office (doors_by g.L.Hall g.I.Inbox c.args.outside.doors) (doors_by g.L.Hall g.I.Inbox (record { listen = c.args.outside.doors.listen; more = c.reserve.new.self }))
+      (ap (λ (l : List g.row.I.Denot). record { listen = opening_by g.L.Hall c.args.outside.doors.listen; more = map (end_by g.I.Inbox) l }) c.reserve.ensures.items)),
+  λ fine. Appends-nil (g.N.Sink.output c.args.outside.notes),
 )
 
 pub tell_end-status-requires-clause-number : goal.tell_end-status-requires-clause-number
@@ -48,13 +48,13 @@ tell_end-status-requires-clause-number g c =
     let did = c.host_told-hosted in
     number_within g.D.Disk.history g.D.Disk.faults did.result.0 apart.disks.items did.result.1.disks.items
     (length c.deref-2.result.now)
-    (same_count c.args.office.disks.items apart.names.items apart.disks.items c.in-Ok.ensures.disks c.in-Ok.ensures.names
+    (same_count c.args.outside.office.disks.items apart.names.items apart.disks.items c.in-Ok.ensures.disks c.in-Ok.ensures.names
     ∙ ap length (sym c.deref-2.ensures.value))
     did.ensures.unhosted
 
 pub tell_end-status-requires-clause-named : goal.tell_end-status-requires-clause-named
 tell_end-status-requires-clause-named g c =
-    let names : map name_view c.deref-2.result.now ≡ c.args.catalog.maps =
+    let names : map name_view c.deref-2.result.now ≡ c.args.spec.catalog.maps =
     ap (λ (l : List MapName). map name_view l) c.deref-2.ensures.value ∙ c.in-Ok.ensures.names ∙ c.requires.disks in
     subst (λ (l : List Name). All IsNamed l) (sym names) c.requires.named
 
@@ -67,10 +67,10 @@ returns-clause-does g c =
           seeing g.S.Source g.K.Sink g.D.Disk g.C.Clock g.A.Dial g.I.Inbox g.T.Texts in
           let did = c.host_told-hosted in
           let told = c.tell_end-status in
-          let old = c.args.office in
+          let old = c.args.outside.office in
           let back = did.result.1 in
           let apart = c.in-Ok.apart in
-          let job = serve_job_of c.args.catalog.own connections c.args.spec.now.turns c.args.catalog.maps c.args.hosts c.args.log in
+          let job = serve_job_of c.args.spec.catalog.own connections c.args.spec.serve.turns c.args.spec.catalog.maps c.args.hosts c.args.spec.log in
           let inbox = c.in-Some.inbox in
           let rest = c.pop.new.self.items in
           let new : Office g.row.S.Denot g.row.K.Denot g.row.D.Denot g.row.C.Denot g.row.A.Denot g.row.I.Denot g.row.T.Denot =
@@ -85,27 +85,27 @@ returns-clause-does g c =
           let resources : HostResources g.row.D.Denot g.row.A.Denot g.row.T.Denot g.row.C.Denot g.row.L.Denot g.row.I.Denot = record {
             disks = apart.disks;
             desk = record { dial = old.dial; texts = old.texts; clock = old.clock; hosts = c.args.hosts };
-            listen = c.args.doors.listen;
+            listen = c.args.outside.doors.listen;
             inboxes = c.push_reserved.new.self;
           } in
           let tells : g.row.L.Denot → List g.row.I.Denot → DoorTells = λ l more. record { listen = opening_by g.L.Hall l; more = map (end_by g.I.Inbox) more } in
-          let more = c.args.doors.more.items in
-          let door : DoorTells = tells c.args.doors.listen more in
+          let more = c.args.outside.doors.more.items in
+          let door : DoorTells = tells c.args.outside.doors.listen more in
           let door' : DoorTells = tells back.listen rest in
           let lent : resources.inboxes.items ≡ more ++ old.inbox ∷ [] =
           c.push_reserved.ensures.items ∙ ap (λ (l : List g.row.I.Denot). l ++ old.inbox ∷ []) c.reserve.ensures.items in
           let came : back.inboxes.items ≡ rest ++ inbox ∷ [] = c.in-Some.ensures.items in
-          let all : map name_view apart.names.items ≡ c.args.catalog.maps = c.in-Ok.ensures.names ∙ c.requires.disks in
-          let names : map name_view c.deref.result.now ≡ c.args.catalog.maps =
+          let all : map name_view apart.names.items ≡ c.args.spec.catalog.maps = c.in-Ok.ensures.names ∙ c.requires.disks in
+          let names : map name_view c.deref.result.now ≡ c.args.spec.catalog.maps =
           ap (λ (l : List MapName). map name_view l) c.deref.ensures.value ∙ all in
-          let names_told : map name_view c.deref-2.result.now ≡ c.args.catalog.maps =
+          let names_told : map name_view c.deref-2.result.now ≡ c.args.spec.catalog.maps =
           ap (λ (l : List MapName). map name_view l) c.deref-2.ensures.value ∙ all in
-          let log : IsLog c.args.log c.args.catalog.maps (totals_told did.result.0) logged.0 =
-          subst (λ (l : List Name). IsLog c.args.log l (totals_told did.result.0) logged.0) names logged.1 in
+          let log : IsLog c.args.spec.log c.args.spec.catalog.maps (totals_told did.result.0) logged.0 =
+          subst (λ (l : List Name). IsLog c.args.spec.log l (totals_told did.result.0) logged.0) names logged.1 in
           let shut = shut_of job old new resources back inbox more door door' tells logged.0 did.result.0 log refl refl refl lent rest came
           refl refl refl did.ensures.untouched told.ensures.untold in
           let hosted = hosted_at g.D.Disk.history g.D.Disk.faults (setup seen job old) did.result.0
-          (server_tells (opening_by g.L.Hall c.args.doors.listen) (map (box_by g.I.Inbox) resources.inboxes.items) (supply seen old))
+          (server_tells (opening_by g.L.Hall c.args.outside.doors.listen) (map (box_by g.I.Inbox) resources.inboxes.items) (supply seen old))
           (server_tells (opening_by g.L.Hall back.listen) (map (box_by g.I.Inbox) back.inboxes.items) (supply seen new))
           (place seen old door) (place seen new door')
           (ap (λ l. server_tells door.listen l (supply seen old)) (boxes_are g.I.Inbox resources.inboxes.items more old.inbox lent))

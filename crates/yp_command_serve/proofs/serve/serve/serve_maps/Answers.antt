@@ -15,16 +15,16 @@ pub returns-in_default-clause-does : goal.returns-in_default-clause-does
 returns-in_default-clause-does g c = (
   [],
   nothing_done (seeing g.S.Source g.K.Sink g.D.Disk g.C.Clock g.A.Dial g.I.Inbox g.T.Texts) (serve_job_view c.args.job)
-      c.args.office (doors_by g.L.Hall g.I.Inbox c.args.doors) (doors_by g.L.Hall g.I.Inbox c.args.doors) refl,
-  λ fine. Appends-nil (g.N.Sink.output c.args.notes),
+      c.args.outside.office (doors_by g.L.Hall g.I.Inbox c.args.outside.doors) (doors_by g.L.Hall g.I.Inbox c.args.outside.doors) refl,
+  λ fine. Appends-nil (g.N.Sink.output c.args.outside.notes),
 )
 
 pub returns-in-Err-NoMemory-clause-does : goal.returns-in-Err-NoMemory-clause-does
 returns-in-Err-NoMemory-clause-does g c = (
   [],
   nothing_done (seeing g.S.Source g.K.Sink g.D.Disk g.C.Clock g.A.Dial g.I.Inbox g.T.Texts) (serve_job_view c.args.job)
-      c.args.office (doors_by g.L.Hall g.I.Inbox c.args.doors) (doors_by g.L.Hall g.I.Inbox c.args.doors) refl,
-  λ fine. Appends-nil (g.N.Sink.output c.args.notes),
+      c.args.outside.office (doors_by g.L.Hall g.I.Inbox c.args.outside.doors) (doors_by g.L.Hall g.I.Inbox c.args.outside.doors) refl,
+  λ fine. Appends-nil (g.N.Sink.output c.args.outside.notes),
 )
 
 pub serve_catalog-requires-clause-named : goal.serve_catalog-requires-clause-named
@@ -45,7 +45,7 @@ returns-clause-does g c =
     c.in-Ok.ensures in
     let does = did.ensures.does in (
       does.0,
-      subst (λ (o : Job). ServeDoes seen o did.result.0 c.args.office did.result.1 (tells c.args.doors)
-          (tells did.result.2) does.0) same (does.1 job.connections),
+      subst (λ (o : Job). ServeDoes seen o did.result.0 c.args.outside.office did.result.1.office
+          (tells c.args.outside.doors) (tells did.result.1.doors) does.0) same (does.1 job.connections),
       does.2,
     )

@@ -3,7 +3,7 @@ use Rattle.std.proofs.lemmas.List.{length_push}
 use Rattle.yp_server.specs.Serving.{IsAtStart}
 use Rattle.yp_server.specs.inside.Serving.{before_work}
 use Rattle.yp_server.specs.declared.workers.ServerWorker.TheVariants.{Connections}
-use Rattle.yp_server.proofs.Adding.{one_of_those, none_to_come}
+use Rattle.yp_server.proofs.Adding.{one_of_those}
 use Rattle.yp_server.proofs.Rows.{all_before, all_last}
 use Rattle.yp_server.proofs.preparing.WorkerMaker.add_connection_workers.Goals as goal
 

@@ -1,4 +1,4 @@
-use Rattle.std.proofs.Common.{◌≡◌, ◌≤◌, ◌+◌, ◌++◌, List, length, reverse, vec_len, vec_capacity}
+use Rattle.std.proofs.Common.{◌≡◌, ◌+◌, ◌++◌, List, length, reverse, vec_len, vec_capacity}
 use Rattle.std.specs.List.{All, AllZip}
 use Rattle.yp_host.specs.workers.Workers.{WorkerState}
 use Rattle.yp_host.specs.declared.workers.outcome.Totals.{Totals}

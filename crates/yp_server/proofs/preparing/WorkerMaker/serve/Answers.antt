@@ -1,4 +1,4 @@
-use Rattle.std.proofs.Common.{◌≡◌, ◌+◌, ◌-◌, ℕ, length, subst, ap, sym, ◌∙◌, arith}
+use Rattle.std.proofs.Common.{length, subst, ap, sym, ◌∙◌, arith}
 use Rattle.std.specs.List.{AllZip}
 use Rattle.std.proofs.lemmas.Slice.Zip.{AllZip-long}
 use Rattle.yp_worker.specs.datagrams.Mailing.{QueueName, Holding, nothing_held}

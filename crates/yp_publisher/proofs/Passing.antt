@@ -17,9 +17,9 @@ use Rattle.yp_publisher.specs.Rising.{with_shown, Reopens, InstallsNewer}
 use Rattle.yp_publisher.specs.Keeping.{Keeping, Upholds}
 use Rattle.yp_publisher.specs.Installs.{LeavesEither}
 use Rattle.yp_publisher.specs.Grown.{Making, AreMade, GrowsBy, IsOfBetween, IsBehindMade, LeavesOr}
-use Rattle.yp_publisher.specs.inside.Leading.{Leads, leads_one, leads_none, leads_then, stand_same}
-use Rattle.yp_publisher.specs.inside.Growing.{front_same, front_more, at_one}
-use Rattle.yp_publisher.specs.inside.Leaving.{weaker, left_alone, both_leave_or, told_on, told_before, opt_one, opt_both, opt_same, opt_then, opt_second, opt_at, opt_at_both, same_places}
+use Rattle.yp_publisher.proofs.Leading.{Leads, leads_one, leads_none, leads_then, stand_same}
+use Rattle.yp_publisher.proofs.Growing.{front_same, front_more, at_one}
+use Rattle.yp_publisher.proofs.Leaving.{weaker, left_alone, both_leave_or, told_on, told_before, opt_one, opt_both, opt_same, opt_then, opt_second, opt_at, opt_at_both, same_places}
 
 -- ---- logs
 

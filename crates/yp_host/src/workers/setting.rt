@@ -1,0 +1,32 @@
+//! What a worker has for all its work.
+
+use crate::workers::desk::{SharedDesk, Supplies};
+use crate::workers::journal::Journal;
+use std::alloc::Global;
+use std::random::RandomSource;
+use std::sync::{Mutex, Wait};
+use yp_board::Tell;
+use yp_io::{Clock, Dial, Disk, Texts};
+use yp_publisher::sharing::{Accounts, Locked, Site};
+
+/// What a worker has all the time that it works: what it shares with other workers, each under its lock, and what its
+/// memory is taken by.
+#[derive(Drop)]
+pub struct WorkerSetting<
+    'a,
+    S: Site + Accounts + Supplies,
+    D: Disk,
+    B: Tell,
+    A: Dial,
+    T: Texts,
+    C: Clock,
+    R: RandomSource + Wait,
+> {
+    pub alloc: Global,
+    /// Its randomness makes the tables of builds, and it waits for the locks.
+    pub rt: R,
+    pub publisher: &'a Mutex<Locked<S, D, B>>,
+    pub desk: &'a Mutex<SharedDesk<S, A, T, C>>,
+    /// Where it is told what was done, if it is.
+    pub journal: Option<&'a Mutex<Journal>>,
+}
