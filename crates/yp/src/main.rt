@@ -32,7 +32,17 @@ fn locking_of(command: &Command, name: &MapName) -> Locking {
         Command::Serve(_) => Locking::FromStart,
         Command::Revnet { store, .. } if store.map == name.map => Locking::FromReading,
         Command::Session { .. } => Locking::FromWriting,
-        _ => Locking::Never,
+        Command::Once { .. }
+        | Command::Check { .. }
+        | Command::Dump { .. }
+        | Command::Revnet { .. }
+        | Command::Sample { .. }
+        | Command::Push(_)
+        | Command::Bind { .. }
+        | Command::Portmap { .. }
+        | Command::CallMapper { .. }
+        | Command::Ask { .. }
+        | Command::Orders { .. } => Locking::Never,
     }
 }
 
@@ -42,7 +52,19 @@ fn local_ports_of(command: &Command) -> LocalPorts {
     match command {
         Command::Xfr(_) | Command::Serve(_) | Command::Session { .. } | Command::Push(_) =>
             LocalPorts::Reserved,
-        _ => LocalPorts::Any,
+        Command::Once { .. }
+        | Command::Check { .. }
+        | Command::Dump { .. }
+        | Command::Build { .. }
+        | Command::Load { .. }
+        | Command::Walk(_)
+        | Command::Revnet { .. }
+        | Command::Sample { .. }
+        | Command::Bind { .. }
+        | Command::Portmap { .. }
+        | Command::CallMapper { .. }
+        | Command::Ask { .. }
+        | Command::Orders { .. } => LocalPorts::Any,
     }
 }
 
