@@ -17,16 +17,17 @@ use Rattle.yp_board.specs.Views.{IsFront}
 use Rattle.yp_answer.specs.Numbers.{record_max}
 use Rattle.yp_headline.specs.inside.Tried.{somebody, version_with, order_reply, fetched_bytes, first_log, fetched_log, xfr_call, success_call, success_letter, transfer_world, IsWrongTransfer}
 use Rattle.yp_headline.specs.inside.Files.{streamed}
-use Rattle.yp_headline.specs.inside.TriedFiles.{called_unasked, called_of, called_elsewhere, called_two}
+use Rattle.yp_headline.specs.inside.TriedFiles.{called_unasked, called_of, called_elsewhere, skewed_bytes, called_two}
 use Rattle.yp_headline.specs.World.{World, Connection, Letter, Dialed}
 use Rattle.yp_headline.specs.Fetching.{Gives}
 use Rattle.yp_headline.specs.Publishing.{IsAmong, IsFetched}
 use Rattle.yp_headline.specs.Serving.{Exchange, BeginsWith}
+use Rattle.yp_headline.specs.Sources.{IsOfSource}
 use Rattle.yp_headline.specs.Calling.{IsCallBack}
 use Rattle.yp_headline.specs.Headline.{Transfers}
 use Rattle.yp_headline.proofs.Runs.{none_among}
 use Rattle.yp_headline.proofs.Torn.{no_server}
-use Rattle.yp_headline.proofs.Skewed.{one_server, never_empty, order_alone}
+use Rattle.yp_headline.proofs.Skewed.{one_server, never_empty, order_alone, skewed}
 use Rattle.yp_headline.proofs.Mixed.{gives_one}
 use Rattle.yp_headline.proofs.Fetching.{xfr_record}
 use Rattle.yp_headline.proofs.Steps.{front_then}
@@ -54,19 +55,19 @@ status_is transid prog told.Refused same = absurd (let e : 1 ≡ 242 = ap (λ (l
 
 -- nobody asked
 pub called_without_call : IsWrongTransfer called_unasked
-called_without_call log transfers = let is = transfers.called_back (λ none. cc) in none_among is.connection is.among
+called_without_call begun log transfers = let is = transfers.called_back (λ none. cc) in none_among is.connection is.among
 
 -- what the one letter of a world shows
 shown_by : (world : World) (one : Exchange) (letter : Letter) (front next : Log) (is : IsCallBack world one letter front next)
     → letter.bytes ≡ success_call
     → (version : MapVersion) × (before : Log) × IsFront front before × IsFront (before ++ (is.taken.map, version) ∷ []) next
-    × IsFetched world version
+    × (fetched : IsFetched world version) × IsOfSource world is.taken.map fetched.gives version
 shown_by world one letter front next is bytes =
     is.shows (status_is is.taken.transid is.taken.prog is.stat (sym bytes ∙ is.says))
 
 -- nobody was dialed
 pub called_of_no_server : IsWrongTransfer (called_of [])
-called_of_no_server log transfers =
+called_of_no_server begun log transfers =
     let is = (transfers.called_back (λ none. cc)).letters in
     let shows = shown_by (called_of []) is.1 success_letter is.3 is.4 is.8 refl in
     no_server shows.4.server shows.4.among
@@ -98,7 +99,7 @@ caller_of peer (other ∷ passed) one left all = caller_of peer passed one left 
 
 -- its caller is at another host
 pub of_another_host : IsWrongTransfer called_elsewhere
-of_another_host log transfers =
+of_another_host begun log transfers =
     let is = transfers.called_back (λ none. cc) in
     let letter = is.letters in
     let caller = caller_of is.connection.peer letter.0 letter.1 letter.2
@@ -149,14 +150,23 @@ entered_first map' map version' version before before' next front next' entered 
     first_entry map version up.0 (up.1 ∙ ap (λ (l : Log). (l ++ (map, version) ∷ []) ++ up.0) none)
 
 module _ (one : FirstIsOne) where
-  -- the server gave its order alone
-  pub called_of_order : IsWrongTransfer (called_of (streamed somebody (sent (order_reply 1 9)) ∷ []))
-  called_of_order log transfers =
-      let world = called_of (streamed somebody (sent (order_reply 1 9)) ∷ []) in
+  -- the server gave less than a version
+  called_of_less : (came : List ℕ) → ((version : MapVersion) → Gives (streamed somebody came) version → ⊥)
+      → IsWrongTransfer (called_of (streamed somebody came ∷ []))
+  called_of_less came never begun log transfers =
+      let world = called_of (streamed somebody came ∷ []) in
       let is = (transfers.called_back (λ none. cc)).letters in
       let shows = shown_by world is.1 success_letter is.3 is.4 is.8 refl in
-      let server = one_server (streamed somebody (sent (order_reply 1 9))) shows.4.server shows.4.among in
-      order_alone one shows.4.fetched (subst (λ (d : Dialed). Gives d shows.4.fetched) server shows.4.gives)
+      let server = one_server (streamed somebody came) shows.4.server shows.4.among in
+      never shows.4.fetched (subst (λ (d : Dialed). Gives d shows.4.fetched) server shows.4.gives)
+
+  -- its order alone
+  pub called_of_order : IsWrongTransfer (called_of (streamed somebody (sent (order_reply 1 9)) ∷ []))
+  called_of_order = called_of_less (sent (order_reply 1 9)) (order_alone one)
+
+  -- no version that it showed throughout
+  pub called_of_skewed : IsWrongTransfer (called_of (streamed somebody skewed_bytes ∷ []))
+  called_of_skewed = called_of_less skewed_bytes (skewed one)
 
   -- the version that the server gave
   order_nine : (world : World) → world.dialed ≡ streamed somebody fetched_bytes ∷ [] → (version : MapVersion)
@@ -168,8 +178,8 @@ module _ (one : FirstIsOne) where
       ap (λ (v : MapVersion). v.order) fetched.marked ∙ ap (λ (v : MapVersion). v.order) given
 
   -- it gave a version that the log hasn't
-  pub called_unshown : Transfers transfer_world first_log → ⊥
-  called_unshown transfers =
+  pub called_unshown : (begun : Log) → Transfers transfer_world begun first_log → ⊥
+  called_unshown begun transfers =
       let is = (transfers.called_back (λ none. cc)).letters in
       let shows = shown_by transfer_world is.1 success_letter is.3 is.4 is.8 refl in
       let entry = only_entry is.8.taken.map shows.0 (in_log is.8.taken.map shows.0 shows.1 is.4 first_log shows.3 is.9) in
@@ -189,7 +199,7 @@ module _ (one : FirstIsOne) where
 
   -- one call is called back twice
   pub called_twice : IsWrongTransfer (called_two (sent xfr_call))
-  called_twice log transfers =
+  called_twice begun log transfers =
       let is = transfers.called_back (λ none. cc) in
       let first = is.letters in
       let second = first.9 in
@@ -199,8 +209,9 @@ module _ (one : FirstIsOne) where
       (two_left is.exchanges first.0 first.1 first.2 second.0 second.1 second.2 first.5 second.5)
 
   -- the second call was taken when the version had been entered
-  pub entered_before : Transfers (called_two (sent xfr_call ++ sent xfr_call)) fetched_log → ⊥
-  entered_before transfers =
+  pub entered_before : (begun : Log)
+      → Transfers (called_two (sent xfr_call ++ sent xfr_call)) begun fetched_log → ⊥
+  entered_before begun transfers =
       let world = called_two (sent xfr_call ++ sent xfr_call) in
       let first = (transfers.called_back (λ none. cc)).letters in
       let second = first.9 in

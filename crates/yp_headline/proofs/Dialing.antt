@@ -37,9 +37,6 @@ use Rattle.yp_host.specs.Locals.{Local, Telling}
 use Rattle.yp_host.specs.Making.{MapIsMade, OffersBuilt, Tries}
 use Rattle.yp_host.specs.Transferring.{MapIsTransferred, request_for, asker_of}
 use Rattle.yp_host.specs.Connections.{Service, local_conduct, Transition, transition_of, transitions_of, GaveVersion}
-use Rattle.yp_headline.specs.Fetching.{Gives}
-use Rattle.yp_headline.specs.inside.Files.{streamed}
-use Rattle.yp_headline.proofs.Given.{fetched_gives}
 
 -- ---- a dial that tells its wires
 
@@ -153,12 +150,6 @@ fetched_by wanted (Ok peer) outcome old new by opened = ⊎_elim (λ fails. none
     let one = dialed_one peer on.first on.last old new on.dialed opened in
     record { more = connected peer on.first.wire.input on.first.wire.output ∷ []; came = one.came; opened = one.opened }) by
 
--- a wire that gave a version
-pub record WireGave (old new : Option Wires) (version : MapVersion) : Type 0 where
-  pub wire : Connected
-  pub came : Came old new (wire ∷ [])
-  pub gave : (stream : List ℕ) → wire.input ≡ Some stream → Gives (streamed wire.peer stream) version
-
 -- one of which a version was fetched that was wanted
 pub record WireFetched (wanted : Wanted) (old new : Option Wires) (version : MapVersion) : Type 0 where
   pub wire : Connected
@@ -185,15 +176,13 @@ fetched_over wanted (Err fault) version old new by opened = absurd (let e = by.0
 fetched_over wanted (Ok peer) version old new by opened =
     ⊎_elim (λ fails. absurd (let e = fails.0 in cc)) (λ on. fetched_on peer wanted version old new on opened) by
 
-gave_by : (wanted : Wanted) (address : Result Peer XfrFault) (version : MapVersion) (old new : Dialing)
-    → ByAddress wanted address (Ok version) old new → IsOpen old.past → WireGave old.past new.past version
-gave_by wanted address version old new by opened =
-    let one = fetched_over wanted address version old new by opened in
-    record {
-      wire = one.wire;
-      came = one.came;
-      gave = λ stream input. fetched_gives wanted one.wire.peer stream version (one.fetched stream input);
-    }
+-- a wire of which a version was fetched of the map with a number
+pub record WireGave (maps : List Name) (number : ℕ) (old new : Option Wires) (version : MapVersion) : Type 0 where
+  pub wanted : Wanted
+  pub named : slice_get maps number ≡ Some (wanted.domain, wanted.map)
+  pub wire : Connected
+  pub came : Came old new (wire ∷ [])
+  pub fetched : (stream : List ℕ) → wire.input ≡ Some stream → Fetched wanted (place_of 1 0 stream) (Ok version)
 
 -- ---- a call back
 
@@ -277,19 +266,25 @@ module _ {D B E : Type 0} (keeping : Keeping D B) (telling : Telling E) where
   name_of (name ∷ names) zero within = (name, refl)
   name_of (name ∷ names) (suc number) within = name_of names number (omega (arith, within))
 
-  -- what a transfer fetched
+  -- what a transfer fetched, of the map with its name
+  record FetchesAt (taken : Taken) (peer : Peer) (old new : Local D B E)
+      (is : MapIsTransferred keeping telling taken peer old new) : Type 0 where
+    name : Name
+    named : slice_get old.published.catalogue.maps taken.map ≡ Some name
+    fetches : FetchesFrom (telling.hosts old.desk) taken.source (wanted_at keeping (request_for taken) name old.published)
+        is.transfers.transfers.outcome (wires_told (telling.dial old.desk)) (wires_told is.transfers.fetched)
+
   fetches_at : (taken : Taken) (peer : Peer) (old new : Local D B E) (is : MapIsTransferred keeping telling taken peer old new)
-      → IsSound old → (name : Name)
-      × FetchesFrom (telling.hosts old.desk) taken.source (wanted_at keeping (request_for taken) name old.published)
-      is.transfers.transfers.outcome (wires_told (telling.dial old.desk)) (wires_told is.transfers.fetched)
+      → IsSound old → FetchesAt taken peer old new is
   fetches_at taken peer old new is sound =
       let maps = old.published.catalogue.maps in
-      let named = name_of maps taken.map (subst (λ (n : ℕ). taken.map < n) sound.count is.inside) in (
-        named.0,
-        subst (λ (o : Option Name). IfSome o (λ name. FetchesFrom (telling.hosts old.desk) taken.source
+      let named = name_of maps taken.map (subst (λ (n : ℕ). taken.map < n) sound.count is.inside) in record {
+        name = named.0;
+        named = named.1;
+        fetches = subst (λ (o : Option Name). IfSome o (λ name. FetchesFrom (telling.hosts old.desk) taken.source
             (wanted_at keeping (request_for taken) name old.published) is.transfers.transfers.outcome
-            (wires_told (telling.dial old.desk)) (wires_told is.transfers.fetched))) named.1 is.transfers.transfers.fetches,
-      )
+            (wires_told (telling.dial old.desk)) (wires_told is.transfers.fetched))) named.1 is.transfers.transfers.fetches;
+      }
 
   told_back : (taken : Taken) (peer : Peer) (old new : Local D B E) (is : MapIsTransferred keeping telling taken peer old new)
       → (telling.dial new.desk).past ≡ is.transfers.fetched.past
@@ -301,9 +296,9 @@ module _ {D B E : Type 0} (keeping : Keeping D B) (telling : Telling E) where
       → new.published.catalogue ≡ old.published.catalogue → IsSound old → Goes old new
   transferred taken peer old new is catalogue sound =
       let fetches = fetches_at taken peer old new is sound in
-      let wanted = wanted_at keeping (request_for taken) fetches.0 old.published in
+      let wanted = wanted_at keeping (request_for taken) fetches.name old.published in
       let some = fetched_by wanted (sought wanted taken.source (telling.hosts old.desk)) is.transfers.transfers.outcome
-      (wires_told (telling.dial old.desk)) (wires_told is.transfers.fetched) fetches.1 sound.opened in
+      (wires_told (telling.dial old.desk)) (wires_told is.transfers.fetched) fetches.fetches sound.opened in
       let last = some_then (telling.dial old.desk).past is.transfers.fetched.past (telling.dial new.desk).past some
       (none_came is.transfers.fetched.past (telling.dial new.desk).past (told_back taken peer old new is) some.opened) in
       let count = outcome_count (request_for taken) is.transfers.transfers.outcome is.transfers.result old.published
@@ -321,15 +316,17 @@ module _ {D B E : Type 0} (keeping : Keeping D B) (telling : Telling E) where
   -- a transfer that fetched a version
   transfer_gave : (taken : Taken) (peer : Peer) (version : MapVersion) (old new : Local D B E)
       (is : MapIsTransferred keeping telling taken peer old new) → is.transfers.transfers.outcome ≡ Ok version → IsSound old
-      → WireGave (telling.dial old.desk).past (telling.dial new.desk).past version
+      → WireGave old.published.catalogue.maps taken.map (telling.dial old.desk).past (telling.dial new.desk).past version
   transfer_gave taken peer version old new is gave sound =
       let fetches = fetches_at taken peer old new is sound in
-      let wanted = wanted_at keeping (request_for taken) fetches.0 old.published in
+      let wanted = wanted_at keeping (request_for taken) fetches.name old.published in
       let by = subst (λ (o : FetchOutcome). FetchesFrom (telling.hosts old.desk) taken.source wanted o
-      (wires_told (telling.dial old.desk)) (wires_told is.transfers.fetched)) gave fetches.1 in
-      let wire = gave_by wanted (sought wanted taken.source (telling.hosts old.desk)) version
+      (wires_told (telling.dial old.desk)) (wires_told is.transfers.fetched)) gave fetches.fetches in
+      let wire = fetched_over wanted (sought wanted taken.source (telling.hosts old.desk)) version
       (wires_told (telling.dial old.desk)) (wires_told is.transfers.fetched) by sound.opened in
       record {
+        wanted = wanted;
+        named = fetches.named;
         wire = wire.wire;
         came = record {
           before = wire.came.before;
@@ -338,7 +335,7 @@ module _ {D B E : Type 0} (keeping : Keeping D B) (telling : Telling E) where
           is = told_back taken peer old new is ∙ wire.came.is;
           came = wire.came.came;
         };
-        gave = wire.gave;
+        fetched = wire.fetched;
       }
 
   -- ---- records
@@ -408,83 +405,99 @@ module _ {D B E : Type 0} (keeping : Keeping D B) (telling : Telling E) where
 
 -- ---- the wire of a version that was fetched
 
--- among the wires that came from one moment to another is one that gave a version
-pub record Among (old new : Option Wires) (version : MapVersion) : Type 0 where
+-- among the wires that came from one moment to another is one of which a version was fetched of the map with a number
+pub record Among (maps : List Name) (number : ℕ) (old new : Option Wires) (version : MapVersion) : Type 0 where
   pub front : List Connected
   pub wire : Connected
   pub back : List Connected
   pub came : Came old new (front ++ wire ∷ back)
-  pub gave : (stream : List ℕ) → wire.input ≡ Some stream → Gives (streamed wire.peer stream) version
+  pub wanted : Wanted
+  pub named : slice_get maps number ≡ Some (wanted.domain, wanted.map)
+  pub fetched : (stream : List ℕ) → wire.input ≡ Some stream → Fetched wanted (place_of 1 0 stream) (Ok version)
 
-among_later : (a b c : Option Wires) (version : MapVersion) (more : List Connected) → Came a b more → Among b c version
-    → Among a c version
-among_later a b c version more came is = record {
+among_later : (maps : List Name) (number : ℕ) (a b c : Option Wires) (version : MapVersion) (more : List Connected)
+    → Came a b more → Among maps number b c version → Among maps number a c version
+among_later maps number a b c version more came is = record {
   front = more ++ is.front;
   wire = is.wire;
   back = is.back;
   came = subst (λ (l : List Connected). Came a c l) (sym (append_assoc more is.front (is.wire ∷ is.back)))
       (came_then a b c more (is.front ++ is.wire ∷ is.back) came is.came);
-  gave = is.gave;
+  wanted = is.wanted;
+  named = is.named;
+  fetched = is.fetched;
 }
 
-module _ {D B E : Type 0} (service : Service D B E) where
-  gave_at : (hosts : HostList) (taken : Taken) (version : MapVersion) (transition : Transition (Local D B E))
-      → GaveVersion service hosts taken version transition → IsSound service.keeping service.telling transition.before
-      → WireGave (service.telling.dial transition.before.desk).past (service.telling.dial transition.after.desk).past version
-  gave_at hosts taken version transition gave sound =
-      let same : gave.middle.desk ≡ transition.before.desk = ap (λ (h : Local D B E). h.desk) gave.middle_is in
-      let published : gave.middle.published ≡ transition.before.published =
-      ap (λ (h : Local D B E). h.published) gave.middle_is in
-      let step = goes_nowhere service.keeping service.telling transition.before gave.middle published (ap service.telling.dial same) sound in
-      subst (λ (e : E). WireGave (service.telling.dial e).past (service.telling.dial transition.after.desk).past version) same
-      (transfer_gave service.keeping service.telling taken service.peer version gave.middle transition.after gave.carried gave.gave
-      step.sound)
+module _ {D B E : Type 0} (service : Service D B E) (maps : List Name) (hosts : HostList) (taken : Taken) (version : MapVersion)
+  where
+    abbrev Maps : Local D B E → List Name
+    Maps host = host.published.catalogue.maps
 
-  found : (hosts : HostList) (taken : Taken) (version : MapVersion) (answered : List (Turn × Dialogue (Local D B E)))
-      (old new : Dialogue (Local D B E)) → Chain (local_conduct service.keeping service.telling) service.peer answered old new
-      → IsSound service.keeping service.telling old.host → (transition : Transition (Local D B E)) → (k : ℕ)
-      → k < length (transitions_of old answered) → slice_index_or (transitions_of old answered) k transition ≡ transition
-      → GaveVersion service hosts taken version transition
-      → Among (service.telling.dial old.host.desk).past (service.telling.dial new.host.desk).past version
-  found hosts taken version [] old new chain sound transition k within is gave = absurd (omega (arith, within))
-  found hosts taken version (one ∷ answered) old new chain sound transition zero within is gave =
-      let here = transition_of old.host one.0 one.1.host in
-      let wire = gave_at hosts taken version here
-      (subst (λ (t : Transition (Local D B E)). GaveVersion service hosts taken version t) (sym is) gave) sound in
-      let first = linked service.keeping service.telling service.peer one.0 old.host one.1.host chain.0.replied.link sound in
-      let rest = chained service.keeping service.telling service.peer answered one.1 new chain.1 first.sound in
-      record {
-        front = [];
-        wire = wire.wire;
-        back = rest.some.more;
-        came = came_then (service.telling.dial old.host.desk).past (service.telling.dial one.1.host.desk).past
-            (service.telling.dial new.host.desk).past (wire.wire ∷ []) rest.some.more wire.came rest.some.came;
-        gave = wire.gave;
-      }
-  found hosts taken version (one ∷ answered) old new chain sound transition (suc k) within is gave =
-      let first = linked service.keeping service.telling service.peer one.0 old.host one.1.host chain.0.replied.link sound in
-      among_later (service.telling.dial old.host.desk).past (service.telling.dial one.1.host.desk).past
-      (service.telling.dial new.host.desk).past version first.some.more first.some.came
-      (found hosts taken version answered one.1 new chain.1 first.sound transition k (omega (arith, within)) is gave)
+    abbrev Past : Local D B E → Option Wires
+    Past host = (service.telling.dial host.desk).past
 
-  pub fetched_among : (hosts : HostList) (taken : Taken) (version : MapVersion) (most : ℕ) (end : End)
-      (answered : List (Turn × Dialogue (Local D B E))) (old last new : Dialogue (Local D B E)) (count : ℕ)
-      → Chain (local_conduct service.keeping service.telling) service.peer answered old last
-      → Ends (local_conduct service.keeping service.telling) service.peer most count end last new
-      → IsSound service.keeping service.telling old.host → (transition : Transition (Local D B E))
-      → Contains (transitions_of old answered) transition → GaveVersion service hosts taken version transition
-      → Among (service.telling.dial old.host.desk).past (service.telling.dial new.host.desk).past version
-  fetched_among hosts taken version most end answered old last new count chain ends sound transition among gave =
-      let is = found hosts taken version answered old last chain sound transition among.0 among.1 among.2 gave in
-      let goes = chained service.keeping service.telling service.peer answered old last chain sound in
-      let tail = ended_goes service.keeping service.telling service.peer most count end last new ends goes.sound in
-      record {
-        front = is.front;
-        wire = is.wire;
-        back = is.back ++ tail.some.more;
-        came = subst (λ (l : List Connected). Came (service.telling.dial old.host.desk).past (service.telling.dial new.host.desk).past l)
-            (append_assoc is.front (is.wire ∷ is.back) tail.some.more)
-            (came_then (service.telling.dial old.host.desk).past (service.telling.dial last.host.desk).past
-            (service.telling.dial new.host.desk).past (is.front ++ is.wire ∷ is.back) tail.some.more is.came tail.some.came);
-        gave = is.gave;
-      }
+    gave_at : (transition : Transition (Local D B E)) → GaveVersion service hosts taken version transition
+        → IsSound service.keeping service.telling transition.before → Maps transition.before ≡ maps
+        → WireGave maps taken.map (Past transition.before) (Past transition.after) version
+    gave_at transition gave sound are =
+        let same : gave.middle.desk ≡ transition.before.desk = ap (λ (h : Local D B E). h.desk) gave.middle_is in
+        let published : gave.middle.published ≡ transition.before.published =
+        ap (λ (h : Local D B E). h.published) gave.middle_is in
+        let step = goes_nowhere service.keeping service.telling transition.before gave.middle published (ap service.telling.dial same) sound in
+        let all : Maps gave.middle ≡ maps = ap (λ (p : Published D B). p.catalogue.maps) published ∙ are in
+        subst (λ (l : List Name). WireGave l taken.map (Past transition.before) (Past transition.after) version) all
+        (subst (λ (e : E). WireGave (Maps gave.middle) taken.map (service.telling.dial e).past (Past transition.after) version) same
+        (transfer_gave service.keeping service.telling taken service.peer version gave.middle transition.after gave.carried gave.gave
+        step.sound))
+
+    found : (answered : List (Turn × Dialogue (Local D B E)))
+        (old new : Dialogue (Local D B E)) → Chain (local_conduct service.keeping service.telling) service.peer answered old new
+        → IsSound service.keeping service.telling old.host → Maps old.host ≡ maps → (transition : Transition (Local D B E)) → (k : ℕ)
+        → k < length (transitions_of old answered) → slice_index_or (transitions_of old answered) k transition ≡ transition
+        → GaveVersion service hosts taken version transition
+        → Among maps taken.map (Past old.host) (Past new.host) version
+    found [] old new chain sound are transition k within is gave = absurd (omega (arith, within))
+    found (one ∷ answered) old new chain sound are transition zero within is gave =
+        let here = transition_of old.host one.0 one.1.host in
+        let wire = gave_at here
+        (subst (λ (t : Transition (Local D B E)). GaveVersion service hosts taken version t) (sym is) gave) sound are in
+        let first = linked service.keeping service.telling service.peer one.0 old.host one.1.host chain.0.replied.link sound in
+        let rest = chained service.keeping service.telling service.peer answered one.1 new chain.1 first.sound in
+        record {
+          front = [];
+          wire = wire.wire;
+          back = rest.some.more;
+          came = came_then (Past old.host) (Past one.1.host) (Past new.host) (wire.wire ∷ []) rest.some.more wire.came rest.some.came;
+          wanted = wire.wanted;
+          named = wire.named;
+          fetched = wire.fetched;
+        }
+    found (one ∷ answered) old new chain sound are transition (suc k) within is gave =
+        let first = linked service.keeping service.telling service.peer one.0 old.host one.1.host chain.0.replied.link sound in
+        among_later maps taken.map (Past old.host) (Past one.1.host) (Past new.host) version first.some.more first.some.came
+        (found answered one.1 new chain.1 first.sound (ap (λ (c : Catalogue). c.maps) first.catalogue ∙ are) transition k
+        (omega (arith, within)) is gave)
+
+    pub fetched_among : (most : ℕ) (end : End)
+        (answered : List (Turn × Dialogue (Local D B E))) (old last new : Dialogue (Local D B E)) (count : ℕ)
+        → Chain (local_conduct service.keeping service.telling) service.peer answered old last
+        → Ends (local_conduct service.keeping service.telling) service.peer most count end last new
+        → IsSound service.keeping service.telling old.host → Maps old.host ≡ maps → (transition : Transition (Local D B E))
+        → Contains (transitions_of old answered) transition → GaveVersion service hosts taken version transition
+        → Among maps taken.map (Past old.host) (Past new.host) version
+    fetched_among most end answered old last new count chain ends sound are transition among gave =
+        let is = found answered old last chain sound are transition among.0 among.1 among.2 gave in
+        let goes = chained service.keeping service.telling service.peer answered old last chain sound in
+        let tail = ended_goes service.keeping service.telling service.peer most count end last new ends goes.sound in
+        record {
+          front = is.front;
+          wire = is.wire;
+          back = is.back ++ tail.some.more;
+          came = subst (λ (l : List Connected). Came (Past old.host) (Past new.host) l)
+              (append_assoc is.front (is.wire ∷ is.back) tail.some.more)
+              (came_then (Past old.host) (Past last.host) (Past new.host) (is.front ++ is.wire ∷ is.back) tail.some.more
+              is.came tail.some.came);
+          wanted = is.wanted;
+          named = is.named;
+          fetched = is.fetched;
+        }

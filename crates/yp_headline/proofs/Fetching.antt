@@ -21,6 +21,7 @@ use Rattle.yp_headline.specs.inside.Files.{streamed}
 use Rattle.yp_headline.specs.Fetching.{Reads, Says, RowsAre, Gives}
 use Rattle.yp_headline.specs.Serving.{IsReply}
 use Rattle.yp_headline.specs.Publishing.{IsFetched}
+use Rattle.yp_headline.specs.Sources.{IsOfSource}
 use Rattle.yp_headline.specs.Headline.{Replies, Transfers}
 use Rattle.yp_headline.proofs.Runs.{front_self, none_among}
 use Rattle.yp_headline.proofs.Listing.{one_listed}
@@ -198,8 +199,9 @@ fetched = record {
   marked = refl;
 }
 
-transfers : Transfers transfer_world fetched_log
-transfers = record {
+transfers : IsOfSource transfer_world 0 gives (version_with 9 119) → Transfers transfer_world first_log fetched_log
+unfolding fetched gives
+transfers of_source = record {
   done = λ number among. absurd (none_among number among);
   called_back = λ some. record {
     connection = record {
@@ -227,7 +229,7 @@ transfers = record {
       first_log,
       fetched_log,
       refl,
-      (first_log, refl),
+      front_self first_log,
       ((0, version_with 9 119) ∷ [], refl),
       record {
         reply = xfr_reply 7 5 Succ;
@@ -237,7 +239,8 @@ transfers = record {
         port = λ some. refl;
         stat = Succ;
         says = refl;
-        shows = λ done. (version_with 9 119, first_log, front_self first_log, front_self fetched_log, fetched);
+        shows = λ done.
+            (version_with 9 119, first_log, front_self first_log, front_self fetched_log, fetched, of_source);
       },
       front_self fetched_log,
     );
@@ -292,5 +295,6 @@ replies = record {
   datagrams = tt;
 }
 
-pub session_transfer : Replies transfer_world first_log fetched_log × Transfers transfer_world fetched_log
-session_transfer = (replies, transfers)
+pub session_transfer : IsOfSource transfer_world 0 gives (version_with 9 119)
+    → Replies transfer_world first_log fetched_log × Transfers transfer_world first_log fetched_log
+session_transfer of_source = (replies, transfers of_source)

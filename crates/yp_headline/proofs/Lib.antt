@@ -9,6 +9,7 @@ pub mod Dialing
 pub mod Posting
 pub mod Named
 pub mod Built
+pub mod Moments
 pub mod Stores
 pub mod Session
 pub mod Stood
@@ -43,3 +44,4 @@ pub mod Right
 pub mod WrongWalks
 pub mod RightWalk
 pub mod Served
+pub mod Returned

@@ -1,20 +1,19 @@
 -- Worlds that are wrong in which version a crash leaves.
-use Rattle.std.proofs.Common.{◌≡◌, ◌⊎◌, ℕ, zero, suc, ◌<◌, List, [], ◌∷◌, ◌++◌, length, Option, Some, None, refl, sym, ap, ◌∙◌, subst, arith, inl, inr, ⊎_elim, append_assoc}
+use Rattle.std.proofs.Common.{◌≡◌, ℕ, ◌<◌, List, [], ◌∷◌, ◌++◌, length, Option, Some, None, refl, sym, ap, ◌∙◌, subst, arith, inl, inr, ⊎_elim, append_assoc}
 use Rattle.std.specs.Prelude.{slice_index}
 use Rattle.std.specs.List.{AllZip}
 use Rattle.std.proofs.lemmas.List.{append_cancel_left}
-use Rattle.yp_io.specs.Disk.{IsImage, LeftIn}
+use Rattle.yp_io.specs.Disk.{IsImage}
 use Rattle.yp_version.specs.Versions.{MapVersion}
 use Rattle.yp_board.specs.Logs.{Log, shown, starts}
 use Rattle.yp_board.specs.Views.{IsFront}
 use Rattle.yp_publisher.specs.Grown.{AreMade}
-use Rattle.yp_headline.specs.inside.Tried.{version_with, whole_file, synced, one_file, IsTornWorld, quiet}
+use Rattle.yp_headline.specs.inside.Tried.{version_with, whole_file, synced, one_file, IsTornWorld}
 use Rattle.yp_headline.specs.World.{World}
 use Rattle.yp_headline.specs.Storing.{stood_for}
-use Rattle.yp_headline.specs.Publishing.{IsAmong, IsNew, StoreHas, IsPublishedLog, OfFile, StandsBy}
-use Rattle.yp_headline.specs.inside.Files.{StandsByFront}
-use Rattle.yp_headline.specs.Headline.{Crashes}
+use Rattle.yp_headline.specs.Publishing.{IsNew, StoreHas, IsPublishedLog, StandsBy}
 use Rattle.yp_headline.proofs.Runs.{front_self}
+use Rattle.yp_headline.proofs.Moments.{at_any}
 use Rattle.yp_headline.proofs.Torn.{is_image, image_length, stands_first, stands_second, stands_none}
 use Rattle.yp_headline.proofs.Matched.{stays, never_new}
 
@@ -78,7 +77,9 @@ lost_meanwhile begun log crashes = ⊎_elim
     (λ first. let same = image_length (whole_file 7 118) [] first in omega (arith, same))
     (λ by. let is = stands_so [] (whole_file 7 118) begun log crashes.published by.log by.begins by.goes_on [] by.holds in
     let e : None ≡ Some (version_with 7 118) = same_held None (Some (version_with 7 118)) (sym stands_none ∙ is) in cc)
-    (crashes.any_moment 0 [] (inr (inl (is_image []))))
+    (at_any (one_file (whole_file 7 118) [] (whole_file 7 118) [] []) 0 (synced (whole_file 7 118))
+    (synced (whole_file 7 118) ∷ synced [] ∷ synced (whole_file 7 118) ∷ []) begun log (crashes.any_moment 0) []
+    (inr (inl (is_image []))))
 
 -- a version that nobody made or sent
 pub from_nowhere : IsTornWorld (one_file (whole_file 7 118) (whole_file 7 118) (whole_file 9 119) [] [])
@@ -90,29 +91,3 @@ from_nowhere begun log crashes = ⊎_elim
     let e : Some (Some (version_with 9 119)) ≡ Some (Some (version_with 7 118)) = sym stands_second ∙ is in
     let orders : 9 ≡ 7 = order_same (version_with 9 119) (version_with 7 118) e in omega (arith, orders))
     (crashes.at_end 0 (whole_file 9 119) (is_image (whole_file 9 119)))
-
--- ---- right ones
-
-moments : (number : ℕ) → OfFile number quiet.stores (λ file. (image : List ℕ) → LeftIn file.moments image
-    → IsImage file.first image ⊎ StandsByFront quiet number ((0, version_with 7 118) ∷ []) ((0, version_with 7 118) ∷ []) image)
-moments zero = λ image left. ⊎_elim (λ is. inl is) (λ more. ⊎_elim (λ is. inl is) (λ last. ⊎_elim (λ is. inl is) (λ none. absurd none) last) more) left
-moments (suc number) = tt
-
-ends : (number : ℕ) → OfFile number quiet.stores (λ file. (image : List ℕ) → IsImage file.last image
-    → IsImage file.first image ⊎ StandsBy quiet number ((0, version_with 7 118) ∷ []) image)
-ends zero = λ image is. inl is
-ends (suc number) = tt
-
-none_done : (number : ℕ) → IsAmong [] number → ⊥
-none_done number ([], back, is) = cc
-none_done number (one ∷ front, back, is) = cc
-
--- a file that stays as it was
-pub nothing_happens : Crashes (one_file (whole_file 7 118) (whole_file 7 118) (whole_file 7 118) [] [])
-    ((0, version_with 7 118) ∷ []) ((0, version_with 7 118) ∷ [])
-nothing_happens = record {
-  published = record { first = Some (version_with 7 118) ∷ []; stored = (stands_first, tt); begun_is = refl; more = []; all = refl; new = tt };
-  any_moment = moments;
-  at_end = ends;
-  stored = λ number among. absurd (none_done number among);
-}

@@ -2,7 +2,7 @@
 use Rattle.std.proofs.Common.{◌≡◌, ◌⊎◌, ℕ, zero, suc, ◌+◌, min, List, [], ◌∷◌, ◌++◌, length, false, Some, None, Ok, refl, sym, subst, inl, inr, ⊎_elim}
 use Rattle.std.proofs.lemmas.List.{append-nil}
 use Rattle.yp_io.specs.Counts.{last_count}
-use Rattle.yp_io.specs.Disk.{IsImage, LeftIn}
+use Rattle.yp_io.specs.Disk.{IsImage}
 use Rattle.yp_xdr.specs.Reading.{word_at, content_at, opaque_at, bool_at, one_of_at}
 use Rattle.yp_rpc.specs.Records.{sent}
 use Rattle.yp_version.specs.Drafts.{Draft, empty_draft}
@@ -16,18 +16,19 @@ use Rattle.yp_end_to_end.specs.inside.transfer.Laws.{FetchedIsShown}
 use Rattle.yp_end_to_end.specs.inside.transfer.Shown.{ShownBetween}
 use Rattle.yp_map_file.specs.inside.Laws.{ReadIsBody}
 use Rattle.yp_headline.specs.World.{World, Dialed}
-use Rattle.yp_headline.specs.Publishing.{IsAmong, IsPublishedLog, OfFile, StandsBy}
+use Rattle.yp_headline.specs.Publishing.{IsAmong, IsPublishedLog, OfFile, StandsBy, AreLeft}
 use Rattle.yp_headline.specs.Storing.{stood_for}
-use Rattle.yp_headline.specs.Sources.{Source, Succeeded}
-use Rattle.yp_headline.specs.inside.Files.{streamed, StandsByFront}
+use Rattle.yp_headline.specs.Sources.{Source, IsOfSource, Succeeded}
+use Rattle.yp_headline.specs.inside.Files.{streamed}
 use Rattle.yp_headline.specs.Headline.{Crashes, Transfers}
-use Rattle.yp_headline.specs.inside.Tried.{somebody, version_with, whole_file, synced, order_reply, master_reply, all_reply, fetched_bytes}
+use Rattle.yp_headline.specs.inside.Tried.{somebody, version_with, whole_file, synced, order_reply, master_reply, all_reply, fetched_bytes, transfer_world}
 use Rattle.yp_headline.specs.inside.TriedFiles.{stored_of, stored_log}
 use Rattle.yp_headline.proofs.Runs.{front_self}
 use Rattle.yp_headline.proofs.Torn.{stands_second, stands_none}
 use Rattle.yp_headline.proofs.Worked.{stands_as}
 use Rattle.yp_headline.proofs.Fetching.{gives, order_record, master_record, rows_record, again_record}
 use Rattle.yp_headline.proofs.Storing.{only_done}
+use Rattle.yp_headline.proofs.Moments.{all_by_first}
 use Rattle.yp_headline.proofs.Sourced.{Throughout, stream_throughout}
 
 abbrev world : World
@@ -54,16 +55,17 @@ published = record {
 stands_stored : (image : List ℕ) → IsImage (synced (whole_file 9 119)) image → stood_for image ≡ Some (Some (version_with 9 119))
 stands_stored image is = stands_as (whole_file 9 119) image (version_with 9 119) stands_second is
 
-moments : (number : ℕ) → OfFile number world.stores (λ file. (image : List ℕ) → LeftIn file.moments image
-    → IsImage file.first image ⊎ StandsByFront world number [] stored_log image)
-moments zero = λ image left. ⊎_elim
-    (λ is. inr (record {
-      log = stored_log;
-      begins = (stored_log, refl);
-      goes_on = front_self stored_log;
-      holds = inl (stands_stored image is);
-    }))
-    (λ later. ⊎_elim (λ is. inl is) (λ last. ⊎_elim (λ is. inl is) (λ none. absurd none) last) later) left
+moments : (number : ℕ) → OfFile number world.stores (λ file. AreLeft world number file.first file.moments [] stored_log)
+moments zero = record {
+  log = stored_log;
+  begins = (stored_log, refl);
+  goes_on = front_self stored_log;
+  holds = (
+    λ image is. inr (inl (stands_stored image is)),
+    all_by_first world 0 (synced []) (synced [] ∷ synced [] ∷ []) [] stored_log (stored_log, refl)
+        (λ image left. inl (⊎_elim (λ is. is) (λ last. ⊎_elim (λ is. is) (λ none. absurd none) last) left)),
+  );
+}
 moments (suc number) = tt
 
 ends : (number : ℕ) → OfFile number world.stores (λ file. (image : List ℕ) → IsImage file.last image
@@ -182,6 +184,10 @@ throughout : ReadIsBody → FetchedIsShown → ShownBetween → (name : Name) �
 throughout read shows between name same = subst (λ (n : Name). (source : Source n gives) → Throughout n gives source (version_with 9 119)) same
     (stream_throughout read shows between (wanted_of (100 ∷ []) (112 ∷ []) None false) somebody fetched_bytes (version_with 9 119) gives fetched)
 
+-- it is what a source showed, by the name of the one map
+pub of_source : ReadIsBody → FetchedIsShown → ShownBetween → IsOfSource transfer_world 0 gives (version_with 9 119)
+of_source read shows between = λ name named. throughout read shows between name (cc)
+
 succeeded : ReadIsBody → FetchedIsShown → ShownBetween → Succeeded world stored_log 0
 succeeded read shows between = record {
   stored = version_with 9 119;
@@ -193,10 +199,10 @@ succeeded read shows between = record {
     marked = refl;
   };
   shows = refl;
-  of_source = λ name named. throughout read shows between name (cc);
+  of_source = of_source read shows between;
 }
 
-pub transfers : ReadIsBody → FetchedIsShown → ShownBetween → Transfers (stored_of (whole_file 9 119)) stored_log
+pub transfers : ReadIsBody → FetchedIsShown → ShownBetween → Transfers (stored_of (whole_file 9 119)) [] stored_log
 transfers read shows between = record {
   done = λ number among. subst (λ (n : ℕ). Succeeded world stored_log n) (sym (only_done number among)) (succeeded read shows between);
   called_back = λ some. absurd (some refl);

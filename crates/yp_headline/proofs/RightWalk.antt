@@ -1,6 +1,6 @@
 -- A world that is right: a walk that is told as done stored the version whose rows came.
 use Rattle.std.proofs.Common.{◌≡◌, ℕ, zero, suc, List, [], ◌∷◌, false, Some, None, Ok, refl, sym, subst, inl, inr, ⊎_elim, ◌⊎◌}
-use Rattle.yp_io.specs.Disk.{IsImage, LeftIn}
+use Rattle.yp_io.specs.Disk.{IsImage}
 use Rattle.yp_io.specs.Inboxes.{InboxEvent, Arrived}
 use Rattle.yp_xdr.specs.Reading.{word_at, content_at, opaque_at, one_of_at}
 use Rattle.yp_xdr.specs.Spelling.{fixed, opaque}
@@ -15,14 +15,15 @@ use Rattle.yp_transfer.specs.walk.Schedules.{walk_by}
 use Rattle.yp_end_to_end.specs.inside.walk.Laws.{WalkedIsShown}
 use Rattle.yp_command_maps.specs.walk.Turns.{heard_of}
 use Rattle.yp_headline.specs.World.{World, Dialed}
-use Rattle.yp_headline.specs.Publishing.{IsAmong, IsPublishedLog, OfFile, StandsBy, IsFetched}
+use Rattle.yp_headline.specs.Publishing.{IsAmong, IsPublishedLog, OfFile, StandsBy, AreLeft, IsFetched}
 use Rattle.yp_headline.specs.Storing.{stood_for}
 use Rattle.yp_headline.specs.Sources.{Source, Succeeded}
-use Rattle.yp_headline.specs.inside.Files.{mailed, StandsByFront}
+use Rattle.yp_headline.specs.inside.Files.{mailed}
 use Rattle.yp_headline.specs.Headline.{Crashes, Transfers}
 use Rattle.yp_headline.specs.inside.Tried.{somebody, synced, order_reply, master_reply}
 use Rattle.yp_headline.specs.inside.TriedFiles.{two_row_file}
 use Rattle.yp_headline.specs.inside.TriedWalks.{row_reply, end_reply, walk_of, two_mails, walked_log}
+use Rattle.yp_headline.proofs.Moments.{all_by_first}
 use Rattle.yp_headline.proofs.Runs.{front_self}
 use Rattle.yp_headline.proofs.Torn.{stands_none}
 use Rattle.yp_headline.proofs.Worked.{stands_as}
@@ -86,16 +87,17 @@ module _ (read : ReadIsBody) (shows : WalkedIsShown) where
     new = (inr fetched, tt);
   }
 
-  moments : (number : ℕ) → OfFile number world.stores (λ file. (image : List ℕ) → LeftIn file.moments image
-      → IsImage file.first image ⊎ StandsByFront world number [] walked_log image)
-  moments zero = λ image left. ⊎_elim
-      (λ is. inr (record {
-        log = walked_log;
-        begins = (walked_log, refl);
-        goes_on = front_self walked_log;
-        holds = inl (stands_stored image is);
-      }))
-      (λ later. ⊎_elim (λ is. inl is) (λ last. ⊎_elim (λ is. inl is) (λ none. absurd none) last) later) left
+  moments : (number : ℕ) → OfFile number world.stores (λ file. AreLeft world number file.first file.moments [] walked_log)
+  moments zero = record {
+    log = walked_log;
+    begins = (walked_log, refl);
+    goes_on = front_self walked_log;
+    holds = (
+      λ image is. inr (inl (stands_stored image is)),
+      all_by_first world 0 (synced []) (synced [] ∷ synced [] ∷ []) [] walked_log (walked_log, refl)
+          (λ image left. inl (⊎_elim (λ is. is) (λ last. ⊎_elim (λ is. is) (λ none. absurd none) last) left)),
+    );
+  }
   moments (suc number) = tt
 
   at_end : (number : ℕ) → OfFile number world.stores (λ file. (image : List ℕ) → IsImage file.last image
@@ -128,7 +130,7 @@ module _ (read : ReadIsBody) (shows : WalkedIsShown) where
     of_source = λ name named. throughout name (same_some (100 ∷ [], 112 ∷ []) name named);
   }
 
-  pub transfers : Transfers (walk_of (two_row_file 9 119) two_mails) walked_log
+  pub transfers : Transfers (walk_of (two_row_file 9 119) two_mails) [] walked_log
   transfers = record {
     done = λ number among. subst (λ (n : ℕ). Succeeded world walked_log n) (sym (only_done number among)) succeeded;
     called_back = λ some. absurd (some refl);

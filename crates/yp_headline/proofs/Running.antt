@@ -79,7 +79,7 @@ module _ {S K D C A I T : Type 0} (seen : Seeing S K D C A I T) (read : ReadIsBo
       once_replies seen store rows s old new before after does.0 unrefused some came taken sent input output took
   commanded (Session own peer stores hosts) s old new door door' before after logged does =
       λ served named came taken sent input output took told told' first last wires was is few more inputs.
-      session_holds seen own peer stores hosts s old new before after does.0 served named came taken sent input output took told told'
+      session_holds seen read shown between own peer stores hosts s old new before after does.0 served named came taken sent input output took told told'
       first last wires was is few more inputs
   commanded (Xfr name force store host flag) s old new door door' before after logged does =
       λ h h' was is held stood first last wires dial dial' few came inputs.

@@ -3,18 +3,17 @@ use Rattle.std.proofs.Common.{◌≡◌, ◌⊎◌, ℕ, zero, suc, Bool, true, 
 use Rattle.std.specs.Prelude.{Contains, flat_map, slice_get, IfSome, ⊤}
 use Rattle.std.specs.List.{AllByRecursion, AllZip}
 use Rattle.std.proofs.lemmas.List.{append_cancel_left, length-map}
-use Rattle.yp_io.specs.Disk.{History, IsImage, MayLeave, LeavesOnly}
-use Rattle.yp_io.specs.inside.DiskLaws.{counts_now, goes_on, splits}
+use Rattle.yp_io.specs.Disk.{History, IsImage}
 use Rattle.yp_io.specs.Calls.{ClosedConnection, ListenerHistory}
 use Rattle.yp_io.specs.Dials.{Connected, Wires}
 use Rattle.yp_version.specs.Versions.{MapVersion}
 use Rattle.yp_board.specs.Catalogues.{name_view}
 use Rattle.yp_board.specs.Logs.{Log, starts}
 use Rattle.yp_publisher.specs.Standing.{StoredMap, OfMap, versions}
-use Rattle.yp_publisher.specs.Grown.{Making, IsOfBetween, AtDisk, LeavesOr, AreTold}
+use Rattle.yp_publisher.specs.Grown.{Making, IsShownOrMade, LeavesByFronts, OrAsBefore, AtDisk, AreTold}
 use Rattle.yp_publisher.specs.Opens.{IsOpened}
 use Rattle.yp_publisher.specs.sharing.Failures as publisher
-use Rattle.yp_publisher.specs.sharing.Tracing.{IsNewBehind, LeavesSince}
+use Rattle.yp_publisher.specs.sharing.Tracing.{IsNewBehind}
 use Rattle.yp_worker.specs.Receptions.{terms_of}
 use Rattle.yp_worker.specs.Summing.{WorkerRun, ends_of, TellsClosed}
 use Rattle.yp_answer.specs.declared.session.session.TheConstants.{CALLS_MAX}
@@ -37,12 +36,13 @@ use Rattle.yp_headline.specs.World.{World, Connection, Datagram}
 use Rattle.yp_headline.specs.Serving.{IsServed, AreServed}
 use Rattle.yp_headline.specs.Publishing.{IsMarked, IsFetched, IsNew, IsPublishedLog, OfFile, StandsBy}
 use Rattle.yp_headline.specs.Headline.{Replies, Crashes}
-use Rattle.yp_headline.specs.inside.Files.{stores_between, StandsByFront}
+use Rattle.yp_headline.specs.inside.Files.{stores_between}
 use Rattle.yp_headline.specs.inside.Server.{IsToldClosed, Heard, closed_in, may_lose, was_hosted, AllTell, serve_world, ServeHolds}
 use Rattle.yp_headline.proofs.Runs.{none_among}
 use Rattle.yp_headline.proofs.Given.{fetched_gives}
 use Rattle.yp_headline.proofs.Built.{made_built}
-use Rattle.yp_headline.proofs.Stores.{stores_have, left_at, end_at, by_wire, zip_length, is_published, by_front, left_of_map}
+use Rattle.yp_headline.proofs.Stores.{stores_have, left_at, end_at, by_wire, zip_length, is_published, stands_by, left_of_map}
+use Rattle.yp_headline.proofs.Moments.{since_before}
 use Rattle.yp_headline.proofs.Server.{ConnectionsAreServed, all_served}
 use Rattle.yp_headline.proofs.Mail.{InboxesAreServed, boxes_served}
 
@@ -89,33 +89,22 @@ one_of P (wire ∷ wires) some = ⊎_elim
 
 -- ---- files
 
--- what a crash leaves since a disk was opened is what it leaves since before
-since_before : (Q : List ℕ → Type 0) (old opened new : Option History) → LeavesOnly old opened (MayLeave old)
-    → LeavesSince opened Q new → LeavesOnly old new (λ image. MayLeave old image ⊎ Q image)
-since_before Q old opened new first later = record {
-  goes_on = goes_on old opened new first.goes_on later.goes_on;
-  each = λ image left. ⊎_elim (λ before. inl (first.each image before))
-      (λ since. ⊎_elim (λ may. inl (first.each image (counts_now old opened image first.goes_on may))) (λ is. inr is)
-      (later.each image since))
-      (splits old opened new image first.goes_on later.goes_on left);
-}
-
 no_disk : {X : Type 0} (one : Option X) → IfSome one (λ item. ⊤)
 no_disk None = tt
 no_disk (Some item) = tt
 
-at_disk : {D : Type 0} (history : D → Option History) (faults : D → ℕ) (Q : List ℕ → Type 0) (number : ℕ) (olds : List D)
-    (maps kept : List (StoredMap D)) → AllZip (IsOpened history faults) olds maps
-    → IfSome (slice_get (map history (publisher.disks_of maps)) number)
-    (λ before. OfMap number kept (λ one. LeavesSince before Q (history one.disk)))
-    → AtDisk number olds (map (λ one. one.disk) kept) (LeavesOr history Q)
-at_disk history faults Q number [] maps kept opened since = tt
-at_disk history faults Q number (old ∷ olds) [] kept opened since = absurd opened
-at_disk history faults Q number (old ∷ olds) (one ∷ maps) [] opened since = no_disk (slice_get (old ∷ olds) number)
-at_disk history faults Q zero (old ∷ olds) (one ∷ maps) (last ∷ kept) opened since =
-    since_before Q (history old) (history one.disk) (history last.disk) opened.0.moments since
-at_disk history faults Q (suc number) (old ∷ olds) (one ∷ maps) (last ∷ kept) opened since =
-    at_disk history faults Q number olds maps kept opened.1 since
+module _ {D : Type 0} (history : D → Option History) (faults : D → ℕ) (P : Log → List ℕ → Type 0) (begun log : Log) where
+  at_disk : (number : ℕ) (olds : List D) (maps kept : List (StoredMap D)) → AllZip (IsOpened history faults) olds maps
+      → IfSome (slice_get (map history (publisher.disks_of maps)) number)
+      (λ before. OfMap number kept (λ one. LeavesByFronts P before (history one.disk) begun log))
+      → AtDisk number olds (map (λ one. one.disk) kept)
+      (λ before after. LeavesByFronts (OrAsBefore (history before) begun P) (history before) (history after) begun log)
+  at_disk number [] maps kept opened since = tt
+  at_disk number (old ∷ olds) [] kept opened since = absurd opened
+  at_disk number (old ∷ olds) (one ∷ maps) [] opened since = no_disk (slice_get (old ∷ olds) number)
+  at_disk zero (old ∷ olds) (one ∷ maps) (last ∷ kept) opened since =
+      since_before P begun log (history old) (history one.disk) (history last.disk) opened.0.moments since
+  at_disk (suc number) (old ∷ olds) (one ∷ maps) (last ∷ kept) opened since = at_disk number olds maps kept opened.1 since
 
 -- ---- the whole
 
@@ -227,11 +216,12 @@ module _ {S K D C A I T : Type 0} (seen : Seeing S K D C A I T) (job : Job) (s :
         let traces = serves.is_hosted.served.accounted.traced.traced in
         record {
           published = published;
-          any_moment = λ number. left_at seen.disk.history (IsOfBetween Is number begun log)
-              (StandsByFront world number begun log) (by_front world Is begun log is_new number) number olds news
-              (subst (λ (l : List D). AtDisk number olds l (LeavesOr seen.disk.history (IsOfBetween Is number begun log)))
-              (sym disks_are)
-              (at_disk seen.disk.history seen.disk.faults (IsOfBetween Is number begun log) number olds maps kept
+          any_moment = λ number. left_at seen.disk.history world number begun log (IsShownOrMade Is number)
+              (stands_by world Is begun log is_new number) number olds news
+              (subst (λ (l : List D). AtDisk number olds l (λ before after. LeavesByFronts
+              (OrAsBefore (seen.disk.history before) begun (IsShownOrMade Is number)) (seen.disk.history before)
+              (seen.disk.history after) begun log)) (sym disks_are)
+              (at_disk seen.disk.history seen.disk.faults (IsShownOrMade Is number) begun log number olds maps kept
               serves.is_hosted.opened (traces.traced.any_moment number)));
           at_end = λ number. subst (λ (l : List D). OfFile number (stores_between seen.disk.history olds l)
               (λ file. (image : List ℕ) → IsImage file.last image → IsImage file.first image ⊎ StandsBy world number log image))

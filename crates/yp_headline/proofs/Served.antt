@@ -3,12 +3,13 @@ use Rattle.std.proofs.Common.{◌≡◌, ◌⊎◌, ℕ, zero, suc, ◌≤◌, L
 use Rattle.std.specs.Prelude.{◌==◌}
 use Rattle.std.specs.List.{AllZip}
 use Rattle.std.proofs.lemmas.List.{append-nil}
-use Rattle.yp_io.specs.Disk.{IsImage, LeftIn}
+use Rattle.yp_io.specs.Disk.{IsImage}
 use Rattle.yp_xdr.specs.Reading.{word_at, content_at, opaque_at}
 use Rattle.yp_rpc.specs.Records.{sent}
 use Rattle.yp_rpc.specs.inside.Laws.{FirstIsOne}
 use Rattle.yp_version.specs.Versions.{MapVersion}
 use Rattle.yp_board.specs.Logs.{Log, shown, starts}
+use Rattle.yp_board.specs.Between.{Between}
 use Rattle.yp_texts.specs.Builds.{order_after}
 use Rattle.yp_texts.specs.After.{last_order}
 use Rattle.yp_answer.specs.Reply.{Response}
@@ -16,15 +17,16 @@ use Rattle.yp_headline.specs.inside.Tried.{somebody, version_with, whole_file, s
 use Rattle.yp_headline.specs.World.{World, Dialed}
 use Rattle.yp_headline.specs.Fetching.{Gives}
 use Rattle.yp_headline.specs.Storing.{stood_for}
-use Rattle.yp_headline.specs.Publishing.{IsBuilt, IsFetched, IsNew, StoreHas, IsPublishedLog, OfFile, StandsBy}
+use Rattle.yp_headline.specs.Publishing.{IsBuilt, IsFetched, IsNew, StoreHas, IsPublishedLog, OfFile, StandsBy, AreLeft}
 use Rattle.yp_headline.specs.Serving.{IsReply}
 use Rattle.yp_headline.specs.Headline.{Replies, Crashes}
-use Rattle.yp_headline.specs.inside.Files.{streamed, StandsByFront}
+use Rattle.yp_headline.specs.inside.Files.{streamed}
 use Rattle.yp_headline.proofs.Runs.{front_self, none_among}
 use Rattle.yp_headline.proofs.Listing.{one_listed, listed_once}
 use Rattle.yp_headline.proofs.Torn.{is_image, stands_first, stands_second}
 use Rattle.yp_headline.proofs.Lost.{same_held, stored_same, no_image}
 use Rattle.yp_headline.proofs.Kept.{stands_so}
+use Rattle.yp_headline.proofs.Moments.{unchanged, at_any}
 use Rattle.yp_headline.proofs.Matched.{match_record}
 use Rattle.yp_headline.proofs.Worked.{matched_on, two_rise, make_then_match, stands_as, eighth}
 use Rattle.yp_headline.proofs.Mailed.{two_inboxes}
@@ -96,15 +98,25 @@ given_stands : (image : List ℕ) → IsImage (synced (whole_file 9 119)) image 
 given_stands image is =
     inr (version_with 9 119, inr fetched, stands_as (whole_file 9 119) image (version_with 9 119) stands_second is)
 
-by_all : (image : List ℕ) → StandsBy right 0 made_log image → StandsByFront right 0 first_log made_log image
-by_all image is = record { log = made_log; begins = ((0, version_with 8 119) ∷ [], refl); goes_on = front_self made_log; holds = is }
-
-moments : (number : ℕ) → OfFile number right.stores (λ file. (image : List ℕ) → LeftIn file.moments image
-    → IsImage file.first image ⊎ StandsByFront right number first_log made_log image)
-moments zero = λ image left. ⊎_elim (λ is. inr (by_all image (given_stands image is)))
-    (λ more. ⊎_elim
-    (λ is. inr (by_all image (inl (stands_as (whole_file 8 119) image (version_with 8 119) eighth is))))
-    (λ last. ⊎_elim (λ is. inl is) (λ none. absurd none) last) more) left
+moments : (number : ℕ) → OfFile number right.stores
+    (λ file. AreLeft right number file.first file.moments first_log made_log)
+moments zero = record {
+  log = made_log;
+  begins = ((0, version_with 8 119) ∷ [], refl);
+  goes_on = front_self made_log;
+  holds = (
+    λ image is. inr (given_stands image is),
+    record {
+      log = made_log;
+      begins = ((0, version_with 8 119) ∷ [], refl);
+      goes_on = front_self made_log;
+      holds = (
+        λ image is. inr (inl (stands_as (whole_file 8 119) image (version_with 8 119) eighth is)),
+        unchanged right 0 (synced (whole_file 7 118)) first_log made_log ((0, version_with 8 119) ∷ [], refl),
+      );
+    },
+  );
+}
 moments (suc number) = tt
 
 ends : (number : ℕ) → OfFile number right.stores (λ file. (image : List ℕ) → IsImage file.last image
@@ -191,7 +203,7 @@ module _ (one : FirstIsOne) (middle last : List ℕ) where
 
     -- the file stands for another row
     pub another_row : (image : List ℕ) → stood_for image ≡ Some (Some (version_with 8 120))
-        → StandsByFront world 0 begun log image → ⊥
+        → Between begun log (λ front. StandsBy world 0 front image) → ⊥
     another_row image is by =
         let so = stands_so world 0 OfText new_of_text begun log crashes.published shows_text by.log by.begins by.goes_on image
         by.holds in
@@ -202,7 +214,7 @@ module _ (one : FirstIsOne) (middle last : List ℕ) where
 
     -- it stands for the first order with other rows
     pub too_early : (image : List ℕ) → stood_for image ≡ Some (Some (version_with 7 119))
-        → StandsByFront world 0 begun log image → ⊥
+        → Between begun log (λ front. StandsBy world 0 front image) → ⊥
     too_early image is by =
         let so = stands_so world 0 IsLater new_is_later begun log crashes.published shows_later by.log by.begins by.goes_on
         image by.holds in
@@ -215,7 +227,9 @@ module _ (one : FirstIsOne) (middle last : List ℕ) where
 pub of_nobody_meanwhile : FirstIsOne → IsTornWorld (served_world (whole_file 8 120) (whole_file 8 119))
 of_nobody_meanwhile one begun log crashes = ⊎_elim (not_kept 8 120 (λ e. omega (arith, e)))
     (another_row one (whole_file 8 120) (whole_file 8 119) begun log crashes (whole_file 8 120) stands_untold)
-    (crashes.any_moment 0 (whole_file 8 120) (inr (inl (is_image (whole_file 8 120)))))
+    (at_any (served_world (whole_file 8 120) (whole_file 8 119)) 0 (synced (whole_file 7 118))
+    (synced (whole_file 8 119) ∷ synced (whole_file 8 120) ∷ synced (whole_file 7 118) ∷ []) begun log
+    (crashes.any_moment 0) (whole_file 8 120) (inr (inl (is_image (whole_file 8 120)))))
 
 pub of_nobody_at_end : FirstIsOne → IsTornWorld (served_world (whole_file 8 119) (whole_file 8 120))
 of_nobody_at_end one begun log crashes = ⊎_elim (not_kept 8 120 (λ e. omega (arith, e)))
@@ -231,4 +245,6 @@ pub never_new : FirstIsOne → IsTornWorld (served_world (whole_file 7 119) (who
 never_new one begun log crashes = ⊎_elim
     (λ first. let e : 119 ≡ 118 = no_image (whole_file 7 118) (whole_file 7 119) first 96 (omega arith) in omega (arith, e))
     (too_early one (whole_file 7 119) (whole_file 8 119) begun log crashes (whole_file 7 119) stands_early)
-    (crashes.any_moment 0 (whole_file 7 119) (inr (inl (is_image (whole_file 7 119)))))
+    (at_any (served_world (whole_file 7 119) (whole_file 8 119)) 0 (synced (whole_file 7 118))
+    (synced (whole_file 8 119) ∷ synced (whole_file 7 119) ∷ synced (whole_file 7 118) ∷ []) begun log
+    (crashes.any_moment 0) (whole_file 7 119) (inr (inl (is_image (whole_file 7 119)))))

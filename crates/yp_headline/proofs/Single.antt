@@ -1,7 +1,7 @@
 -- A command over one file: what a crash leaves of it, and what it stored.
-use Rattle.std.proofs.Common.{◌≡◌, ◌⊎◌, ℕ, zero, suc, Bool, true, false, List, [], ◌∷◌, ◌++◌, Option, Some, None, refl, sym, ap, ◌∙◌, inl, inr, ⊎_elim}
+use Rattle.std.proofs.Common.{◌≡◌, ◌⊎◌, ℕ, zero, suc, ◌-◌, Bool, true, false, List, [], ◌∷◌, ◌++◌, take, Option, Some, None, refl, sym, ap, ◌∙◌, inl, inr, ⊎_elim}
 use Rattle.std.proofs.lemmas.List.{append-nil}
-use Rattle.yp_io.specs.Disk.{History, IsImage, LeftIn, LeftBetween, MayLeave}
+use Rattle.yp_io.specs.Disk.{History, IsImage, LeftBetween, MayLeave, states, moment}
 use Rattle.yp_version.specs.Versions.{MapVersion}
 use Rattle.yp_map_file.specs.Stands.{Stored, stands}
 use Rattle.yp_board.specs.Catalogues.{Name}
@@ -9,12 +9,12 @@ use Rattle.yp_board.specs.Logs.{Log, shown}
 use Rattle.yp_publisher.specs.Standing.{stands_for}
 use Rattle.yp_texts.specs.declared.reading.Reading.{Reading}
 use Rattle.yp_headline.specs.World.{World, Dialed}
-use Rattle.yp_headline.specs.Publishing.{IsAmong, IsNew, OfFile, StandsBy}
+use Rattle.yp_headline.specs.Publishing.{IsAmong, IsNew, OfFile, StandsBy, AreLeft}
 use Rattle.yp_headline.specs.Headline.{Crashes}
-use Rattle.yp_headline.specs.inside.Files.{file_world, file_log, file_log_with, StandsByFront}
+use Rattle.yp_headline.specs.inside.Files.{file_world, file_log, file_log_with}
 use Rattle.yp_headline.specs.Storing.{stood_for}
-use Rattle.yp_headline.proofs.Runs.{front_self}
 use Rattle.yp_headline.proofs.Stood.{stood as as_stood}
+use Rattle.yp_headline.proofs.Moments.{all_by_first}
 
 pub shown_first : (held : Option MapVersion) → shown 0 (file_log held) ≡ held
 shown_first None = refl
@@ -50,17 +50,10 @@ module _ (own : List ℕ) (name : Name) (text : List ℕ → Option (List ℕ)) 
         (λ later. inr (⊎_elim (λ same. inl (as_stood image (shown 0 (file_log held)) (same ∙ ap stands_for (sym (shown_first held)))))
         (λ one. inr (one.0, is_new one.0 one.1, as_stood image (Some one.0) one.2)) later)) (each image left)
 
-    by_front : (log : Log) → (more : Log) → log ≡ file_log held ++ more → (image : List ℕ)
-        → LeftBetween (Some old) (Some new) image
-        → IsImage old.state image ⊎ StandsByFront (world told) 0 (file_log held) log image
-    by_front log more is image left = ⊎_elim (λ first. inl first)
-        (λ by. inr (record { log = file_log held; begins = front_self (file_log held); goes_on = (more, is); holds = by }))
-        (by_first image left)
-
-    any_moment : (log more : Log) → log ≡ file_log held ++ more → (number : ℕ)
-        → OfFile number (world told).stores (λ file. (image : List ℕ) → LeftIn file.moments image
-        → IsImage file.first image ⊎ StandsByFront (world told) number (file_log held) log image)
-    any_moment log more is zero = by_front log more is
+    any_moment : (log more : Log) → log ≡ file_log held ++ more → (number : ℕ) → OfFile number (world told).stores
+        (λ file. AreLeft (world told) number file.first file.moments (file_log held) log)
+    any_moment log more is zero = all_by_first (world told) 0 old.state
+        (take (suc (moment new - moment old)) (states new)) (file_log held) log (more, is) by_first
     any_moment log more is (suc number) = tt
 
     no_end : (number : ℕ) → OfFile number (world told).stores (λ file. (image : List ℕ) → IsImage file.last image

@@ -18,6 +18,7 @@ use Rattle.yp_answer.specs.declared.procedure.Path.TheVariants.{Stream}
 use Rattle.yp_headline.specs.inside.Files.{streamed}
 use Rattle.yp_headline.specs.Fetching.{head_kind, Reads, Says, RowsAre, SayRows, Hears, Gives}
 use Rattle.yp_headline.specs.Publishing.{IsAmong}
+use Rattle.yp_headline.specs.inside.TriedFiles.{skewed_bytes}
 use Rattle.yp_headline.specs.inside.Tried.{somebody, whole_file, one_file, IsWrongTransfer, order_reply, master_reply, all_reply}
 use Rattle.yp_headline.proofs.Heads.{same_pair}
 use Rattle.yp_headline.proofs.Fetching.{first_order, order_record, master_record, rows_record, left_at}
@@ -127,9 +128,7 @@ module _ (first_one : FirstIsOne) where
       none_behind 3 more.all (more.again ∷ []) (subst (λ (l : List (List ℕ)). Hears Stream 3 [] l) more.are two.1)
 
   -- the last reply has another order
-  skewed : (version : MapVersion) → Gives
-      (streamed somebody (sent (order_reply 1 9) ++ (sent (master_reply 2) ++ (sent (all_reply 3) ++ sent (order_reply 4 10))))) version
-      → ⊥
+  pub skewed : (version : MapVersion) → Gives (streamed somebody skewed_bytes) version → ⊥
   skewed version gives =
       let one = after_order (sent (master_reply 2) ++ (sent (all_reply 3) ++ sent (order_reply 4 10))) _ version refl gives in
       let two = behind 2 (master_reply 2) (sent (all_reply 3) ++ sent (order_reply 4 10)) _ gives.master gives.others
@@ -145,7 +144,7 @@ module _ (first_one : FirstIsOne) where
   -- such a transfer isn't done
   pub undone : (came : List ℕ) → ((version : MapVersion) → Gives (streamed somebody came) version → ⊥)
       → IsWrongTransfer (one_file [] [] (whole_file 7 118) (0 ∷ []) (streamed somebody came ∷ []))
-  undone came never log transfers =
+  undone came never begun log transfers =
       let done = transfers.done 0 ([], [], refl) in
       let server = one_server (streamed somebody came) done.fetched.server done.fetched.among in
       never done.fetched.fetched (subst (λ (d : Dialed). Gives d done.fetched.fetched) server done.fetched.gives)
@@ -162,5 +161,5 @@ module _ (first_one : FirstIsOne) where
   gave_no_rows = undone (sent (order_reply 1 9) ++ sent (master_reply 2)) no_rows_came
 
   pub gave_skewed : IsWrongTransfer (one_file [] [] (whole_file 7 118) (0 ∷ [])
-      (streamed somebody (sent (order_reply 1 9) ++ (sent (master_reply 2) ++ (sent (all_reply 3) ++ sent (order_reply 4 10)))) ∷ []))
-  gave_skewed = undone (sent (order_reply 1 9) ++ (sent (master_reply 2) ++ (sent (all_reply 3) ++ sent (order_reply 4 10)))) skewed
+      (streamed somebody skewed_bytes ∷ []))
+  gave_skewed = undone skewed_bytes skewed

@@ -227,3 +227,13 @@ mails_throughout read walked wanted peer came draft gives steps ended source =
     (are_served read source.catalogue source.log source.named source.stored) walked source.rises source.names.0 source.names.1
     peer source.first source.last source.to_log gives.order gives.master gives.rows gives.others steps source.on_first source.others
     draft ended
+
+-- as it was stored, but for its mark
+pub marked_throughout : {server : Dialed} {version : MapVersion} (name : Name) (gives : Gives server version) (stored : MapVersion)
+    → IsMarked version stored → (source : Source name gives) → Throughout name gives source version
+    → Throughout name gives source stored
+marked_throughout name gives stored marked source shown = (
+  shown.0,
+  marked ∙ ap (λ (v : MapVersion). record v { secure = stored.secure }) shown.1,
+  shown.2,
+)

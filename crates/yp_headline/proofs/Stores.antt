@@ -1,21 +1,22 @@
 -- What the stores of a world have, what a crash leaves of them, and what is new of a log.
-use Rattle.std.proofs.Common.{◌≡◌, ◌⊎◌, ℕ, zero, suc, List, [], ◌∷◌, ◌++◌, length, map, Option, Some, None, refl, sym, ap, ◌∙◌, subst, arith, inl, inr, ⊎_elim}
+use Rattle.std.proofs.Common.{◌≡◌, ◌⊎◌, ℕ, zero, suc, ◌-◌, List, [], ◌∷◌, ◌++◌, length, map, take, Option, Some, None, refl, sym, ap, ◌∙◌, subst, arith, inl, inr, ⊎_elim}
 use Rattle.std.specs.Prelude.{IfSome, IsSome, slice_get, slice_index_or, unwrap_or}
 use Rattle.std.specs.List.{AllZip}
 use Rattle.std.proofs.lemmas.List.{map-append}
-use Rattle.yp_io.specs.Disk.{History, IsImage, LeftIn, MayLeave, LeavesOnly}
+use Rattle.yp_io.specs.Disk.{History, IsImage, MayLeave, states, moment}
 use Rattle.yp_io.specs.Dials.{Connected}
 use Rattle.yp_version.specs.Versions.{MapVersion}
 use Rattle.yp_map_file.specs.Stands.{stands}
 use Rattle.yp_board.specs.Logs.{Log, shown, starts}
 use Rattle.yp_publisher.specs.Standing.{StoredMap, MapStanding, Level, Behind, OfMap, Shows, stands_for, StandsAs, IsStanding, versions}
 use Rattle.yp_publisher.specs.Opens.{IsOpened}
-use Rattle.yp_publisher.specs.Grown.{Making, AreMade, GrowsBy, IsShownOrMade, IsOfBetween, IsBehindMade, AtDisk, LeavesOr, AreTold}
+use Rattle.yp_publisher.specs.Grown.{Making, AreMade, GrowsBy, IsShownOrMade, LeavesByFronts, OrAsBefore, IsBehindMade, AtDisk, AreTold}
 use Rattle.yp_headline.specs.World.{World}
 use Rattle.yp_headline.specs.Fetching.{Gives}
-use Rattle.yp_headline.specs.Publishing.{IsMarked, IsFetched, IsNew, StoreHas, IsPublishedLog, OfStore, OfFile, StandsBy}
-use Rattle.yp_headline.specs.inside.Files.{filed, stores_between, streamed, dialed_of, StandsByFront}
+use Rattle.yp_headline.specs.Publishing.{IsMarked, IsFetched, IsNew, StoreHas, IsPublishedLog, OfStore, OfFile, StandsBy, AreLeft}
+use Rattle.yp_headline.specs.inside.Files.{filed, stores_between, streamed, dialed_of}
 use Rattle.yp_headline.proofs.Stood.{stood as as_stood}
+use Rattle.yp_headline.proofs.Moments.{of_turn}
 
 -- ---- files
 
@@ -49,24 +50,28 @@ module _ {D : Type 0} (history : D → Option History) where
   )
 
   -- what a crash leaves of a file at each moment
-  left_of : (Q P : List ℕ → Type 0) → ((image : List ℕ) → Q image → P image) → (old new : Option History)
-      → LeavesOnly old new (λ image. MayLeave old image ⊎ Q image)
-      → OfStore (λ file. (image : List ℕ) → LeftIn file.moments image → IsImage file.first image ⊎ P image) (filed old new)
-  left_of Q P then None None leaves = tt
-  left_of Q P then None (Some new) leaves = tt
-  left_of Q P then (Some old) None leaves = tt
-  left_of Q P then (Some old) (Some new) leaves =
-      λ image left. ⊎_elim (λ first. inl first) (λ is. inr (then image is)) (leaves.each image left)
+  module _ (world : World) (map : ℕ) (begun log : Log) (P : Log → List ℕ → Type 0)
+      (then : (front : Log) (image : List ℕ) → P front image → StandsBy world map front image) where
+    abbrev LeavesSo : Option History → Option History → Type 0
+    LeavesSo old new = LeavesByFronts (OrAsBefore old begun P) old new begun log
 
-  pub left_at : (Q P : List ℕ → Type 0) → ((image : List ℕ) → Q image → P image) → (number : ℕ) (olds news : List D)
-      → AtDisk number olds news (LeavesOr history Q)
-      → OfFile number (stores_between history olds news)
-      (λ file. (image : List ℕ) → LeftIn file.moments image → IsImage file.first image ⊎ P image)
-  left_at Q P then number [] [] at = tt
-  left_at Q P then number [] (new ∷ news) at = tt
-  left_at Q P then number (old ∷ olds) [] at = tt
-  left_at Q P then zero (old ∷ olds) (new ∷ news) at = left_of Q P then (history old) (history new) at
-  left_at Q P then (suc number) (old ∷ olds) (new ∷ news) at = left_at Q P then number olds news at
+    left_of : (old new : Option History) → LeavesSo old new
+        → OfStore (λ file. AreLeft world map file.first file.moments begun log) (filed old new)
+    left_of None None leaves = tt
+    left_of None (Some new) leaves = tt
+    left_of (Some old) None leaves = tt
+    left_of (Some old) (Some new) leaves = of_turn world map old.state (OrAsBefore (Some old) begun P) begun
+        (λ front image is. ⊎_elim (λ before. inl before) (λ by. inr (then front image by)) is)
+        (take (suc (moment new - moment old)) (states new)) log leaves.each
+
+    pub left_at : (number : ℕ) (olds news : List D)
+        → AtDisk number olds news (λ before after. LeavesSo (history before) (history after))
+        → OfFile number (stores_between history olds news) (λ file. AreLeft world map file.first file.moments begun log)
+    left_at number [] [] at = tt
+    left_at number [] (new ∷ news) at = tt
+    left_at number (old ∷ olds) [] at = tt
+    left_at zero (old ∷ olds) (new ∷ news) at = left_of (history old) (history new) at
+    left_at (suc number) (old ∷ olds) (new ∷ news) at = left_at number olds news at
 
   -- what a crash leaves of a file at the end
   end_of : (P : List ℕ → Type 0) (old new : Option History)
@@ -103,11 +108,11 @@ made_so Is Is' then log [] made = tt
 made_so Is Is' then log (entry ∷ more) made =
     (then entry.0 log entry.1 made.0, made_so Is Is' then (log ++ entry ∷ []) more made.1)
 
-told_input : (input : Option (List ℕ)) (stream : List ℕ) → input ≡ Some stream → unwrap_or input [] ≡ stream
+pub told_input : (input : Option (List ℕ)) (stream : List ℕ) → input ≡ Some stream → unwrap_or input [] ≡ stream
 told_input input stream is = ap (λ (o : Option (List ℕ)). unwrap_or o []) is
 
 -- a version that came by a wire
-pub by_wire : (world : World) (wires front back : List Connected) (wire : Connected) → world.dialed ≡ map dialed_of wires
+abbrev pub by_wire : (world : World) (wires front back : List Connected) (wire : Connected) → world.dialed ≡ map dialed_of wires
     → wires ≡ front ++ wire ∷ back → (stream : List ℕ) → wire.input ≡ Some stream → (fetched version : MapVersion)
     → Gives (streamed wire.peer stream) fetched → IsMarked fetched version → IsFetched world version
 by_wire world wires front back wire dialed parts stream input fetched version gives marked = record {
@@ -143,18 +148,9 @@ module _ (world : World) (Is : Making) (first last : Log)
     new = made_so Is (IsNew world) is_new first grown.more grown.made;
   }
 
-  stands_by : (number : ℕ) (log : Log) (image : List ℕ) → IsShownOrMade Is number log image → StandsBy world number log image
+  pub stands_by : (number : ℕ) (log : Log) (image : List ℕ) → IsShownOrMade Is number log image → StandsBy world number log image
   stands_by number log image is = ⊎_elim (λ as_shown. inl (as_stood image (shown number log) as_shown))
       (λ made. inr (made.0, is_new number log made.0 made.1, as_stood image (Some made.0) made.2)) is
-
-  pub by_front : (number : ℕ) (image : List ℕ) → IsOfBetween Is number first last image
-      → StandsByFront world number first last image
-  by_front number image is = record {
-    log = is.log;
-    begins = is.begins;
-    goes_on = is.goes_on;
-    holds = stands_by number is.log image is.holds;
-  }
 
   by_standing : (number : ℕ) (standing : MapStanding) (image : List ℕ) → StandsAs standing (shown number last) image
       → IsBehindMade Is number last standing → StandsBy world number last image

@@ -8,6 +8,7 @@ use Rattle.yp_headline.specs.inside.Tried.{version_with, whole_file, torn_file, 
 use Rattle.yp_headline.specs.World.{World, Dialed}
 use Rattle.yp_headline.specs.Storing.{stood_for}
 use Rattle.yp_headline.specs.Publishing.{IsAmong, StandsBy}
+use Rattle.yp_headline.proofs.Moments.{at_any}
 
 -- ---- files
 
@@ -54,7 +55,8 @@ pub torn_meanwhile : IsTornWorld (one_file [] torn_file [] [] [])
 torn_meanwhile begun log crashes = ⊎_elim
     (λ first. let same = image_length [] torn_file first in omega (arith, same))
     (λ by. no_damage (one_file [] torn_file [] [] []) by.log torn_file stands_torn by.holds)
-    (crashes.any_moment 0 torn_file (inr (inl (is_image torn_file))))
+    (at_any (one_file [] torn_file [] [] []) 0 (synced []) (synced [] ∷ synced torn_file ∷ synced [] ∷ []) begun log
+    (crashes.any_moment 0) torn_file (inr (inl (is_image torn_file))))
 
 -- ---- transfers
 
@@ -64,5 +66,5 @@ no_server server (one ∷ front, back, is) = cc
 
 -- a transfer that is told as done, where no server was dialed
 pub of_no_server : IsWrongTransfer (one_file [] [] (whole_file 7 118) (0 ∷ []) [])
-of_no_server log transfers =
+of_no_server begun log transfers =
     let done = transfers.done 0 ([], [], refl) in no_server done.fetched.server done.fetched.among

@@ -1,12 +1,12 @@
 -- Worlds that are right: a map that is made and then asked for, three installs, a source that changes, and a map that is
 -- fetched.
-use Rattle.std.proofs.Common.{◌≡◌, ◌⊎◌, ℕ, zero, suc, Bool, true, false, cond, List, [], ◌∷◌, ◌++◌, map, Option, Some, None, refl, sym, ap, ◌∙◌, subst, arith, inl, inr, ⊎_elim, append_assoc}
+use Rattle.std.proofs.Common.{◌≡◌, ◌⊎◌, ℕ, zero, suc, Bool, true, false, cond, List, [], ◌∷◌, ◌++◌, map, Option, Some, None, refl, sym, ap, ◌∙◌, subst, arith, inl, inr, append_assoc}
 use Rattle.std.specs.Prelude.{◌==◌}
 use Rattle.std.specs.List.Sorted.{IsStrictlyIncreasing}
 use Rattle.std.proofs.lemmas.List.{append-nil}
 use Rattle.std.proofs.lemmas.List.Elements.{All-nil, All-cons}
 use Rattle.yp_io.specs.declared.stream.Peer.{Peer}
-use Rattle.yp_io.specs.Disk.{IsImage, LeftIn}
+use Rattle.yp_io.specs.Disk.{DiskState, IsImage}
 use Rattle.yp_xdr.specs.Reading.{word_at, content_at, opaque_at}
 use Rattle.yp_xdr.specs.Spelling.{fixed, opaque}
 use Rattle.yp_rpc.specs.Records.{Fragments, IsShort, sent, sent_within}
@@ -23,13 +23,13 @@ use Rattle.std.proofs.lemmas.Grind.{same_number_lists}
 use Rattle.yp_texts.specs.Builds.{order_after}
 use Rattle.yp_texts.specs.After.{other_master, last_order}
 use Rattle.yp_headline.specs.inside.Tried.{version_with, whole_file, synced, match_call, match_reply, first_log, own_map, own_caller, make_call, make_world, made_log, skewed_world, installing, all_log, twice_log}
-use Rattle.yp_headline.specs.Publishing.{IsAmong, IsBuilt, OfFile, StandsBy}
+use Rattle.yp_headline.specs.Publishing.{IsAmong, IsBuilt, OfFile, StandsBy, AreLeft}
 use Rattle.yp_headline.specs.Serving.{IsReply}
 use Rattle.yp_headline.specs.Storing.{stood_for}
-use Rattle.yp_headline.specs.inside.Files.{StandsByFront}
 use Rattle.yp_headline.specs.Headline.{Replies, Crashes, Transfers}
 use Rattle.yp_headline.proofs.Runs.{front_self, none_among}
 use Rattle.yp_headline.proofs.Listing.{one_listed}
+use Rattle.yp_headline.proofs.Moments.{unchanged}
 use Rattle.yp_headline.proofs.Torn.{stands_first}
 use Rattle.yp_headline.proofs.Matched.{match_record}
 
@@ -126,9 +126,10 @@ make_then_match = record {
 
 -- ---- a source that changes between its replies: nothing is stored
 
-skewed_moments : (came : List ℕ) (number : ℕ) → OfFile number (skewed_world came).stores (λ file. (image : List ℕ)
-    → LeftIn file.moments image → IsImage file.first image ⊎ StandsByFront (skewed_world came) number first_log first_log image)
-skewed_moments came zero = λ image left. ⊎_elim (λ is. inl is) (λ none. absurd none) left
+skewed_moments : (came : List ℕ) (number : ℕ) → OfFile number (skewed_world came).stores
+    (λ file. AreLeft (skewed_world came) number file.first file.moments first_log first_log)
+skewed_moments came zero =
+    unchanged (skewed_world came) 0 (synced (whole_file 7 118)) first_log first_log (front_self first_log)
 skewed_moments came (suc number) = tt
 
 skewed_end : (came : List ℕ) (number : ℕ) → OfFile number (skewed_world came).stores (λ file. (image : List ℕ)
@@ -136,7 +137,8 @@ skewed_end : (came : List ℕ) (number : ℕ) → OfFile number (skewed_world ca
 skewed_end came zero = λ image is. inl is
 skewed_end came (suc number) = tt
 
-pub skewed_source : (came : List ℕ) → Crashes (skewed_world came) first_log first_log × Transfers (skewed_world came) first_log
+pub skewed_source : (came : List ℕ) → Crashes (skewed_world came) first_log first_log
+    × Transfers (skewed_world came) first_log first_log
 skewed_source came = (
   record {
     published = record {
@@ -180,21 +182,33 @@ next_made : (moment : ℕ) (log : Log) → other_master (109 ∷ []) (shown 0 lo
     → order_after (last_order (shown 0 log)) moment ≡ Some moment → IsBuilt installing 0 log (version_with moment 119)
 next_made moment log own order = record { moment = moment; master = refl; of_own = own; order = order; rows = λ none. one_listed (107 ∷ [], 119 ∷ []) }
 
-by_front : (front later : Log) (image : List ℕ) (version : MapVersion) → IsFront first_log front → all_log ≡ front ++ later
-    → shown 0 front ≡ Some version → stood_for image ≡ Some (Some version)
-    → StandsByFront installing 0 first_log all_log image
-by_front front later image version begins all shows is =
-    record { log = front; begins = begins; goes_on = (later, all); holds = inl (is ∙ ap (λ (o : Option MapVersion). Some o) (sym shows)) }
+-- a moment at which a version is shown
+shown_then : (front next later : Log) (bytes : List ℕ) (version : MapVersion) (earlier : List DiskState)
+    → IsFront first_log front → next ≡ front ++ later → shown 0 front ≡ Some version → stood_for bytes ≡ Some (Some version)
+    → AreLeft installing 0 (synced (whole_file 7 118)) earlier first_log front
+    → AreLeft installing 0 (synced (whole_file 7 118)) (synced bytes ∷ earlier) first_log next
+shown_then front next later bytes version earlier begins goes shows is rest = record {
+  log = front;
+  begins = begins;
+  goes_on = (later, goes);
+  holds = (
+    λ image may. inr (inl (stands_as bytes image version is may ∙ ap (λ (o : Option MapVersion). Some o) (sym shows))),
+    rest,
+  );
+}
 
-install_moments : (number : ℕ) → OfFile number installing.stores (λ file. (image : List ℕ)
-    → LeftIn file.moments image → IsImage file.first image ⊎ StandsByFront installing number first_log all_log image)
-install_moments zero = λ image left. ⊎_elim
-    (λ is. inr (by_front all_log [] image (version_with 10 119) ((0, version_with 8 119) ∷ (0, version_with 9 119) ∷ (0, version_with 10 119) ∷ [], refl) refl refl (stands_as (whole_file 10 119) image (version_with 10 119) tenth is)))
-    (λ later. ⊎_elim
-    (λ is. inr (by_front twice_log ((0, version_with 10 119) ∷ []) image (version_with 9 119) ((0, version_with 8 119) ∷ (0, version_with 9 119) ∷ [], refl) refl refl (stands_as (whole_file 9 119) image (version_with 9 119) ninth is)))
-    (λ later. ⊎_elim
-    (λ is. inr (by_front made_log ((0, version_with 9 119) ∷ (0, version_with 10 119) ∷ []) image (version_with 8 119) ((0, version_with 8 119) ∷ [], refl) refl refl (stands_as (whole_file 8 119) image (version_with 8 119) eighth is)))
-    (λ later. ⊎_elim (λ is. inl is) (λ none. absurd none) later) later) later) left
+install_moments : (number : ℕ) → OfFile number installing.stores
+    (λ file. AreLeft installing number file.first file.moments first_log all_log)
+install_moments zero =
+    let first = synced (whole_file 7 118) in
+    let eight : IsFront first_log made_log = ((0, version_with 8 119) ∷ [], refl) in
+    shown_then all_log all_log [] (whole_file 10 119) (version_with 10 119)
+    (synced (whole_file 9 119) ∷ synced (whole_file 8 119) ∷ first ∷ [])
+    ((0, version_with 8 119) ∷ (0, version_with 9 119) ∷ (0, version_with 10 119) ∷ [], refl) refl refl tenth
+    (shown_then twice_log all_log ((0, version_with 10 119) ∷ []) (whole_file 9 119) (version_with 9 119)
+    (synced (whole_file 8 119) ∷ first ∷ []) ((0, version_with 8 119) ∷ (0, version_with 9 119) ∷ [], refl) refl refl ninth
+    (shown_then made_log twice_log ((0, version_with 9 119) ∷ []) (whole_file 8 119) (version_with 8 119) (first ∷ [])
+    eight refl refl eighth (unchanged installing 0 first first_log made_log eight)))
 install_moments (suc number) = tt
 
 install_end : (number : ℕ) → OfFile number installing.stores (λ file. (image : List ℕ)

@@ -236,7 +236,7 @@ copied_row version gives =
 
 undone : (file : List ℕ) (mails : List (List ℕ)) → ((version : MapVersion) → Gives (mailed somebody mails) version → ⊥)
     → IsWrongTransfer (walk_of file mails)
-undone file mails never log transfers =
+undone file mails never begun log transfers =
     let done = transfers.done 0 ([], [], refl) in
     let server = one_server (mailed somebody mails) done.fetched.server done.fetched.among in
     never done.fetched.fetched (subst (λ (d : Dialed). Gives d done.fetched.fetched) server done.fetched.gives)

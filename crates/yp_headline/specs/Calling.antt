@@ -16,6 +16,7 @@ use Rattle.yp_headline.specs.World.{World, Connection, Letter}
 use Rattle.yp_headline.specs.Answering.{answer}
 use Rattle.yp_headline.specs.Serving.{Exchange, BeginsWith}
 use Rattle.yp_headline.specs.Publishing.{IsAmong, IsFetched}
+use Rattle.yp_headline.specs.Sources.{IsOfSource}
 
 -- A letter calls back the transfer (yp.x) that a call took on a front of the log. It goes to the host of the caller,
 -- and to the port that the call names, or, where that is 0, to any. Where it says SUCC, a version of the map that a
@@ -29,7 +30,8 @@ pub record IsCallBack (world : World) (one : Exchange) (letter : Letter) (front 
   pub stat : XfrStat
   pub says : letter.bytes ≡ call_of resp_xfr taken.transid taken.prog 1 1 (taken.transid, xfr_number stat)
   pub shows : stat ≡ Succ → (version : MapVersion) × (before : Log) × IsFront front before
-      × IsFront (before ++ (taken.map, version) ∷ []) next × IsFetched world version
+      × IsFront (before ++ (taken.map, version) ∷ []) next
+      × (fetched : IsFetched world version) × IsOfSource world taken.map fetched.gives version
 
 -- Letters call back transfers, each that of an exchange of its own, in their order, on fronts that never go back.
 abbrev pub AreCallBacks : World → List Letter → List Exchange → (known log : Log) → Type 0
@@ -40,11 +42,11 @@ AreCallBacks world (letter ∷ letters) exchanges known log =
     × IsCallBack world one letter front next × AreCallBacks world letters left next log
 
 -- All that was posted calls back transfers that one connection asked for.
-pub record IsCalledBack (world : World) (log : Log) : Type 0 where
+pub record IsCalledBack (world : World) (begun log : Log) : Type 0 where
   pub connection : Connection
   pub among : IsAmong world.connections connection
   pub exchanges : List Exchange
   pub callers : AllByRecursion (λ one. one.caller ≡ connection.peer) exchanges
   pub rest : List ℕ
   pub came : BeginsWith connection.came exchanges rest
-  pub letters : AreCallBacks world world.posted exchanges [] log
+  pub letters : AreCallBacks world world.posted exchanges begun log

@@ -1,13 +1,12 @@
 -- The headline: what the whole program does, over the bytes that go in and out.
 use Rattle.std.specs.Prelude.{◌≡◌, ◌≢◌, ◌⊎◌, ℕ, List, [], Some}
 use Rattle.std.specs.List.{AllByRecursion}
-use Rattle.yp_io.specs.Disk.{IsImage, LeftIn}
+use Rattle.yp_io.specs.Disk.{IsImage}
 use Rattle.yp_board.specs.Logs.{Log, shown}
-use Rattle.yp_board.specs.Between.{Between}
 use Rattle.yp_publisher.specs.Rising.{IsRisingLog}
 use Rattle.yp_headline.specs.World.{World}
 use Rattle.yp_headline.specs.Serving.{IsServed, AreServed}
-use Rattle.yp_headline.specs.Publishing.{IsAmong, IsPublishedLog, OfFile, StandsBy}
+use Rattle.yp_headline.specs.Publishing.{IsAmong, IsPublishedLog, OfFile, StandsBy, AreLeft}
 use Rattle.yp_headline.specs.Sources.{Succeeded}
 use Rattle.yp_headline.specs.Calling.{IsCalledBack}
 use Rattle.yp_headline.specs.Storing.{stood_for}
@@ -20,14 +19,14 @@ pub record Replies (world : World) (begun log : Log) : Type 0 where
   pub connections : AllByRecursion (IsServed world.catalogue begun log) world.connections
   pub datagrams : AllByRecursion (AreServed world.catalogue begun log) world.datagrams
 
--- Crashes. Whatever a crash leaves of a map's file, at any moment, it might have left at first, or it stands for what a
--- front of the log shows of the map, or for a version that was new behind that front. At the end it might have been
--- left at first, or stands for what the whole log shows, or for one that was new behind it. Of a map that was told as
--- done it stands for what the log shows, and for nothing else.
+-- Crashes. Each moment of a map's file has a front of the log, and these never go back. Whatever a crash leaves then
+-- stands for what the front shows of the map, or for a version that was new behind it; or nothing was published yet,
+-- and it might have been left at first. At the end it might have been left at first, or stands for what the whole log
+-- shows, or for one that was new behind it. Of a map that was told as done it stands for what the log shows alone.
 pub record Crashes (world : World) (begun log : Log) : Type 0 where
   pub published : IsPublishedLog world begun log
-  pub any_moment : (number : ℕ) → OfFile number world.stores (λ file. (image : List ℕ) → LeftIn file.moments image
-      → IsImage file.first image ⊎ Between begun log (λ front. StandsBy world number front image))
+  pub any_moment : (number : ℕ)
+      → OfFile number world.stores (λ file. AreLeft world number file.first file.moments begun log)
   pub at_end : (number : ℕ) → OfFile number world.stores (λ file. (image : List ℕ) → IsImage file.last image
       → IsImage file.first image ⊎ StandsBy world number log image)
   pub stored : (number : ℕ) → IsAmong world.done number → OfFile number world.stores (λ file. (image : List ℕ)
@@ -36,6 +35,6 @@ pub record Crashes (world : World) (begun log : Log) : Type 0 where
 -- Transfers. Each that was told as done is of a map whose version a server gave, over a stream or in datagrams: the log
 -- shows it. Where that came of a source whose own log rises, it is the version that the source showed throughout. What
 -- was posted calls back transfers that a connection asked for, each of them once at most.
-pub record Transfers (world : World) (log : Log) : Type 0 where
+pub record Transfers (world : World) (begun log : Log) : Type 0 where
   pub done : (number : ℕ) → IsAmong world.done number → Succeeded world log number
-  pub called_back : world.posted ≢ [] → IsCalledBack world log
+  pub called_back : world.posted ≢ [] → IsCalledBack world begun log

@@ -1,9 +1,12 @@
 -- The log of published versions, and what of them a crash leaves.
-use Rattle.std.specs.Prelude.{◌≡◌, ◌⊎◌, ℕ, List, ◌∷◌, ◌++◌, Option, Some, None, slice_get}
+use Rattle.std.specs.Prelude.{◌≡◌, ◌⊎◌, ℕ, List, [], ◌∷◌, ◌++◌, Option, Some, None, slice_get}
 use Rattle.std.specs.Prelude.{IfSome, ⊤}
 use Rattle.std.specs.List.{AllZip}
+use Rattle.yp_io.specs.Disk.{DiskState, IsImage}
 use Rattle.yp_version.specs.Versions.{MapVersion}
 use Rattle.yp_board.specs.Logs.{Log, shown, starts}
+use Rattle.yp_board.specs.Views.{IsFront}
+use Rattle.yp_board.specs.Between.{Between}
 use Rattle.yp_publisher.specs.Grown.{AreMade}
 use Rattle.yp_texts.specs.Builds.{order_after}
 use Rattle.yp_texts.specs.After.{other_master, last_order}
@@ -81,3 +84,13 @@ abbrev pub StandsBy : World → ℕ → Log → List ℕ → Type 0
 StandsBy world number log image =
     (stood_for image ≡ Some (shown number log))
     ⊎ ((version : MapVersion) × IsNew world number log version × (stood_for image ≡ Some (Some version)))
+
+-- Of these moments of a map's file, the last one first: each has a front of the log, which is a front of that of the
+-- next moment. What a crash leaves then stands for what that shows of the map, or for a version that is new behind it;
+-- or nothing was published yet, and it might have been left at first.
+abbrev pub AreLeft : World → ℕ → (first : DiskState) → List DiskState → (begun log : Log) → Type 0
+AreLeft world number first [] begun log = IsFront begun log
+AreLeft world number first (moment ∷ earlier) begun log = Between begun log (λ front.
+    ((image : List ℕ) → IsImage moment image
+    → (IsImage first image × (front ≡ begun)) ⊎ StandsBy world number front image)
+    × AreLeft world number first earlier begun front)

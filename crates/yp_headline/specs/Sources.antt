@@ -67,13 +67,19 @@ pub record Source (name : Name) {server : Dialed} {version : MapVersion} (gives 
   pub others : Answers catalogue server.path caller (later_calls server.path name gives.rows)
       (gives.master ∷ gives.others) first last
 
--- A transfer of a map succeeded: the log shows a version that a server gave. If that is of such a source, it showed
--- this version throughout, from the first reply to the last, but for the mark.
+-- Where what a server gave for a map is of such a source, it showed the stored version throughout, from the first reply
+-- to the last, but for the mark.
+abbrev pub IsOfSource : {server : Dialed} {version : MapVersion} → World → ℕ → Gives server version
+    → (stored : MapVersion) → Type 0
+IsOfSource world number gives stored =
+    (name : Name) → slice_get world.catalogue.maps number ≡ Some name → (source : Source name gives)
+    → (origin : MapVersion) × IsMarked origin stored
+    × ((front : Log) → IsFront source.first front → IsFront front source.last
+    → map_check (maps_on source.catalogue front) name.0 name.1 ≡ Ok origin)
+
+-- A transfer of a map succeeded: the log shows a version that a server gave.
 pub record Succeeded (world : World) (log : Log) (number : ℕ) : Type 0 where
   pub stored : MapVersion
   pub fetched : IsFetched world stored
   pub shows : shown number log ≡ Some stored
-  pub of_source : (name : Name) → slice_get world.catalogue.maps number ≡ Some name
-      → (source : Source name fetched.gives) → (origin : MapVersion) × IsMarked origin stored
-      × ((front : Log) → IsFront source.first front → IsFront front source.last
-      → map_check (maps_on source.catalogue front) name.0 name.1 ≡ Ok origin)
+  pub of_source : IsOfSource world number fetched.gives stored

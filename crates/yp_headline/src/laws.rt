@@ -25,7 +25,11 @@ pub fn once_replies<S: Source, K: Sink, D: Disk, C: Clock, A: Dial, I: Inbox, T:
 /// What `session` does is what the headline says of replies, of crashes and of transfers.
 pub fn session_holds<S: Source, K: Sink, D: Disk, C: Clock, A: Dial, I: Inbox, T: Texts>()
     ensures { SessionHolds (seeing S.Source K.Sink D.Disk C.Clock A.Dial I.Inbox T.Texts) }
-{}
+{
+    read_is_body();
+    fetched_is_shown();
+    shown_between();
+}
 
 /// What `xfr` does is what the headline says of crashes and of transfers.
 pub fn xfr_holds<S: Source, K: Sink, D: Disk, C: Clock, A: Dial, I: Inbox, T: Texts>()

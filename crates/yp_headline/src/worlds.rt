@@ -38,7 +38,11 @@ pub fn walks_are_false()
 /// Worlds of which it is true.
 pub fn holds_of_rows()
     ensures { HoldsOfRows }
-{}
+{
+    read_is_body();
+    fetched_is_shown();
+    shown_between();
+}
 
 /// A world of a transfer that is told as done, of which it is true.
 pub fn holds_of_transfer()

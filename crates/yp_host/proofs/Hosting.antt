@@ -31,7 +31,8 @@ use Rattle.yp_texts.specs.After.{Material}
 use Rattle.yp_answer.specs.Causes.{Told, Matter, OfText, OfNetgroups, Task, MaterialIsTold, IsMadeOf, IsAnew, TellsSame, task_of, task_at}
 use Rattle.yp_host.specs.Making.{MapIsMade, OpensAndTries}
 use Rattle.yp_host.specs.Connections.{Service, IsCalledFor, Transition, transition_of, transitions_of, GaveVersion, IsGiven, local_conduct}
-use Rattle.yp_publisher.proofs.Passing.{front_none, front_then, Respects, Sound, Passes, passes_none, passes_then, stays_on, opens_on}
+use Rattle.yp_publisher.proofs.Growing.{front_none, front_then}
+use Rattle.yp_publisher.proofs.Passing.{Respects, Sound, Passes, passes_none, passes_then, stays_on, opens_on}
 use Rattle.yp_host.proofs.Passing.{offered_on, fetched_on}
 
 -- ---- desks
@@ -120,7 +121,7 @@ module _ {D B E : Type 0} (service : Service D B E) (turns : List Turn) (transit
   goes_nowhere : (old new : Local D B E) → new ≡ old → SoundHost old → GoesOnTo old new
   goes_nowhere old new e sound =
       subst (λ (h : Local D B E). GoesOnTo old h) (sym e)
-      (sound, record { maps = passes_none service.keeping (IsGiven service turns transitions first table) respects old.published; desk = used_never service.telling old.desk })
+      (sound, record { maps = passes_none service.keeping (IsGiven service turns transitions first table) respects old.published sound.maps; desk = used_never service.telling old.desk })
 
   goes_twice : (old middle new : Local D B E) → GoesOnTo old middle → GoesOnTo middle new → GoesOnTo old new
   goes_twice old middle new f s = (
@@ -213,7 +214,7 @@ module _ {D B E : Type 0} (service : Service D B E) (turns : List Turn) (transit
   installs_fetched taken (Err fault) result old new fetched sound kept installs =
       let Is = IsGiven service turns transitions first table in
       subst (λ (p : Published D B). Sound service.keeping Is respects p × Passes service.keeping Is respects old.published p) (sym installs.1)
-      (sound.maps, passes_none service.keeping Is respects old.published)
+      (sound.maps, passes_none service.keeping Is respects old.published sound.maps)
   installs_fetched taken (Ok version) result old new fetched sound kept installs = elim installs [
     | inl stays ↦ stays_on service.keeping (IsGiven service turns transitions first table) respects taken.map stays.why old.published new.published sound.maps stays.stays
     | inr step ↦ offers_fetched taken result old new version (fetched version refl) sound kept step
@@ -245,7 +246,7 @@ module _ {D B E : Type 0} (service : Service D B E) (turns : List Turn) (transit
   counted old new e sound =
       subst (λ (h : Local D B E). GoesOnTo old h) (sym e)
       (with_maps old (record old { asked = next_count old.asked }) sound (used_never service.telling old.desk)
-      (sound.maps, passes_none service.keeping (IsGiven service turns transitions first table) respects old.published))
+      (sound.maps, passes_none service.keeping (IsGiven service turns transitions first table) respects old.published sound.maps))
 
   stepped_on : (asked : Bool) (old new : Local D B E) → SoundHost old
       → StepsWhere asked (λ old new. new ≡ record old { asked = next_count old.asked }) (seen_of service.keeping.log) old new → GoesOnTo old new

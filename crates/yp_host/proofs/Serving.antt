@@ -1,5 +1,5 @@
 -- A connection, from the disks that were loaded and the session that ran.
-use Rattle.std.proofs.Common.{◌≡◌, inl, ℕ, ◌≤◌, List, [], ◌∷◌, length, slice_get, Option, IfSome, IsSome, refl, sym, ◌∙◌, ap, subst, arith, All}
+use Rattle.std.proofs.Common.{◌≡◌, inl, inr, ℕ, ◌≤◌, List, [], ◌∷◌, length, slice_get, Option, IfSome, IsSome, refl, sym, ◌∙◌, ap, subst, arith, All}
 use Rattle.std.specs.List.{AllZip}
 use Rattle.std.proofs.lemmas.List.{length-map}
 use Rattle.std.proofs.lemmas.Option.{slice_get-map}
@@ -21,9 +21,11 @@ use Rattle.yp_answer.specs.declared.session.session.End.{End}
 use Rattle.yp_answer.specs.declared.session.session.TheConstants.{CALLS_MAX}
 use Rattle.yp_answer.specs.Causes.{TellsSame}
 use Rattle.yp_host.specs.Locals.{Local, IsUsed}
-use Rattle.yp_publisher.specs.Grown.{IsOfBetween, IsBehindMade, AtDisk, LeavesOr, AreTold}
-use Rattle.yp_host.specs.Connections.{Service, Connection, local_conduct, IsFirstHost, IsLastHost, Transition, transitions_of, IsGiven, log_of, ServesConnection}
+use Rattle.yp_publisher.specs.Grown.{IsShownOrMade, LeavesByFronts, OrAsBefore, IsBehindMade, AtDisk, LeavesOr, AreTold}
+use Rattle.yp_host.specs.Connections.{Service, Connection, local_conduct, IsFirstHost, IsLastHost, Transition, transitions_of, IsGiven, given_in, log_of, ServesConnection}
 use Rattle.yp_publisher.proofs.Leaving.{weaker, left_alone, both_leave_or, told_on, opt_both, opt_then, opt_second, opt_at, opt_put_map, same_places, zip_at, all_at}
+use Rattle.yp_publisher.proofs.Growing.{front_none}
+use Rattle.yp_publisher.proofs.Chains.{by_one_log, by_fronts_then, by_fronts_so}
 use Rattle.yp_publisher.proofs.Leading.{rises_from}
 use Rattle.yp_host.proofs.Hosting.{SoundHost, GoesOnTo, session_on}
 
@@ -60,6 +62,11 @@ module _ {D B E : Type 0} (service : Service D B E) (old new : Connection D E) (
   first_sound turns transitions law first = record {
     maps = record {
       shows = subst (λ (l : Log). Shows l (versions start.published.maps)) (sym first.log) (law (versions start.published.maps));
+      standing = λ number.
+          opt_second {P = IsOpened service.keeping.history service.keeping.faults} (slice_get old.disks number) (slice_get start.published.maps number)
+          (same_places start.published.maps old.disks number (AllZip-long (IsOpened service.keeping.history service.keeping.faults) old.disks start.published.maps first.opened))
+          (λ disk kept there here opened. opened.standing)
+          (zip_at (IsOpened service.keeping.history service.keeping.faults) old.disks start.published.maps number first.opened);
       behind = λ number.
           opt_second {P = IsOpened service.keeping.history service.keeping.faults} (slice_get old.disks number) (slice_get start.published.maps number)
           (same_places start.published.maps old.disks number (AllZip-long (IsOpened service.keeping.history service.keeping.faults) old.disks start.published.maps first.opened))
@@ -95,6 +102,18 @@ module _ {D B E : Type 0} (service : Service D B E) (old new : Connection D E) (
       both_leave_or (service.keeping.history disk) (service.keeping.history before.disk) (service.keeping.history after.disk)
       (weaker (service.keeping.history disk) (service.keeping.history before.disk) (λ told image left. inl left) opened.moments) leaves
 
+  -- the same of fronts of the log: at the moments of the opening it is the first one
+  fronts_with_opening : {P : Log → List ℕ → Type 0} (disk : D) (before after : StoredMap D) → IsOpened service.keeping.history service.keeping.faults disk before
+      → LeavesByFronts P (service.keeping.history before.disk) (service.keeping.history after.disk) (log_of service start) (log_of service finish)
+      → LeavesByFronts (OrAsBefore (service.keeping.history disk) (log_of service start) P) (service.keeping.history disk) (service.keeping.history after.disk)
+      (log_of service start) (log_of service finish)
+  fronts_with_opening {P} disk before after opened leaves =
+      let first = log_of service start in
+      by_fronts_then (service.keeping.history disk) (service.keeping.history before.disk) (service.keeping.history after.disk) first first (log_of service finish)
+      (by_one_log (service.keeping.history disk) (service.keeping.history before.disk) first first (front_none first first refl)
+      (weaker (service.keeping.history disk) (service.keeping.history before.disk) (λ told image left. inl (left, refl)) opened.moments))
+      (by_fronts_so (service.keeping.history before.disk) (service.keeping.history after.disk) first (log_of service finish) (λ log image is. inr is) leaves)
+
   told_maps : IsFirstHost service old start → AreTold service.keeping.history old.disks → (number : ℕ)
       → IfSome (slice_get start.published.maps number) (λ kept. IsSome (service.keeping.history kept.disk))
   told_maps first told number =
@@ -116,9 +135,12 @@ module _ {D B E : Type 0} (service : Service D B E) (old new : Connection D E) (
     runs = runs;
     last = last;
     any_moment = λ number.
-        through (LeavesOr service.keeping.history (IsOfBetween (IsGiven service runs.turns (transitions_of (dialogue_at start old.wire begun) runs.answered) (service.telling.told old.desk) (service.telling.hosts old.desk)) number (service.keeping.log start.published.board) (service.keeping.log finish.published.board)))
-        (λ before after. LeavesOr service.keeping.history (IsOfBetween (IsGiven service runs.turns (transitions_of (dialogue_at start old.wire begun) runs.answered) (service.telling.told old.desk) (service.telling.hosts old.desk)) number (service.keeping.log start.published.board) (service.keeping.log finish.published.board)) before.disk after.disk)
-        number with_opening first (went.1.maps.moments number) last;
+        let Is = given_in service old start runs.turns runs.answered in
+        through (λ before after. LeavesByFronts (OrAsBefore (service.keeping.history before) (log_of service start) (IsShownOrMade Is number))
+        (service.keeping.history before) (service.keeping.history after) (log_of service start) (log_of service finish))
+        (λ before after. LeavesByFronts (IsShownOrMade Is number) (service.keeping.history before.disk) (service.keeping.history after.disk)
+        (log_of service start) (log_of service finish))
+        number fronts_with_opening first (went.1.maps.moments number) last;
     behind = went.0.maps.behind;
     grown = λ told. went.1.maps.entries (told_maps first told);
     rises = λ told. rises_from rises begins service.keeping.history service.keeping.faults old.disks start.published.maps (service.keeping.log start.published.board) (service.keeping.log finish.published.board) _

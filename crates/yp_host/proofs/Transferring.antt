@@ -1,5 +1,5 @@
 -- What a transfer adds to a log, and that it keeps the catalogue.
-use Rattle.std.proofs.Common.{◌≡◌, inl, inr, ℕ, ◌<◌, false, None, Result, Ok, Err, length, refl, ap, ◌∙◌, ◌++◌, append_assoc}
+use Rattle.std.proofs.Common.{◌≡◌, inl, inr, ℕ, ◌<◌, false, Result, Ok, Err, length, refl, ap, ◌∙◌, ◌++◌, append_assoc}
 use Rattle.yp_version.specs.Versions.{MapVersion}
 use Rattle.yp_board.specs.Logs.{Log}
 use Rattle.yp_board.specs.Views.{IsFront}

@@ -17,7 +17,8 @@ use Rattle.yp_answer.specs.declared.make.MakeJob.{MakeJob}
 use Rattle.yp_publisher.specs.Standing.{IsStanding, OfMap, Shows, versions}
 use Rattle.yp_publisher.specs.Opens.{IsOpened}
 use Rattle.yp_publisher.specs.Rising.{IsRisingLog}
-use Rattle.yp_publisher.specs.Grown.{Making, GrowsBy, IsOfBetween, IsBehindMade, AtDisk, LeavesOr, AreTold}
+use Rattle.yp_publisher.specs.Grown.{Making, GrowsBy, IsShownOrMade, LeavesByFronts, OrAsBefore, IsBehindMade, AtDisk}
+use Rattle.yp_publisher.specs.Grown.{AreTold}
 use Rattle.yp_transfer.specs.HostTable.{HostList}
 use Rattle.yp_transfer.specs.Installing.{marking}
 use Rattle.yp_answer.specs.session.Progress.{Progress, begun}
@@ -165,10 +166,11 @@ given_in service old start turns answered =
 -- ---- the whole
 
 -- A connection was served, and ended so. From its first host to its last the records of its wire were answered in turn,
--- and behind each the wire was one of these. At each moment a crash leaves of each map what was shown of it or what was
--- being installed. Only versions that were made or fetched were shown, and the orders of each map rise. The catalogue
--- and all versions are within their limits. What the first host shows is fixed by the disks before, and the last host
--- is the one that the run leads to.
+-- and behind each the wire was one of these. Each moment has a front of the log, which is a front of that of the next
+-- moment: a crash leaves then of each map what that front shows of it or what was made or fetched behind it, or, while
+-- that is the first log, what it might have left before. Only versions that were made or fetched were shown, and the
+-- orders of each map rise. The catalogue and all versions are within their limits. What the first host shows is fixed
+-- by the disks before, and the last host is the one that the run leads to.
 pub record ServesConnection {D B E : Type 0} (service : Service D B E) (end : End) (old new : Connection D E)
     (wires : List Wire) : Type 0 where
   pub start : Local D B E
@@ -178,9 +180,10 @@ pub record ServesConnection {D B E : Type 0} (service : Service D B E) (end : En
   pub runs : Runs (local_conduct service.keeping service.telling) service.peer CALLS_MAX end
       (dialogue_at start old.wire begun) (dialogue_at finish new.wire progress) wires
   pub last : IsLastHost service finish new
-  pub any_moment : (number : ℕ) → AtDisk number old.disks new.disks (LeavesOr service.keeping.history
-      (IsOfBetween (given_in service old start runs.turns runs.answered) number
-      (log_of service start) (log_of service finish)))
+  pub any_moment : (number : ℕ) → AtDisk number old.disks new.disks (λ before after. LeavesByFronts
+      (OrAsBefore (service.keeping.history before) (log_of service start)
+      (IsShownOrMade (given_in service old start runs.turns runs.answered) number))
+      (service.keeping.history before) (service.keeping.history after) (log_of service start) (log_of service finish))
   pub behind : (number : ℕ) → OfMap number finish.published.maps (λ kept. IsSome (service.keeping.history kept.disk)
       → IsBehindMade (given_in service old start runs.turns runs.answered) number (log_of service finish) kept.standing)
   pub grown : AreTold service.keeping.history old.disks

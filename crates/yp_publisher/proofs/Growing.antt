@@ -1,5 +1,5 @@
 -- What a step adds to a log.
-use Rattle.std.proofs.Common.{◌≡◌, ◌⊎◌, inl, inr, ℕ, ◌<◌, ◌≤◌, List, [], ◌∷◌, length, slice_get, Option, IfSome, arith, sym, ◌∙◌, ap, subst}
+use Rattle.std.proofs.Common.{◌≡◌, ◌⊎◌, inl, inr, ℕ, ◌<◌, ◌≤◌, List, [], ◌∷◌, ◌++◌, length, slice_get, Option, IfSome, arith, append_assoc, sym, ◌∙◌, ap, subst}
 use Rattle.std.proofs.lemmas.List.{append-nil}
 use Rattle.std.proofs.lemmas.Option.{slice_get_cases}
 use Rattle.yp_version.specs.Versions.{MapVersion}
@@ -8,6 +8,13 @@ use Rattle.yp_board.specs.Views.{IsFront}
 use Rattle.yp_publisher.specs.Standing.{StoredMap, Published, At, IsSameElsewhere}
 use Rattle.yp_publisher.specs.Opens.{IsAnother}
 use Rattle.yp_publisher.specs.Rising.{with_shown}
+
+pub front_none : (log other : Log) → other ≡ log → IsFront log other
+front_none log other e = ([], e ∙ sym (append-nil log))
+
+pub front_then : (a b c : Log) → IsFront a b → IsFront b c → IsFront a c
+front_then a b c first second =
+    (first.0 ++ second.0, second.1 ∙ ap (λ (l : Log). l ++ second.0) first.1 ∙ append_assoc a first.0 second.0)
 
 -- a board that stays as it is
 pub front_same : {B : Type 0} (log : B → Log) (old new : B) → new ≡ old → IsFront (log old) (log new)

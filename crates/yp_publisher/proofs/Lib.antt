@@ -10,5 +10,6 @@ pub mod Changing
 pub mod Opening
 pub mod Leaving
 pub mod Growing
+pub mod Chains
 pub mod Leading
 pub mod Passing

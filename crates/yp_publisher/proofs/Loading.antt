@@ -1,5 +1,5 @@
 -- Disks that are loaded, the first one first. They stand in reverse, so that the last one is next.
-use Rattle.std.proofs.Common.{◌≡◌, ℕ, suc, List, [], ◌∷◌, ◌++◌, map, reverse, length, append_assoc, arith, refl, sym}
+use Rattle.std.proofs.Common.{◌≡◌, ℕ, zero, suc, List, [], ◌∷◌, ◌++◌, map, reverse, length, append_assoc, arith, refl, sym}
 use Rattle.std.proofs.Common.{◌∙◌, ap, subst, Option, None, Some, IfSome, Err}
 use Rattle.std.proofs.lemmas.List.{reverse-append, append-nil, reverse-reverse}
 use Rattle.std.specs.List.{AllZip}
@@ -8,7 +8,7 @@ use Rattle.yp_map_file.specs.declared.fault.SlotFault.{SlotFault}
 use Rattle.yp_map_file.specs.declared.fault.SlotFault.TheVariants.{DiskFault, NoMemory}
 use Rattle.yp_map_file.specs.Loads.{Loads}
 use Rattle.yp_map_file.specs.Stands.{stands}
-use Rattle.yp_publisher.specs.Standing.{StoredMap}
+use Rattle.yp_publisher.specs.Standing.{StoredMap, IsStanding, OfMap}
 use Rattle.yp_publisher.specs.Opens.{IsOpened, DiskIsRefused, OpeningStopped}
 use Rattle.yp_publisher.proofs.Moments.{left_alone}
 
@@ -61,6 +61,15 @@ pub loading_all : {D : Type 0} (H : D → Option History) (F : D → ℕ) (all r
 loading_all {D} H F all rest maps l none =
     let e : l.front ≡ all = sym (l.is ∙ ap (λ (r : List D). l.front ++ reverse r) none ∙ append-nil l.front) in
     subst (λ (d : List D). AllZip (IsOpened H F) d maps) e l.each
+
+-- each map that was opened stands as it should
+pub all_stand : {D : Type 0} (H : D → Option History) (F : D → ℕ) (disks : List D) (maps : List (StoredMap D)) → AllZip (IsOpened H F) disks maps
+    → (number : ℕ) → OfMap number maps (IsStanding H)
+all_stand H F [] [] all number = tt
+all_stand H F [] (kept ∷ maps) all number = absurd all
+all_stand H F (disk ∷ disks) [] all number = absurd all
+all_stand H F (disk ∷ disks) (kept ∷ maps) all zero = all.0.standing
+all_stand H F (disk ∷ disks) (kept ∷ maps) all (suc number) = all_stand H F disks maps all.1 number
 
 -- where a disk is refused
 pub loading_stopped : {D : Type 0} (H : D → Option History) (F : D

@@ -228,6 +228,15 @@ publisher_set maps n y names log after board_maps board_maps_after capacity is s
   room = subst (λ (k : ℕ). k ≤ capacity) (sym (length-set maps n y)) is.room;
 }
 
+-- where one map was changed, all stand as they should
+pub stand_set : {D : Type 0} (history : D → Option History) (maps : List (StoredMap D)) (n : ℕ) (y : StoredMap D) → n < length maps
+    → ((number : ℕ) → OfMap number maps (IsStanding history)) → IsStanding history y
+    → (number : ℕ) → OfMap number (slice_set maps n y) (IsStanding history)
+stand_set {D} history maps n y within all one number = elim (cases_eq number n) [
+  | inl e ↦ subst (λ (k : ℕ). OfMap k (slice_set maps n y) (IsStanding history)) (sym e) (of_set (IsStanding history) maps n y within one)
+  | inr ne ↦ subst (λ (o : Option (StoredMap D)). IfSome o (IsStanding history)) (sym (get_set_other maps n number y ne)) (all number)
+]
+
 -- what is put back where it stood
 pub put_back : {D : Type 0} (maps : List (StoredMap D)) (n : ℕ) (x y : StoredMap D) → slice_get maps n ≡ Some x → y ≡ x
     → slice_set maps n y ≡ maps

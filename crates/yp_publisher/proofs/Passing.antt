@@ -16,19 +16,13 @@ use Rattle.yp_publisher.specs.inside.Rising.{Steps}
 use Rattle.yp_publisher.specs.Rising.{with_shown, Reopens, InstallsNewer}
 use Rattle.yp_publisher.specs.Keeping.{Keeping, Upholds}
 use Rattle.yp_publisher.specs.Installs.{LeavesEither}
-use Rattle.yp_publisher.specs.Grown.{Making, AreMade, GrowsBy, IsOfBetween, IsBehindMade, LeavesOr}
+use Rattle.yp_publisher.specs.Grown.{Making, AreMade, GrowsBy, IsShownOrMade, IsBehindMade, LeavesByFronts, LeavesOr}
 use Rattle.yp_publisher.proofs.Leading.{Leads, leads_one, leads_none, leads_then, stand_same}
-use Rattle.yp_publisher.proofs.Growing.{front_same, front_more, at_one}
+use Rattle.yp_publisher.proofs.Growing.{front_none, front_then, front_same, front_more, at_one}
+use Rattle.yp_publisher.proofs.Chains.{by_one_log, by_one_alone, by_fronts_then}
 use Rattle.yp_publisher.proofs.Leaving.{weaker, left_alone, both_leave_or, told_on, told_before, opt_one, opt_both, opt_same, opt_then, opt_second, opt_at, opt_at_both, same_places}
 
 -- ---- logs
-
-pub front_none : (log other : Log) → other ≡ log → IsFront log other
-front_none log other e = ([], e ∙ sym (append-nil log))
-
-pub front_then : (a b c : Log) → IsFront a b → IsFront b c → IsFront a c
-front_then a b c first second =
-    (first.0 ++ second.0, second.1 ∙ ap (λ (l : Log). l ++ second.0) first.1 ∙ append_assoc a first.0 second.0)
 
 -- what is made behind a log rests on what the log shows of its map, and on fronts of the log
 abbrev pub Respects : Making → Type 0
@@ -60,29 +54,11 @@ behind_again Is same Level number log other front e made = tt
 behind_again Is same (Behind version) number log other front e made = same number log other version front e made
 
 -- bytes that stand as a map stands
-stands_so : (Is : Making) (standing : MapStanding) (number : ℕ) (log last : Log) (version : Option MapVersion) → shown number log ≡ version
-    → IsBehindMade Is number log standing → IsFront log last → (image : List ℕ) → StandsAs standing version image → IsOfBetween Is number log last image
-stands_so Is Level number log last version e made front image stood = record {
-  log = log;
-  begins = front_none log log refl;
-  goes_on = front;
-  holds = inl (stood ∙ ap stands_for (sym e));
-}
-stands_so Is (Behind failed) number log last version e made front image stood = record {
-  log = log;
-  begins = front_none log log refl;
-  goes_on = front;
-  holds = elim stood [ inl is ↦ inl (is ∙ ap stands_for (sym e)) | inr is ↦ inr (failed, made, is) ];
-}
-
--- between wider logs
-pub wider : (Is : Making) (number : ℕ) (a b c d : Log) → IsFront a b → IsFront c d → (image : List ℕ) → IsOfBetween Is number b c image → IsOfBetween Is number a d image
-wider Is number a b c d before after image is = record {
-  log = is.log;
-  begins = front_then a b is.log before is.begins;
-  goes_on = front_then is.log c d is.goes_on after;
-  holds = is.holds;
-}
+stands_so : (Is : Making) (standing : MapStanding) (number : ℕ) (log : Log) (version : Option MapVersion) → shown number log ≡ version
+    → IsBehindMade Is number log standing → (image : List ℕ) → StandsAs standing version image → IsShownOrMade Is number log image
+stands_so Is Level number log version e made image stood = inl (stood ∙ ap stands_for (sym e))
+stands_so Is (Behind failed) number log version e made image stood =
+    elim stood [ inl is ↦ inl (is ∙ ap stands_for (sym e)) | inr is ↦ inr (failed, made, is) ]
 
 module _ {D : Type 0} where
   -- the version that is kept of a map is the one that is shown
@@ -98,10 +74,11 @@ module _ {D : Type 0} where
 
   -- a fact of a map that was changed, and of all others, which are the same
   everywhere : (R : ℕ → StoredMap D → StoredMap D → Type 0) (number : ℕ) (old new : List (StoredMap D)) → IsSameElsewhere number old new
-      → ((other : ℕ) (kept : StoredMap D) → R other kept kept) → At number old new (R number) → (other : ℕ) → At other old new (R other)
+      → ((other : ℕ) (kept : StoredMap D) → slice_get old other ≡ Some kept → R other kept kept) → At number old new (R number)
+      → (other : ℕ) → At other old new (R other)
   everywhere R number old new elsewhere same at other = elim (cases_eq other number) [
     | inl e ↦ subst (λ (n : ℕ). At n old new (R n)) (sym e) at
-    | inr ne ↦ opt_same (R other) (slice_get old other) (slice_get new other) (elsewhere.others other ne) (λ kept there. same other kept)
+    | inr ne ↦ opt_same (R other) (slice_get old other) (slice_get new other) (elsewhere.others other ne) (same other)
   ]
 
   the_map : (maps : List (StoredMap D)) (number : ℕ) → number < length maps → (kept : StoredMap D) × (slice_get maps number ≡ Some kept)
@@ -121,9 +98,16 @@ module _ {D B : Type 0} (keeping : Keeping D B) (Is : Making) (same : Respects I
   abbrev Told : StoredMap D → Type 0
   Told kept = IsSome (keeping.history kept.disk)
 
-  -- what holds at each moment: what is kept of each map is shown, and a map that is behind is behind a version that was made
+  -- at each moment a crash leaves of a map what a front of the log shows, or what was made behind it
+  abbrev pub Turns : ℕ → Log → Log → StoredMap D → StoredMap D → Type 0
+  Turns number first last before after =
+      LeavesByFronts (IsShownOrMade Is number) (keeping.history before.disk) (keeping.history after.disk) first last
+
+  -- what holds at each moment: what is kept of each map is shown, its file stands as the map stands, and a map that is behind is
+  -- behind a version that was made
   pub record Sound (now : Published D B) : Type 0 where
     pub shows : Shows (keeping.log now.board) (versions now.maps)
+    pub standing : (number : ℕ) → OfMap number now.maps (IsStanding keeping.history)
     pub behind : (number : ℕ) → OfMap number now.maps (λ kept. IsSome (keeping.history kept.disk) → IsBehindMade Is number (keeping.log now.board) kept.standing)
 
   -- what holds of two moments
@@ -131,7 +115,7 @@ module _ {D B : Type 0} (keeping : Keeping D B) (Is : Making) (same : Respects I
     pub catalogue : new.catalogue ≡ old.catalogue
     pub count : length new.maps ≡ length old.maps
     pub grown : IsFront (keeping.log old.board) (keeping.log new.board)
-    pub moments : (number : ℕ) → At number old.maps new.maps (λ before after. LeavesOr keeping.history (IsOfBetween Is number (keeping.log old.board) (keeping.log new.board)) before.disk after.disk)
+    pub moments : (number : ℕ) → At number old.maps new.maps (Turns number (keeping.log old.board) (keeping.log new.board))
     pub bound : (number : ℕ) → At number old.maps new.maps (λ before after. LeavesOr keeping.history (λ image. length image ≤ file_max) before.disk after.disk)
     pub never_falls : (number : ℕ) → At number old.maps new.maps (λ before after. keeping.faults before.disk ≤ keeping.faults after.disk)
     pub entries : ((number : ℕ) → OfMap number old.maps (λ kept. IsSome (keeping.history kept.disk))) → GrowsBy Is (keeping.log old.board) (keeping.log new.board)
@@ -140,12 +124,24 @@ module _ {D B : Type 0} (keeping : Keeping D B) (Is : Making) (same : Respects I
   still : {P : List ℕ → Type 0} (kept : StoredMap D) → LeavesOr keeping.history P kept.disk kept.disk
   still kept = left_alone (keeping.history kept.disk) (λ image left. inl left)
 
-  pub passes_none : (now : Published D B) → Passes now now
-  passes_none now = record {
+  -- a map that isn't called, up to a longer log
+  pub uncalled : (now : Published D B) → Sound now → (number : ℕ) (last : Log) → IsFront (keeping.log now.board) last → (kept : StoredMap D)
+      → slice_get now.maps number ≡ Some kept → Turns number (keeping.log now.board) last kept kept
+  uncalled now sound number last front kept there =
+      by_one_alone {P = IsShownOrMade Is number} (keeping.history kept.disk) (keeping.log now.board) last front
+      (λ told image left. stands_so Is kept.standing number (keeping.log now.board) kept.version
+      (shown_is (keeping.log now.board) now.maps number kept sound.shows there)
+      (opt_at (λ (k : StoredMap D). IsSome (keeping.history k.disk) → IsBehindMade Is number (keeping.log now.board) k.standing)
+      (slice_get now.maps number) kept there (sound.behind number) told)
+      image (opt_at (IsStanding keeping.history) (slice_get now.maps number) kept there (sound.standing number) image left))
+
+  pub passes_none : (now : Published D B) → Sound now → Passes now now
+  passes_none now sound = record {
     catalogue = refl;
     count = refl;
     grown = front_none (keeping.log now.board) (keeping.log now.board) refl;
-    moments = λ number. opt_same (λ before after. LeavesOr keeping.history (IsOfBetween Is number (keeping.log now.board) (keeping.log now.board)) before.disk after.disk) (slice_get now.maps number) (slice_get now.maps number) refl (λ kept there. still kept);
+    moments = λ number. opt_same (Turns number (keeping.log now.board) (keeping.log now.board)) (slice_get now.maps number) (slice_get now.maps number) refl
+        (uncalled now sound number (keeping.log now.board) (front_none (keeping.log now.board) (keeping.log now.board) refl));
     bound = λ number. opt_same (λ before after. LeavesOr keeping.history (λ image. length image ≤ file_max) before.disk after.disk) (slice_get now.maps number) (slice_get now.maps number) refl (λ kept there. still kept);
     never_falls = λ number. opt_same (λ before after. keeping.faults before.disk ≤ keeping.faults after.disk) (slice_get now.maps number) (slice_get now.maps number) refl (λ kept there. omega arith);
     entries = λ told. grows_none Is (keeping.log now.board) (keeping.log now.board) refl;
@@ -165,7 +161,8 @@ module _ {D B : Type 0} (keeping : Keeping D B) (Is : Making) (same : Respects I
     count = second.count ∙ first.count;
     grown = front_then (keeping.log old.board) (keeping.log middle.board) (keeping.log new.board) first.grown second.grown;
     moments = λ number. opt_then (slice_get old.maps number) (slice_get middle.maps number) (slice_get new.maps number) (same_places old.maps middle.maps number (sym first.count))
-        (λ before between after f s. both_leave_or (keeping.history before.disk) (keeping.history between.disk) (keeping.history after.disk) (sooner number before between f) (later number between after s))
+        (λ before between after f s. by_fronts_then (keeping.history before.disk) (keeping.history between.disk) (keeping.history after.disk)
+        (keeping.log old.board) (keeping.log middle.board) (keeping.log new.board) f s)
         (first.moments number) (second.moments number);
     bound = λ number. opt_then (slice_get old.maps number) (slice_get middle.maps number) (slice_get new.maps number) (same_places old.maps middle.maps number (sym first.count))
         (λ before between after f s. both_leave_or (keeping.history before.disk) (keeping.history between.disk) (keeping.history after.disk) f s)
@@ -175,63 +172,53 @@ module _ {D B : Type 0} (keeping : Keeping D B) (Is : Making) (same : Respects I
         (first.never_falls number) (second.never_falls number);
     entries = λ told. grows_then Is (keeping.log old.board) (keeping.log middle.board) (keeping.log new.board) (first.entries told) (second.entries (told_then old middle first told));
     leads = λ told. leads_then (rising.publisher_state keeping.log old) (rising.publisher_state keeping.log middle) (rising.publisher_state keeping.log new) (first.leads told) (second.leads (told_then old middle first told));
-  } where
-    sooner : (number : ℕ) (before after : StoredMap D) → LeavesOr keeping.history (IsOfBetween Is number (keeping.log old.board) (keeping.log middle.board)) before.disk after.disk
-        → LeavesOr keeping.history (IsOfBetween Is number (keeping.log old.board) (keeping.log new.board)) before.disk after.disk
-    sooner number before after l =
-        weaker (keeping.history before.disk) (keeping.history after.disk)
-        (λ told image is. elim is [ inl left ↦ inl left | inr of ↦ inr (wider Is number (keeping.log old.board) (keeping.log old.board) (keeping.log middle.board) (keeping.log new.board) (front_none (keeping.log old.board) (keeping.log old.board) refl) second.grown image of) ]) l
-
-    later : (number : ℕ) (before after : StoredMap D) → LeavesOr keeping.history (IsOfBetween Is number (keeping.log middle.board) (keeping.log new.board)) before.disk after.disk
-        → LeavesOr keeping.history (IsOfBetween Is number (keeping.log old.board) (keeping.log new.board)) before.disk after.disk
-    later number before after l =
-        weaker (keeping.history before.disk) (keeping.history after.disk)
-        (λ told image is. elim is [ inl left ↦ inl left | inr of ↦ inr (wider Is number (keeping.log old.board) (keeping.log middle.board) (keeping.log new.board) (keeping.log new.board) first.grown (front_none (keeping.log new.board) (keeping.log new.board) refl) image of) ]) l
+  }
 
   -- ---- one step
 
   -- what a crash leaves at the moments of a step, of bytes that stand as the map stood, or so
   meanwhile : {P : List ℕ → Type 0} (number : ℕ) (old new : Published D B) → Sound old → IsFront (keeping.log old.board) (keeping.log new.board)
-      → ((image : List ℕ) → P image → IsOfBetween Is number (keeping.log old.board) (keeping.log new.board) image)
+      → ((image : List ℕ) → P image → IsShownOrMade Is number (keeping.log old.board) image)
       → At number old.maps new.maps (λ before after. LeavesOnly (keeping.history before.disk) (keeping.history after.disk) (λ image. StandsAs before.standing before.version image ⊎ P image))
-      → At number old.maps new.maps (λ before after. LeavesOr keeping.history (IsOfBetween Is number (keeping.log old.board) (keeping.log new.board)) before.disk after.disk)
+      → At number old.maps new.maps (Turns number (keeping.log old.board) (keeping.log new.board))
   meanwhile number old new sound front other leaves =
       opt_both (slice_get old.maps number) (slice_get new.maps number)
-      (λ before after there here l. weaker (keeping.history before.disk) (keeping.history after.disk)
+      (λ before after there here l. by_one_log (keeping.history before.disk) (keeping.history after.disk) (keeping.log old.board) (keeping.log new.board) front
+      (weaker (keeping.history before.disk) (keeping.history after.disk)
       (λ told image stood. elim stood [
-        | inl same ↦ inr (stands_so Is before.standing number (keeping.log old.board) (keeping.log new.board) before.version
+        | inl same ↦ stands_so Is before.standing number (keeping.log old.board) before.version
             (shown_is (keeping.log old.board) old.maps number before sound.shows there)
             (opt_at (λ (kept : StoredMap D). IsSome (keeping.history kept.disk) → IsBehindMade Is number (keeping.log old.board) kept.standing) (slice_get old.maps number) before there (sound.behind number) told)
-            front image same)
-        | inr so ↦ inr (other image so)
-      ]) l)
+            image same
+        | inr so ↦ other image so
+      ]) l))
       leaves
 
   -- the same of a step in which the map stands as it stood
   stands_meanwhile : (number : ℕ) (old new : Published D B) → Sound old → IsFront (keeping.log old.board) (keeping.log new.board)
       → At number old.maps new.maps (StandsMeanwhile keeping.history)
-      → At number old.maps new.maps (λ before after. LeavesOr keeping.history (IsOfBetween Is number (keeping.log old.board) (keeping.log new.board)) before.disk after.disk)
+      → At number old.maps new.maps (Turns number (keeping.log old.board) (keeping.log new.board))
   stands_meanwhile number old new sound front leaves =
       meanwhile {P = λ image. ⊥} number old new sound front (λ image no. absurd no)
       (opt_both {P = StandsMeanwhile keeping.history} (slice_get old.maps number) (slice_get new.maps number)
       (λ before after there here l. weaker (keeping.history before.disk) (keeping.history after.disk) (λ told image stood. inl stood) l.stands) leaves)
 
-  step_passes : (number : ℕ) (old new : Published D B) → Upholds keeping number old new → IsFront (keeping.log old.board) (keeping.log new.board)
-      → At number old.maps new.maps (λ before after. LeavesOr keeping.history (IsOfBetween Is number (keeping.log old.board) (keeping.log new.board)) before.disk after.disk)
+  step_passes : (number : ℕ) (old new : Published D B) → Sound old → Upholds keeping number old new → IsFront (keeping.log old.board) (keeping.log new.board)
+      → At number old.maps new.maps (Turns number (keeping.log old.board) (keeping.log new.board))
       → (OfMap number old.maps (λ kept. IsSome (keeping.history kept.disk)) → GrowsBy Is (keeping.log old.board) (keeping.log new.board))
       → (OfMap number old.maps (λ kept. IsSome (keeping.history kept.disk)) → Steps (rising.publisher_state keeping.log old) (rising.publisher_state keeping.log new)) → Passes old new
-  step_passes number old new keeps front moments entries steps = record {
+  step_passes number old new sound keeps front moments entries steps = record {
     catalogue = keeps.catalogue;
     count = keeps.elsewhere.count;
     grown = front;
-    moments = everywhere (λ other before after. LeavesOr keeping.history (IsOfBetween Is other (keeping.log old.board) (keeping.log new.board)) before.disk after.disk)
-        number old.maps new.maps keeps.elsewhere (λ other kept. still kept) moments;
+    moments = everywhere (λ other. Turns other (keeping.log old.board) (keeping.log new.board))
+        number old.maps new.maps keeps.elsewhere (λ other. uncalled old sound other (keeping.log new.board) front) moments;
     bound = everywhere (λ other before after. LeavesOr keeping.history (λ image. length image ≤ file_max) before.disk after.disk)
-        number old.maps new.maps keeps.elsewhere (λ other kept. still kept)
+        number old.maps new.maps keeps.elsewhere (λ other kept there. still kept)
         (opt_both (slice_get old.maps number) (slice_get new.maps number)
         (λ before after there here l. weaker (keeping.history before.disk) (keeping.history after.disk) (λ told image few. inr few) l) keeps.bound);
     never_falls = everywhere (λ other before after. keeping.faults before.disk ≤ keeping.faults after.disk)
-        number old.maps new.maps keeps.elsewhere (λ other kept. omega arith) keeps.never_falls;
+        number old.maps new.maps keeps.elsewhere (λ other kept there. omega arith) keeps.never_falls;
     entries = λ told. entries (told number);
     leads = λ told. leads_one (rising.publisher_state keeping.log old) (rising.publisher_state keeping.log new) (steps (told number));
   }
@@ -240,6 +227,10 @@ module _ {D B : Type 0} (keeping : Keeping D B) (Is : Making) (same : Respects I
       → OfMap number new.maps (λ kept. IsSome (keeping.history kept.disk) → IsBehindMade Is number (keeping.log new.board) kept.standing) → Sound new
   step_sound number old new front sound keeps at = record {
     shows = keeps.shows;
+    standing = λ other. elim (cases_eq other number) [
+      | inl e ↦ subst (λ (n : ℕ). OfMap n new.maps (IsStanding keeping.history)) (sym e) keeps.standing
+      | inr ne ↦ subst (λ (o : Option (StoredMap D)). IfSome o (IsStanding keeping.history)) (sym (keeps.elsewhere.others other ne)) (sound.standing other)
+    ];
     behind = λ other. elim (cases_eq other number) [
       | inl e ↦ subst (λ (n : ℕ). OfMap n new.maps (λ kept. IsSome (keeping.history kept.disk) → IsBehindMade Is n (keeping.log new.board) kept.standing)) (sym e) at
       | inr ne ↦ kept_elsewhere other (keeps.elsewhere.others other ne)
@@ -264,12 +255,12 @@ module _ {D B : Type 0} (keeping : Keeping D B) (Is : Making) (same : Respects I
             (opt_second (slice_get old.maps number) (slice_get new.maps number) (same_places new.maps old.maps number step.upheld.elsewhere.count)
             (λ before after there here is told. still_behind before after there here is told)
             step.still),
-        step_passes number old new step.upheld front (stands_meanwhile number old new sound front step.meanwhile)
+        step_passes number old new sound step.upheld front (stands_meanwhile number old new sound front step.meanwhile)
             (λ told. grows_none Is (keeping.log old.board) (keeping.log new.board) same_log)
             (λ told. inr (number, inl same_moment)),
       ) where
         stands : (other : ℕ) → At other old.maps new.maps (λ before after. after.standing ≡ before.standing)
-        stands = everywhere (λ other before after. after.standing ≡ before.standing) number old.maps new.maps step.upheld.elsewhere (λ other kept. refl)
+        stands = everywhere (λ other before after. after.standing ≡ before.standing) number old.maps new.maps step.upheld.elsewhere (λ other kept there. refl)
             (opt_both {P = IsStillBehind keeping.history fault} (slice_get old.maps number) (slice_get new.maps number) (λ before after there here is. ap (λ (k : StoredMap D). k.standing) is.same) step.still)
 
         same_moment : rising.publisher_state keeping.log new ≡ rising.publisher_state keeping.log old
@@ -300,7 +291,7 @@ module _ {D B : Type 0} (keeping : Keeping D B) (Is : Making) (same : Respects I
       step.shown in (
         step_sound number old new front sound step.upheld
             (opt_one (slice_get new.maps number) (λ kept there level told. subst (λ (s : MapStanding). IsBehindMade Is number (keeping.log new.board) s) (sym level) tt) step.level),
-        step_passes number old new step.upheld front (stands_meanwhile number old new sound front step.meanwhile)
+        step_passes number old new sound step.upheld front (stands_meanwhile number old new sound front step.meanwhile)
             (λ told. reopened (the_map old.maps number within) told)
             (λ told. inr (number, rises (the_map old.maps number within) told)),
       ) where
@@ -349,14 +340,9 @@ module _ {D B : Type 0} (keeping : Keeping D B) (Is : Making) (same : Respects I
       ] in (
         step_sound number old new front sound upheld
             (opt_one {P = λ kept. IsStanding keeping.history kept} (slice_get new.maps number) (λ kept there standing told. standing_so (the_map old.maps number within) kept there) upheld.standing),
-        step_passes number old new upheld front
+        step_passes number old new sound upheld front
             (meanwhile number old new sound front
-            (λ image stored. record {
-              log = keeping.log old.board;
-              begins = front_none (keeping.log old.board) (keeping.log old.board) refl;
-              goes_on = front;
-              holds = inr (version, made, stored);
-            }) leaves)
+            (λ image stored. inr (version, made, stored)) leaves)
             (λ told. grows) (λ told. inl (number, version, rises)),
       ) where
         -- a map that stands as before is level

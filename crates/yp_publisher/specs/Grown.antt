@@ -1,9 +1,11 @@
 -- Logs that grew by versions that were made or fetched, and what a crash leaves of a map meanwhile.
-use Rattle.std.specs.Prelude.{◌≡◌, ◌⊎◌, ℕ, List, [], ◌∷◌, ◌++◌, slice_get, All, Option, IfSome, IsSome, ⊤}
-use Rattle.yp_io.specs.Disk.{History, LeavesOnly, MayLeave}
+use Rattle.std.specs.Prelude.{◌≡◌, ◌⊎◌, ℕ, suc, ◌-◌, List, [], ◌∷◌, ◌++◌, take, slice_get, All, Option, IfSome, IsSome}
+use Rattle.std.specs.Prelude.{⊤}
+use Rattle.yp_io.specs.Disk.{DiskState, IsImage, History, states, moment, HistoryGoesOn, LeavesOnly, MayLeave}
 use Rattle.yp_version.specs.Versions.{MapVersion}
 use Rattle.yp_map_file.specs.Stands.{Stored, stands}
 use Rattle.yp_board.specs.Logs.{Log, shown}
+use Rattle.yp_board.specs.Views.{IsFront}
 use Rattle.yp_board.specs.Between.{Between}
 use Rattle.yp_publisher.specs.Standing.{MapStanding, Level, Behind, stands_for}
 
@@ -30,9 +32,22 @@ IsShownOrMade Is number log image =
     (stands image ≡ stands_for (shown number log))
     ⊎ ((version : MapVersion) × Is number log version × (stands image ≡ Stored version))
 
--- The bytes are so by a log of which the first is a front, and which is a front of the last.
-abbrev pub IsOfBetween : Making → ℕ → Log → Log → List ℕ → Type 0
-IsOfBetween Is number first last image = Between first last (λ log. IsShownOrMade Is number log image)
+-- Of these moments, the last one first: each has a log, which is a front of that of the next moment, and a crash leaves
+-- only bytes that have P by it.
+abbrev pub LeavesInTurn : (Log → List ℕ → Type 0) → List DiskState → (first last : Log) → Type 0
+LeavesInTurn P [] first last = IsFront first last
+LeavesInTurn P (state ∷ earlier) first last = Between first last
+    (λ log. ((image : List ℕ) → IsImage state image → P log image) × LeavesInTurn P earlier first log)
+
+-- A disk went on, and so it is of each moment from the old history to the new one, where they are told.
+pub record LeavesByFronts (P : Log → List ℕ → Type 0) (old new : Option History) (first last : Log) : Type 0 where
+  pub goes_on : HistoryGoesOn old new
+  pub each : IfSome old (λ before. IfSome new
+      (λ after. LeavesInTurn P (take (suc (moment after - moment before)) (states after)) first last))
+
+-- Bytes have P by a log, or that is still the first one, and they might have been left before.
+abbrev pub OrAsBefore : Option History → Log → (Log → List ℕ → Type 0) → Log → List ℕ → Type 0
+OrAsBefore before first P log image = (MayLeave before image × (log ≡ first)) ⊎ P log image
 
 -- A map is level, or behind a version that was made or fetched of it behind the log.
 abbrev pub IsBehindMade : Making → ℕ → Log → MapStanding → Type 0

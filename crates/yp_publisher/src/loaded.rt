@@ -25,14 +25,15 @@ pub struct Loaded<D: Disk> {
 }
 
 impl<D: Disk> Model for Loaded<D> {
-    ghost use Rattle.std.specs.Prelude.{◌≡◌, ◌≤◌, [], List, length, vec_capacity};
-    ghost use Rattle.yp_publisher.specs.Standing.{StoredMap};
+    ghost use Rattle.std.specs.Prelude.{◌≡◌, ◌≤◌, ℕ, [], List, length, vec_capacity};
+    ghost use Rattle.yp_publisher.specs.Standing.{StoredMap, IsStanding, OfMap};
 
     ghost Value = { List (StoredMap D) };
 
     ghost view = { λ l. l.maps.items };
 
-    ghost invariant = { λ l. (l.disks.items ≡ []) × (length l.maps.items ≤ vec_capacity l.disks) };
+    ghost invariant = { λ l. (l.disks.items ≡ []) × (length l.maps.items ≤ vec_capacity l.disks)
+        × ((number : ℕ) → OfMap number l.maps.items (IsStanding D.history)) };
 }
 
 /// A disk wasn't loaded. All disks are handed back, in their order.

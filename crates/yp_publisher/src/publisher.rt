@@ -51,8 +51,8 @@ pub struct Publisher<D: Disk, B: Show> {
 }
 
 impl<D: Disk, B: Show> Model for Publisher<D, B> {
-    ghost use Rattle.std.specs.Prelude.{◌≡◌, [], length, vec_capacity};
-    ghost use Rattle.yp_publisher.specs.Standing.{Published};
+    ghost use Rattle.std.specs.Prelude.{◌≡◌, ℕ, [], length, vec_capacity};
+    ghost use Rattle.yp_publisher.specs.Standing.{Published, IsStanding, OfMap};
     ghost use Rattle.yp_publisher.specs.inside.Starts.{IsPublisher};
 
     ghost Value = { Published D B };
@@ -60,7 +60,8 @@ impl<D: Disk, B: Show> Model for Publisher<D, B> {
     ghost view = { λ p. record { catalogue = p.catalog; maps = p.maps.items; board = p.board } };
 
     ghost invariant = { λ p. (p.disks.items ≡ [])
-        × IsPublisher p.maps.items (length p.catalog.maps) (B.log p.board) (B.maps p.board) (vec_capacity p.disks) };
+        × IsPublisher p.maps.items (length p.catalog.maps) (B.log p.board) (B.maps p.board) (vec_capacity p.disks)
+        × ((number : ℕ) → OfMap number p.maps.items (IsStanding D.history)) };
 }
 
 impl<D: Disk, B: Show> Publisher<D, B> {
@@ -103,6 +104,7 @@ impl<D: Disk, B: Show> Publisher<D, B> {
         ensures maps { length self.now.maps ≡ length self.now.catalogue.maps }
         ensures board { B.maps self.now.board ≡ length self.now.catalogue.maps }
         ensures shown { Shows (B.log self.now.board) (versions self.now.maps) }
+        ensures standing { (number : ℕ) → OfMap number self.now.maps (IsStanding D.history) }
     {
         &self.catalog
     }

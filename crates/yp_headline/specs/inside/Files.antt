@@ -9,14 +9,12 @@ use Rattle.yp_io.specs.Dials.{Connected, Sending, Posted, Asked}
 use Rattle.yp_version.specs.Versions.{MapVersion, unmarked}
 use Rattle.yp_board.specs.Catalogues.{Name}
 use Rattle.yp_board.specs.Logs.{Log, starts}
-use Rattle.yp_board.specs.Between.{Between}
 use Rattle.yp_texts.specs.declared.reading.Reading.{Reading}
 use Rattle.yp_answer.specs.declared.procedure.Path.TheVariants.{Stream, Datagram as Mail}
 use Rattle.yp_answer.specs.declared.session.session.End.{End}
 use Rattle.yp_answer.specs.declared.session.session.End.TheVariants.{Clean, Torn, TooLong}
 use Rattle.yp_answer.specs.declared.session.session.End.TheVariants.{ReadFault, WriteFault, Enough}
 use Rattle.yp_headline.specs.World.{World, Letter, Store, Given, Filed, Dialed}
-use Rattle.yp_headline.specs.Publishing.{StandsBy}
 
 -- whether a session that ended so was cut short
 abbrev pub is_cut : End → Bool
@@ -78,10 +76,6 @@ abbrev pub posted_between : Option (List Sending) → Option (List Sending) → 
 posted_between None new = []
 posted_between (Some old) None = []
 posted_between (Some old) (Some new) = posted_of (drop (length old) new)
-
--- bytes stand for what a front of a log shows of a map, or for a version that is new behind that front
-abbrev pub StandsByFront : World → ℕ → (begun log : Log) → List ℕ → Type 0
-StandsByFront world number begun log image = Between begun log (λ front. StandsBy world number front image)
 
 -- ---- one file
 

@@ -50,7 +50,7 @@ OnceReplies {S} {K} {D} {C} {A} {I} {T} seen =
 pub record FileHolds (world : World) (held : Option MapVersion) : Type 0 where
   pub log : Log
   pub crashes : Crashes world (file_log held) log
-  pub transfers : Transfers world log
+  pub transfers : Transfers world (file_log held) log
 
 -- What `xfr` does to a file that isn't damaged, where its disk and its dial tell.
 abbrev pub XfrHolds : {S K D C A I T : Type 0} → Seeing S K D C A I T → Type 0
@@ -84,7 +84,7 @@ pub record WorldHolds (world : World) : Type 0 where
   pub log : Log
   pub replies : Replies world begun log
   pub crashes : Crashes world begun log
-  pub transfers : Transfers world log
+  pub transfers : Transfers world begun log
 
 -- What `session` does, where it serves its connection, and its disks, its dial and its wire tell.
 abbrev pub SessionHolds : {S K D C A I T : Type 0} → Seeing S K D C A I T → Type 0

@@ -134,7 +134,7 @@ abbrev pub IsTornWorld : World → Type 0
 IsTornWorld world = (begun log : Log) → Crashes world begun log → ⊥
 
 abbrev pub IsWrongTransfer : World → Type 0
-IsWrongTransfer world = (log : Log) → Transfers world log → ⊥
+IsWrongTransfer world = (begun log : Log) → Transfers world begun log → ⊥
 
 -- MATCH of the key k in the map p of the domain d
 abbrev pub match_call : List ℕ
@@ -165,9 +165,6 @@ one_match sent_back = record {
 
 abbrev pub first_log : Log
 first_log = (0, version_with 7 118) ∷ []
-
-abbrev pub quiet : World
-quiet = one_file (whole_file 7 118) (whole_file 7 118) (whole_file 7 118) [] []
 
 -- the own name is the master
 abbrev pub own_map : Catalogue
@@ -377,11 +374,12 @@ pub record RepliesAreFalse : Type 0 where
 pub record HoldsOfRows : Type 0 where
   pub first_match : Replies (one_match (sent (match_reply 118))) first_log first_log
   pub make_then_match : Replies make_world first_log made_log
-  pub session_transfer : Replies transfer_world first_log fetched_log × Transfers transfer_world fetched_log
+  pub session_transfer : Replies transfer_world first_log fetched_log
+      × Transfers transfer_world first_log fetched_log
   pub two_inboxes : Replies (mails_world
       ((matched_mail 118 ∷ matched_mail 119 ∷ []) ∷ (matched_mail 118 ∷ []) ∷ [])) first_log made_log
   pub three_installs : Crashes installing first_log all_log
-  pub skewed_source : (came : List ℕ) → Crashes (skewed_world came) first_log first_log × Transfers
-      (skewed_world came) first_log
+  pub skewed_source : (came : List ℕ) → Crashes (skewed_world came) first_log first_log
+      × Transfers (skewed_world came) first_log first_log
   pub served : Replies (served_world (whole_file 8 119) (whole_file 9 119)) first_log made_log
       × Crashes (served_world (whole_file 8 119) (whole_file 9 119)) first_log made_log

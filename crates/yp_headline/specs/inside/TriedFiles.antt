@@ -56,12 +56,24 @@ two_files last = record {
   done = [];
 }
 
+-- a server that makes and fetches, whose file stood for the order 20, then for a version that was built behind the one
+-- that was given, and then for the order 20 again
+abbrev pub back_world : World
+back_world = record (served_world [] []) {
+  stores = Filed (record {
+    first = synced (whole_file 20 118);
+    moments = synced (whole_file 20 118) ∷ synced (whole_file 10 119) ∷ synced (whole_file 20 118) ∷ [];
+    last = synced (whole_file 20 118);
+  }) ∷ [];
+}
+
 -- Files: one that is damaged at the end, or at a moment; a version that is gone at the end, or at a moment; one that
 -- nobody made or sent; one that ends within its body; a body that is written over in place, so that a crash may leave
 -- the order of one version with the rows of another; one whose order is under that of the first; one whose rows aren't
 -- those of the text; that of another map; and one that is told as stored before it is synced. Files of a server that
--- makes and fetches: a version that nobody built or gave, at a moment or at the end, and one of the order that was
--- shown at first, which was new at no moment.
+-- makes and fetches: a version that nobody built or gave, at a moment or at the end; one of the order that was shown at
+-- first, which was new at no moment; and one that goes back by two versions, from one that was new only behind the one
+-- that was given to the first.
 pub record CrashesAreFalse : Type 0 where
   pub torn_at_end : IsTornWorld (one_file [] [] torn_file [] [])
   pub torn_meanwhile : IsTornWorld (one_file [] torn_file [] [] [])
@@ -78,6 +90,7 @@ pub record CrashesAreFalse : Type 0 where
   pub of_nobody_meanwhile : IsTornWorld (served_world (whole_file 8 120) (whole_file 8 119))
   pub of_nobody_at_end : IsTornWorld (served_world (whole_file 8 119) (whole_file 8 120))
   pub never_new : IsTornWorld (served_world (whole_file 7 119) (whole_file 8 119))
+  pub went_back : IsTornWorld back_world
 
 -- ---- transfers
 
@@ -106,7 +119,7 @@ stored_of file = one_file [] [] file (0 ∷ []) (streamed somebody fetched_bytes
 
 -- The headline is false of its files and its transfers together.
 abbrev pub IsWrongStored : World → Type 0
-IsWrongStored world = (begun log : Log) → Crashes world begun log → Transfers world log → ⊥
+IsWrongStored world = (begun log : Log) → Crashes world begun log → Transfers world begun log → ⊥
 
 -- a transfer that is called back as done where nobody asked for one
 abbrev pub called_unasked : World
@@ -122,6 +135,10 @@ called_elsewhere = record transfer_world {
   posted = record { peer = record { addr = 10 ∷ 0 ∷ 0 ∷ 8 ∷ []; port = 700 }; bytes = success_call } ∷ [];
 }
 
+-- the replies of a source that went from the order 9 to the order 10 between them
+abbrev pub skewed_bytes : List ℕ
+skewed_bytes = sent (order_reply 1 9) ++ (sent (master_reply 2) ++ (sent (all_reply 3) ++ sent (order_reply 4 10)))
+
 -- what came is these bytes, and two transfers are called back
 abbrev pub called_two : List ℕ → World
 called_two came = record transfer_world {
@@ -132,16 +149,15 @@ called_two came = record transfer_world {
 -- Transfers that are told as done: of no server; of one that gave nothing, its order alone, no rows, or another order
 -- at last; of one that told that it has no such map, or that answered another call; and of one that gave a version,
 -- where the file stands for nothing, for another row, for another order, for no rows, or for a row more. And transfers
--- that are called back as done: for which nobody asked, of no server, of one that gave its order alone, and of one that
--- gave a version that the log hasn't; one that is called back at another host than that of its caller; one that is
+-- that are called back as done: for which nobody asked, of no server, of one that gave its order alone, of a source
+-- that showed no version throughout, and of one that gave a version that the log hasn't; one that is called back at another host than that of its caller; one that is
 -- called back twice; and two of which the second was taken when the one version of the server had been entered.
 pub record TransfersAreFalse : Type 0 where
   pub of_no_server : IsWrongTransfer (one_file [] [] (whole_file 7 118) (0 ∷ []) [])
   pub gave_nothing : IsWrongTransfer (transfer_of [])
   pub gave_order : IsWrongTransfer (transfer_of (sent (order_reply 1 9)))
   pub gave_no_rows : IsWrongTransfer (transfer_of (sent (order_reply 1 9) ++ sent (master_reply 2)))
-  pub gave_skewed : IsWrongTransfer (transfer_of
-      (sent (order_reply 1 9) ++ (sent (master_reply 2) ++ (sent (all_reply 3) ++ sent (order_reply 4 10)))))
+  pub gave_skewed : IsWrongTransfer (transfer_of skewed_bytes)
   pub gave_refusal : IsWrongTransfer (transfer_of (sent refused_reply))
   pub of_another_call : IsWrongTransfer (transfer_of (sent (order_reply 8 9)))
   pub stored_nothing : IsWrongStored (stored_of [])
@@ -152,10 +168,11 @@ pub record TransfersAreFalse : Type 0 where
   pub called_without_call : IsWrongTransfer called_unasked
   pub called_of_no_server : IsWrongTransfer (called_of [])
   pub called_of_order : IsWrongTransfer (called_of (streamed somebody (sent (order_reply 1 9)) ∷ []))
-  pub called_unshown : Transfers transfer_world first_log → ⊥
+  pub called_of_skewed : IsWrongTransfer (called_of (streamed somebody skewed_bytes ∷ []))
+  pub called_unshown : (begun : Log) → Transfers transfer_world begun first_log → ⊥
   pub of_another_host : IsWrongTransfer called_elsewhere
   pub called_twice : IsWrongTransfer (called_two (sent xfr_call))
-  pub entered_before : Transfers (called_two (sent xfr_call ++ sent xfr_call)) fetched_log → ⊥
+  pub entered_before : (begun : Log) → Transfers (called_two (sent xfr_call ++ sent xfr_call)) begun fetched_log → ⊥
 
 -- ---- a right one
 
@@ -165,4 +182,4 @@ stored_log = (0, version_with 9 119) ∷ []
 -- The file that was empty stands for the version that the server gave.
 pub record HoldsOfTransfer : Type 0 where
   pub crashes : Crashes (stored_of (whole_file 9 119)) [] stored_log
-  pub transfers : Transfers (stored_of (whole_file 9 119)) stored_log
+  pub transfers : Transfers (stored_of (whole_file 9 119)) [] stored_log

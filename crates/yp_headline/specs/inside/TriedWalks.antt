@@ -59,4 +59,4 @@ walked_log = (
 -- The file that was empty stands for the version whose rows came one by one.
 pub record HoldsOfWalk : Type 0 where
   pub crashes : Crashes (walk_of (two_row_file 9 119) two_mails) [] walked_log
-  pub transfers : Transfers (walk_of (two_row_file 9 119) two_mails) walked_log
+  pub transfers : Transfers (walk_of (two_row_file 9 119) two_mails) [] walked_log

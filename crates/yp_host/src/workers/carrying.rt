@@ -10,7 +10,7 @@ ghost use Rattle.yp_host.specs.inside.workers.Statuses.{HasStatus, IsInstalledAs
 ghost use Rattle.yp_host.specs.inside.workers.Wires.{orders_in, sources_in, IsAgedBy, IsNoted};
 
 use crate::workers::charges::Charges;
-use crate::workers::desk::Supplies;
+use crate::workers::desk::{FetchTask, Supplies};
 use crate::workers::outcome::{Group, group_of, shared_stat};
 use crate::workers::setting::WorkerSetting;
 use std::random::RandomSource;
@@ -89,18 +89,16 @@ where
     ensures learned { Learns (B.Reader.seen reader.old) (B.Reader.seen reader.new) }
     ensures charged { ChargesMore (cost_of_transfer result.0) charges.old charges.new }
 {
-    let name = reader.catalog().name(job.map);
-    let shown = order_of(reader.held(job.map));
+    let task = FetchTask {
+        source: job.source,
+        name: reader.catalog().name(job.map),
+        shown: order_of(reader.held(job.map)),
+    };
     let mut known = None;
-    let fetched = setting.desk.lock(&setting.rt).fetch(
-        setting.alloc,
-        &setting.rt,
-        job.source,
-        name,
-        shown,
-        &mut known,
-        charges,
-    );
+    let fetched = setting
+        .desk
+        .lock(&setting.rt)
+        .fetch(setting.alloc, &setting.rt, &task, &mut known, charges);
     let shown = order_of(reader.held(job.map));
     match fetched {
         None => (Group::NoAddress, XfrStat::Maddr),

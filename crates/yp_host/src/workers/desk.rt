@@ -134,6 +134,16 @@ impl<S: Accounts + Supplies> Ledger for FailedSources<S> {
     ghost parts = { S.shares };
 }
 
+/// What is fetched: a map of a site, from a source, behind what is shown.
+#[derive(Clone, Copy)]
+pub(crate) struct FetchTask<'a> {
+    /// The name of the host that has the map.
+    pub source: &'a [u8],
+    pub name: &'a MapName,
+    /// The order of the version that is shown, if one is.
+    pub shown: Option<Order>,
+}
+
 /// A desk of a site, for a lock to keep, with the books of the texts that weren't read, of the orders that were
 /// reached, of the sources that failed and of the versions that were fetched since it is shared, and with the log of
 /// these versions. It is seen as that desk.
@@ -267,21 +277,20 @@ impl<S: Site + Accounts + Supplies, A: Dial, T: Texts, C: Clock> SharedDesk<S, A
         &mut self,
         alloc: Global,
         rt: &impl RandomSource,
-        source: &[u8],
-        name: &MapName,
-        shown: Option<Order>,
+        task: &FetchTask<'_>,
         known: &mut Option<FetchesFront<S>>,
         charges: &mut Charges<S>,
     ) -> Option<Result<Version, XfrFault>>
-        requires named { 0 < length source.now }
-        requires served { IsAmong S.catalogue.maps (name_view name.now) }
-        requires domain { (0 < length name.now.domain.items) × (length name.now.domain.items ≤ name_max) }
-        requires map { (0 < length name.now.map.items) × (length name.now.map.items ≤ name_max) }
-        ensures none { IsNone result ↔ (find source.now S.hosts ≡ None) }
-        ensures fetches { IfSome result (λ outcome. FetchesFrom S.hosts source.now
-            (wanted_of (name_view name.now).0 (name_view name.now).1 shown false) outcome
+        requires named { 0 < length task.now.source.now }
+        requires served { IsAmong S.catalogue.maps (name_view task.now.name.now) }
+        requires domain { (0 < length task.now.name.now.domain.items)
+            × (length task.now.name.now.domain.items ≤ name_max) }
+        requires map { (0 < length task.now.name.now.map.items) × (length task.now.name.now.map.items ≤ name_max) }
+        ensures none { IsNone result ↔ (find task.now.source.now S.hosts ≡ None) }
+        ensures fetches { IfSome result (λ outcome. FetchesFrom S.hosts task.now.source.now
+            (wanted_of (name_view task.now.name.now).0 (name_view task.now.name.now).1 task.now.shown false) outcome
             (wires_told (dial_by A.Dial self.old.dial)) (wires_told (dial_by A.Dial self.new.dial))) }
-        ensures aged { IfSome result (IsAgedBy shown) }
+        ensures aged { IfSome result (IsAgedBy task.now.shown) }
         ensures noted { IfSome result (λ outcome. IsNoted outcome known.new) }
         ensures charged { charges.new ≡ record charges.old {
           orders = charges.old.orders + option_map_or orders_in result 0;
@@ -290,11 +299,11 @@ impl<S: Site + Accounts + Supplies, A: Dial, T: Texts, C: Clock> SharedDesk<S, A
         } }
     {
         fetched_is_one();
-        self.desk.hosts.find(source)?;
+        self.desk.hosts.find(task.source)?;
         let request = FetchRequest {
-            domain: &name.domain,
-            map: &name.map,
-            shown,
+            domain: &task.name.domain,
+            map: &task.name.map,
+            shown: task.shown,
             force: false,
         };
         let fetched = fetch_from(
@@ -302,7 +311,7 @@ impl<S: Site + Accounts + Supplies, A: Dial, T: Texts, C: Clock> SharedDesk<S, A
             rt,
             &mut self.desk.dial,
             &self.desk.hosts,
-            source,
+            task.source,
             &request,
         );
         self.orders.add(&mut charges.orders, orders_in(&fetched));

@@ -1,16 +1,14 @@
 -- An install, from its steps.
-use Rattle.std.proofs.Common.{◌≡◌, ◌⊎◌, inl, inr, ℕ, ◌<◌, ◌≤◌, List, [], ◌∷◌, ◌++◌, length, slice_get, Option, None}
-use Rattle.std.proofs.Common.{IfSome, OnOk, OnErr, IfErr, Result, Ok, Err, sym, ◌∙◌, ap, subst, arith}
-use Rattle.std.proofs.lemmas.List.{append-nil, append_assoc}
-use Rattle.std.proofs.lemmas.Option.{slice_get_cases}
+use Rattle.std.proofs.Common.{◌≡◌, ◌⊎◌, inl, inr, ℕ, ◌<◌, [], ◌∷◌, length, None}
+use Rattle.std.proofs.Common.{OnOk, OnErr, IfErr, Result, Ok, Err, ap, subst}
 use Rattle.yp_version.specs.Versions.{MapVersion}
 use Rattle.yp_board.specs.Catalogues.{Catalogue}
-use Rattle.yp_board.specs.Logs.{Log, shown}
+use Rattle.yp_board.specs.Logs.{shown}
 use Rattle.yp_board.specs.Views.{IsFront}
 use Rattle.yp_publisher.specs.declared.install.Origin.{Origin}
 use Rattle.yp_publisher.specs.declared.install.InstallFault.{InstallFault}
 use Rattle.yp_publisher.specs.declared.install.InstallFault.TheVariants as fault
-use Rattle.yp_publisher.specs.Standing.{StoredMap, Published, At}
+use Rattle.yp_publisher.specs.Standing.{Published}
 use Rattle.yp_publisher.specs.Keeping.{Keeping}
 use Rattle.yp_publisher.specs.Installs.{OfferedVersion, FaultLeaves, Installs, not_following}
 use Rattle.yp_publisher.specs.Opens.{IsAnother, Opens}
@@ -19,6 +17,7 @@ use Rattle.yp_publisher.specs.declared.sharing.locked.ShareFault.{ShareFault}
 use Rattle.yp_publisher.specs.declared.sharing.locked.ShareFault.TheVariants.{Shut, Unfit, Untold}
 use Rattle.yp_publisher.specs.sharing.Shares.{offer_behind, IsShownBehind}
 use Rattle.yp_publisher.specs.inside.sharing.Shares.{OpensAndInstalls, OfferIsRefused, IsNotInstalled}
+use Rattle.yp_publisher.proofs.Growing.{at_one, front_same, front_then}
 
 -- after a fault no version was shown
 pub unshown : {D B : Type 0} (keeping : Keeping D B) (number : ℕ) (offered : OfferedVersion) (why : InstallFault)
@@ -32,30 +31,6 @@ unshown {D} {B} keeping number offered fault.NoMemory old new h = elim h [
   | inl same ↦ ap (λ (p : Published D B). p.board) same
   | inr fails ↦ fails.not_shown
 ]
-
--- what holds of a map before and after a call, where there is that map
-at_one : {D Q : Type 0} (P : StoredMap D → StoredMap D → Type 0) (number : ℕ) (old new : List (StoredMap D))
-    → number < length old → length new ≡ length old → ((before after : StoredMap D) → P before after → Q)
-    → At number old new P → Q
-at_one {D} P number old new lt count f h =
-    elim (slice_get_cases old number).1 [
-      | inl here ↦ elim (slice_get_cases new number).1 [
-        | inl there ↦
-            let first : IfSome (slice_get new number) (P here.0) =
-            subst (λ (o : Option (StoredMap D)). IfSome o (λ before. IfSome (slice_get new number) (P before))) here.2 h in
-            f here.0 there.0 (subst (λ (o : Option (StoredMap D)). IfSome o (P here.0)) there.2 first)
-        | inr past ↦ let le : length new ≤ number = past.0 in absurd (omega arith)
-      ]
-      | inr past ↦ let le : length old ≤ number = past.0 in absurd (omega arith)
-    ]
-
--- a board that stays as it is
-front_same : {B : Type 0} (log : B → Log) (old new : B) → new ≡ old → IsFront (log old) (log new)
-front_same log old new e = ([], ap log e ∙ sym (append-nil (log old)))
-
-pub front_then : (a b c : Log) → IsFront a b → IsFront b c → IsFront a c
-front_then a b c first second =
-    (first.0 ++ second.0, second.1 ∙ ap (λ (l : Log). l ++ second.0) first.1 ∙ append_assoc a first.0 second.0)
 
 -- ---- results
 

@@ -9,7 +9,7 @@ use Rattle.yp_publisher.specs.declared.install.Origin.TheVariants.{Built, Fetche
 use Rattle.yp_publisher.specs.sharing.Shares.{Learns}
 use Rattle.yp_publisher.specs.sharing.Sources.{Building}
 use Rattle.yp_publisher.specs.inside.sharing.Sources.{IsBuiltThere}
-use Rattle.yp_publisher.proofs.sharing.Installing.{front_then}
+use Rattle.yp_publisher.proofs.Growing.{front_then}
 
 -- what it is told
 pub learned : (old new : Seen) (log : Log) → IsFront old.known log → new ≡ record old { known = log } → Learns old new

@@ -31,7 +31,8 @@ use Rattle.yp_publisher.specs.inside.sharing.Failures.{made_by}
 use Rattle.yp_publisher.specs.sharing.Sources.{Building, IsBuiltBy, AreFrom, AreBehind, IsSourced}
 use Rattle.yp_publisher.specs.inside.sharing.Sources.{IsBuiltThere, fetched_in, IsSourcedAt}
 use Rattle.yp_publisher.proofs.sharing.Failing.{of_map, the_map, level_refusal}
-use Rattle.yp_publisher.proofs.sharing.Installing.{front_then, opened_front}
+use Rattle.yp_publisher.proofs.Growing.{front_then}
+use Rattle.yp_publisher.proofs.sharing.Installing.{opened_front}
 use Rattle.yp_publisher.proofs.sharing.Telling.{opened_then, offered_then, shut_then}
 use Rattle.yp_publisher.proofs.sharing.Leading.{maps_tell}
 

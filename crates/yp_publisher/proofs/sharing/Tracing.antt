@@ -14,15 +14,17 @@ use Rattle.yp_publisher.specs.declared.install.Origin.{Origin}
 use Rattle.yp_publisher.specs.declared.install.Origin.TheVariants.{Built, Fetched}
 use Rattle.yp_publisher.specs.declared.install.InstallFault.{InstallFault}
 use Rattle.yp_publisher.specs.declared.install.InstallFault.TheVariants as fault
-use Rattle.yp_publisher.specs.Standing.{MapStanding, Level, Behind, StoredMap, Published, OfMap, Shows, versions}
+use Rattle.yp_publisher.specs.Standing.{MapStanding, Level, Behind, StoredMap, Published, IsStanding, OfMap, Shows, versions}
 use Rattle.yp_publisher.specs.Keeping.{Keeping}
 use Rattle.yp_publisher.specs.Installs.{OfferedVersion, install_refusal, not_following, IsUnopposed, Installs, Refuses}
 use Rattle.yp_publisher.specs.Opens.{Opens}
 use Rattle.yp_publisher.specs.Rising.{PublisherState, publisher_state}
-use Rattle.yp_publisher.specs.Grown.{Making, AreMade, GrowsBy, IsOfBetween, IsBehindMade, LeavesOr}
+use Rattle.yp_publisher.specs.Grown.{Making, AreMade, GrowsBy, IsShownOrMade, IsBehindMade, LeavesByFronts}
 use Rattle.yp_publisher.specs.inside.Rising.{IsStart}
-use Rattle.yp_publisher.proofs.Leaving.{weaker, left_alone, both_leave_or, told_before, opt_one, opt_both, same_places}
-use Rattle.yp_publisher.proofs.Passing.{front_none, front_then, Respects, Sound, Passes, grows_none, grows_then, wider, passes_none, passes_then, stays_on, opens_on, offers_on}
+use Rattle.yp_publisher.proofs.Leaving.{told_before, opt_one, opt_both, same_places}
+use Rattle.yp_publisher.proofs.Growing.{front_none, front_then}
+use Rattle.yp_publisher.proofs.Chains.{by_fronts_then, by_fronts_so}
+use Rattle.yp_publisher.proofs.Passing.{Respects, Sound, Passes, grows_none, grows_then, uncalled, passes_none, passes_then, stays_on, opens_on, offers_on}
 use Rattle.yp_publisher.specs.declared.sharing.locked.ShareFault.{ShareFault}
 use Rattle.yp_publisher.specs.declared.sharing.locked.ShareFault.TheVariants.{Shut, Unfit, Untold}
 use Rattle.yp_publisher.specs.sharing.Failures.{disks_of}
@@ -31,7 +33,7 @@ use Rattle.yp_publisher.specs.inside.sharing.Shares.{OpensAndInstalls, IsNotInst
 use Rattle.yp_publisher.specs.inside.sharing.Moments.{MapsTell}
 use Rattle.yp_publisher.specs.sharing.Sources.{Building}
 use Rattle.yp_publisher.specs.inside.sharing.Sources.{IsBuiltThere}
-use Rattle.yp_publisher.specs.sharing.Tracing.{FetchLog, IsNewBehind, LeavesSince, Traces}
+use Rattle.yp_publisher.specs.sharing.Tracing.{FetchLog, IsNewBehind, Traces}
 use Rattle.yp_publisher.specs.inside.sharing.Tracing.{IsBeginning, IsKnownFetched, IsTraced, IsTracedAt}
 use Rattle.yp_publisher.proofs.sharing.Failing.{the_map, of_map}
 use Rattle.yp_publisher.proofs.sharing.Leading.{maps_tell}
@@ -76,16 +78,11 @@ module _ (Is Other : Making) (says : (number : ℕ) (log : Log) (version : MapVe
   grows_so : (first last : Log) → GrowsBy Is first last → GrowsBy Other first last
   grows_so first last grows = record { more = grows.more; last_is = grows.last_is; made = made_so first grows.more grows.made }
 
-  between_so : (number : ℕ) (first last : Log) (image : List ℕ) → IsOfBetween Is number first last image → IsOfBetween Other number first last image
-  between_so number first last image is = record {
-    log = is.log;
-    begins = is.begins;
-    goes_on = is.goes_on;
-    holds = elim is.holds [
-      | inl same ↦ inl same
-      | inr new ↦ inr (new.0, says number is.log new.0 new.1, new.2)
-    ];
-  }
+  shown_so : (number : ℕ) (log : Log) (image : List ℕ) → IsShownOrMade Is number log image → IsShownOrMade Other number log image
+  shown_so number log image is = elim is [
+    | inl same ↦ inl same
+    | inr new ↦ inr (new.0, says number log new.0 new.1, new.2)
+  ]
 
   behind_so : (number : ℕ) (log : Log) (standing : MapStanding) → IsBehindMade Is number log standing → IsBehindMade Other number log standing
   behind_so number log Level made = tt
@@ -97,8 +94,7 @@ module _ (Is Other : Making) (says : (number : ℕ) (log : Log) (version : MapVe
     begins = traced.begins;
     grown = λ told. grows_so first log (traced.grown told);
     any_moment = λ number. opt_both (slice_get histories number) (slice_get maps number)
-        (λ before kept there here leaves. weaker before (history kept.disk)
-        (λ told image is. elim is [ inl left ↦ inl left | inr of ↦ inr (between_so number first log image of) ]) leaves)
+        (λ before kept there here leaves. by_fronts_so before (history kept.disk) first log (shown_so number) leaves)
         (traced.any_moment number);
     behind = λ number. opt_one (slice_get maps number) (λ kept here made told. behind_so number log kept.standing (made told)) (traced.behind number);
   }
@@ -109,8 +105,9 @@ module _ {D B : Type 0} (keeping : Keeping D B) (Is : Making) (same : Respects I
   abbrev Traced : Published D B → Type 0
   Traced now = IsTraced keeping.history Is first (keeping.log now.board) histories now.maps
 
-  sound_so : (now : Published D B) → Shows (keeping.log now.board) (versions now.maps) → Traced now → Sound keeping Is same now
-  sound_so now shows traced = record { shows = shows; behind = traced.behind }
+  sound_so : (now : Published D B) → Shows (keeping.log now.board) (versions now.maps)
+      → ((number : ℕ) → OfMap number now.maps (IsStanding keeping.history)) → Traced now → Sound keeping Is same now
+  sound_so now shows standing traced = record { shows = shows; standing = standing; behind = traced.behind }
 
   tell_before : (old new : Published D B) → Passes keeping Is same old new → MapsTell keeping.history new.maps → MapsTell keeping.history old.maps
   tell_before old new passes told number =
@@ -131,8 +128,8 @@ module _ {D B : Type 0} (keeping : Keeping D B) (Is : Making) (same : Respects I
         grows_then Is first (keeping.log old.board) (keeping.log new.board) (traced.grown before) (passes.entries before);
     any_moment = λ number. opt_later (slice_get histories number) (slice_get old.maps number) (slice_get new.maps number)
         (same_places new.maps old.maps number passes.count)
-        (λ before between after f s. both_leave_or before (keeping.history between.disk) (keeping.history after.disk)
-        (sooner number before between f) (later number between after s))
+        (λ before between after f s. by_fronts_then before (keeping.history between.disk) (keeping.history after.disk)
+        first (keeping.log old.board) (keeping.log new.board) f s)
         (traced.any_moment number) (passes.moments number);
     behind = sound.behind;
   } where
@@ -143,27 +140,6 @@ module _ {D B : Type 0} (keeping : Keeping D B) (Is : Making) (same : Respects I
     opt_later (Some a) p None some f h k = tt
     opt_later {A} {C} (Some a) None (Some c) some f h k = let no : IsSome {T = C} None = some refl in absurd (cc)
     opt_later (Some a) (Some b) (Some c) some f h k = f a b c h k
-
-    sooner : (number : ℕ) (before : Option History) (kept : StoredMap D)
-        → LeavesSince before (IsOfBetween Is number first (keeping.log old.board)) (keeping.history kept.disk)
-        → LeavesSince before (IsOfBetween Is number first (keeping.log new.board)) (keeping.history kept.disk)
-    sooner number before kept l =
-        weaker before (keeping.history kept.disk)
-        (λ told image is. elim is [
-          | inl left ↦ inl left
-          | inr of ↦ inr (wider Is number first first (keeping.log old.board) (keeping.log new.board) (front_none first first refl) passes.grown image of)
-        ]) l
-
-    later : (number : ℕ) (before after : StoredMap D)
-        → LeavesOr keeping.history (IsOfBetween Is number (keeping.log old.board) (keeping.log new.board)) before.disk after.disk
-        → LeavesOr keeping.history (IsOfBetween Is number first (keeping.log new.board)) before.disk after.disk
-    later number before after l =
-        weaker (keeping.history before.disk) (keeping.history after.disk)
-        (λ told image is. elim is [
-          | inl left ↦ inl left
-          | inr of ↦ inr (wider Is number first (keeping.log old.board) (keeping.log new.board) (keeping.log new.board) traced.begins
-              (front_none (keeping.log new.board) (keeping.log new.board) refl) image of)
-        ]) l
 
 -- ---- the calls under the lock
 
@@ -179,7 +155,7 @@ module _ {D B : Type 0} (keeping : Keeping D B) (Is : Building) (fetches : Fetch
       (level : OfMap number old.maps (λ m. m.standing ≡ Level)) where
     unchanged : new ≡ old → Goes old new
     unchanged same = subst (λ (p : Published D B). Goes old p) (sym same)
-        (sound, passes_none keeping (IsNewBehind Is fetches) (respects Is fetches) old)
+        (sound, passes_none keeping (IsNewBehind Is fetches) (respects Is fetches) old sound)
 
     module _ (origin : Origin) where
       abbrev offered : OfferedVersion
@@ -284,17 +260,18 @@ module _ {D B : Type 0} (keeping : Keeping D B) (Is : Building) (fetches : Fetch
 pub traced_after : {T D B : Type 0} (keeping : Keeping D B) (Is : Building) (before fetches : FetchLog) (first : PublisherState)
     (histories : List (Option History)) (number : ℕ) (version : MapVersion) (origin : Origin) (own : List ℕ) (known : Option FetchLog)
     (old new : Published D B) (r : Result T ShareFault) → number < length old.maps
-    → Shows (keeping.log old.board) (versions old.maps) → old.catalogue.own ≡ own
+    → Shows (keeping.log old.board) (versions old.maps) → ((number : ℕ) → OfMap number old.maps (IsStanding keeping.history))
+    → old.catalogue.own ≡ own
     → IsBuiltThere Is (keeping.log old.board) number own version origin → IsKnownFetched version origin known
     → IsBeginning before fetches → IfSome known (λ front. IsBeginning front fetches)
     → OnOk r (OpensAndInstalls keeping number version origin old new)
     → IfErr r (λ why. IsNotInstalled keeping number version origin why old new)
     → IsTracedAt keeping Is before first histories old → IsTracedAt keeping Is fetches first histories new
-traced_after keeping Is before fetches first histories number version origin own known old new r within shows own_is built is more
-    learned one none traced = λ start.
+traced_after keeping Is before fetches first histories number version origin own known old new r within shows standing own_is built is
+    more learned one none traced = λ start.
     let was = traced_so (IsNewBehind Is before) (IsNewBehind Is fetches) (known_more Is before fetches more) keeping.history first.log
     (keeping.log old.board) histories old.maps (traced start) in
-    let sound = sound_so keeping (IsNewBehind Is fetches) (respects Is fetches) first.log histories old shows was in
+    let sound = sound_so keeping (IsNewBehind Is fetches) (respects Is fetches) first.log histories old shows standing was in
     let went = goes keeping Is fetches number version own origin known old new within sound own_is built is learned r one none in
     traced_then keeping (IsNewBehind Is fetches) (respects Is fetches) first.log histories old new was went.1 went.0
 
@@ -305,48 +282,19 @@ opt_none P None p none = tt
 opt_none P (Some a) None none = tt
 opt_none P (Some a) (Some c) none = absurd cc
 
--- disks that told this and that nothing was done with
-pub traced_at_first : {D B : Type 0} (keeping : Keeping D B) (Is : Building) (fetches : FetchLog) (first : PublisherState)
-    (histories : List (Option History)) (published : Published D B) → publisher_state keeping.log published ≡ first
-    → map keeping.history (disks_of published.maps) ≡ histories → IsTracedAt keeping Is fetches first histories published
-traced_at_first {D} {B} keeping Is fetches first histories published is told = λ start. record {
-  begins = front_none first.log (keeping.log published.board) (ap (λ (m : PublisherState). m.log) is);
-  grown = λ all. grows_none (IsNewBehind Is fetches) first.log (keeping.log published.board) (ap (λ (m : PublisherState). m.log) is);
-  any_moment = λ number. subst (λ (all : List (Option History)). IfSome (slice_get all number) (λ before. OfMap number published.maps
-      (λ kept. LeavesSince before (IsOfBetween (IsNewBehind Is fetches) number first.log (keeping.log published.board)) (keeping.history kept.disk))))
-      told (untouched published.maps number);
-  behind = λ number. level_at published.maps number (subst (λ (m : PublisherState). All (λ standing. standing ≡ Level) m.standings) (sym is) start.level);
-} where
-  untouched : (maps : List (StoredMap D)) (number : ℕ) → IfSome (slice_get (map keeping.history (disks_of maps)) number)
-      (λ before. OfMap number maps (λ kept. LeavesSince before
-      (IsOfBetween (IsNewBehind Is fetches) number first.log (keeping.log published.board)) (keeping.history kept.disk)))
-  untouched maps number = elim (slice_get_cases maps number).1 [
-    | inl here ↦
-        let kept = here.0 in
-        let disk : slice_get (disks_of maps) number ≡ Some kept.disk =
-        slice_get-map (λ (k : StoredMap D). k.disk) maps number ∙ ap (option_map (λ (k : StoredMap D). k.disk)) here.2 in
-        let told : slice_get (map keeping.history (disks_of maps)) number ≡ Some (keeping.history kept.disk) =
-        slice_get-map keeping.history (disks_of maps) number ∙ ap (option_map keeping.history) disk in
-        subst (λ (o : Option (Option History)). IfSome o (λ before. OfMap number maps (λ kept. LeavesSince before
-        (IsOfBetween (IsNewBehind Is fetches) number first.log (keeping.log published.board)) (keeping.history kept.disk)))) (sym told)
-        (subst (λ (o : Option (StoredMap D)). IfSome o (λ kept'. LeavesSince (keeping.history kept.disk)
-        (IsOfBetween (IsNewBehind Is fetches) number first.log (keeping.log published.board)) (keeping.history kept'.disk))) (sym here.2)
-        (left_alone (keeping.history kept.disk) (λ image left. inl left)))
-    | inr past ↦ opt_none _ (slice_get (map keeping.history (disks_of maps)) number) (slice_get maps number) past.1
-  ]
-
-  level_at : (maps : List (StoredMap D)) (number : ℕ) → All (λ standing. standing ≡ Level) (map (λ (k : StoredMap D). k.standing) maps)
-      → OfMap number maps (λ kept. IsSome (keeping.history kept.disk)
+module _ {D B : Type 0} (keeping : Keeping D B) (Is : Building) (fetches : FetchLog) (published : Published D B) where
+  level_at : All (λ standing. standing ≡ Level) (map (λ (k : StoredMap D). k.standing) published.maps) → (number : ℕ)
+      → OfMap number published.maps (λ kept. IsSome (keeping.history kept.disk)
       → IsBehindMade (IsNewBehind Is fetches) number (keeping.log published.board) kept.standing)
-  level_at maps number level = elim (slice_get_cases maps number).1 [
+  level_at level number = elim (slice_get_cases published.maps number).1 [
     | inl here ↦
         let kept = here.0 in
-        let there : slice_get (map (λ (k : StoredMap D). k.standing) maps) number ≡ Some kept.standing =
-        slice_get-map (λ (k : StoredMap D). k.standing) maps number ∙ ap (option_map (λ (k : StoredMap D). k.standing)) here.2 in
-        let long = length-map maps (λ (k : StoredMap D). k.standing) in
-        let inside : number < length maps = here.1 in
+        let there : slice_get (map (λ (k : StoredMap D). k.standing) published.maps) number ≡ Some kept.standing =
+        slice_get-map (λ (k : StoredMap D). k.standing) published.maps number ∙ ap (option_map (λ (k : StoredMap D). k.standing)) here.2 in
+        let long = length-map published.maps (λ (k : StoredMap D). k.standing) in
+        let inside : number < length published.maps = here.1 in
         let stands : kept.standing ≡ Level = subst (λ (s : MapStanding). s ≡ Level)
-        (get_or_from_slice_get (map (λ (k : StoredMap D). k.standing) maps) number kept.standing kept.standing there)
+        (get_or_from_slice_get (map (λ (k : StoredMap D). k.standing) published.maps) number kept.standing kept.standing there)
         (level number kept.standing (omega (arith, long, inside))) in
         subst (λ (o : Option (StoredMap D)). IfSome o (λ kept. IsSome (keeping.history kept.disk)
         → IsBehindMade (IsNewBehind Is fetches) number (keeping.log published.board) kept.standing)) (sym here.2)
@@ -354,6 +302,46 @@ traced_at_first {D} {B} keeping Is fetches first histories published is told = �
     | inr past ↦ subst (λ (o : Option (StoredMap D)). IfSome o (λ kept. IsSome (keeping.history kept.disk)
         → IsBehindMade (IsNewBehind Is fetches) number (keeping.log published.board) kept.standing)) (sym past.1) tt
   ]
+
+  -- where a disk stands at that moment
+  abbrev Stays : ℕ → Option History → StoredMap D → Type 0
+  Stays number before kept =
+      LeavesByFronts (IsShownOrMade (IsNewBehind Is fetches) number) before (keeping.history kept.disk)
+      (keeping.log published.board) (keeping.log published.board)
+
+  untouched : Sound keeping (IsNewBehind Is fetches) (respects Is fetches) published → (number : ℕ)
+      → IfSome (slice_get (map keeping.history (disks_of published.maps)) number) (λ before. OfMap number published.maps (Stays number before))
+  untouched sound number = elim (slice_get_cases published.maps number).1 [
+    | inl here ↦
+        let kept = here.0 in
+        let log = keeping.log published.board in
+        let disk : slice_get (disks_of published.maps) number ≡ Some kept.disk =
+        slice_get-map (λ (k : StoredMap D). k.disk) published.maps number ∙ ap (option_map (λ (k : StoredMap D). k.disk)) here.2 in
+        let told : slice_get (map keeping.history (disks_of published.maps)) number ≡ Some (keeping.history kept.disk) =
+        slice_get-map keeping.history (disks_of published.maps) number ∙ ap (option_map keeping.history) disk in
+        subst (λ (o : Option (Option History)). IfSome o (λ before. OfMap number published.maps (Stays number before))) (sym told)
+        (subst (λ (o : Option (StoredMap D)). IfSome o (Stays number (keeping.history kept.disk))) (sym here.2)
+        (uncalled keeping (IsNewBehind Is fetches) (respects Is fetches) published sound number log (front_none log log refl) kept here.2))
+    | inr past ↦ opt_none _ (slice_get (map keeping.history (disks_of published.maps)) number) (slice_get published.maps number) past.1
+  ]
+
+-- disks that told this and that nothing was done with
+pub traced_at_first : {D B : Type 0} (keeping : Keeping D B) (Is : Building) (fetches : FetchLog) (first : PublisherState)
+    (histories : List (Option History)) (published : Published D B) → Shows (keeping.log published.board) (versions published.maps)
+    → ((number : ℕ) → OfMap number published.maps (IsStanding keeping.history)) → publisher_state keeping.log published ≡ first
+    → map keeping.history (disks_of published.maps) ≡ histories → IsTracedAt keeping Is fetches first histories published
+traced_at_first {D} {B} keeping Is fetches first histories published shows standing is told = λ start.
+    let log = keeping.log published.board in
+    let level = subst (λ (m : PublisherState). All (λ standing. standing ≡ Level) m.standings) (sym is) start.level in
+    let behind = level_at keeping Is fetches published level in
+    subst (λ (all : List (Option History)). IsTraced keeping.history (IsNewBehind Is fetches) first.log log all published.maps) told
+    (subst (λ (m : PublisherState). IsTraced keeping.history (IsNewBehind Is fetches) m.log log (map keeping.history (disks_of published.maps)) published.maps) is
+    (record {
+      begins = front_none log log refl;
+      grown = λ all. grows_none (IsNewBehind Is fetches) log log refl;
+      any_moment = untouched keeping Is fetches published (record { shows = shows; standing = standing; behind = behind });
+      behind = behind;
+    }))
 
 -- the same where all disks tell it
 pub traced_at_last : {D B : Type 0} (keeping : Keeping D B) (Is : Building) (fetches : FetchLog) (first : PublisherState)

@@ -213,6 +213,7 @@ impl<S: Site + Accounts, D: Disk, B: Show> Locked<S, D, B> {
         requires part { 0 < versions.parts }
         ensures { result ≡ publisher }
     {
+        let _catalog = publisher.catalog();
         Locked {
             publisher,
             failures,
@@ -227,7 +228,8 @@ impl<S: Site + Accounts, D: Disk, B: Show> Locked<S, D, B> {
     /// as the faults of its disks. From a start, over disks that tell what a crash may leave of them, the orders of
     /// each map rise in the log; at least as many built versions were shown as the caller was charged with; and the
     /// other versions that were shown, with those that maps are behind, are at most as many as were fetched. Each
-    /// version was built or fetched, and so was what a crash leaves of a map at any moment, if it wasn't shown.
+    /// version was built or fetched. At each moment a crash leaves of a map what a front of the log shows, or a version
+    /// that was built or fetched behind that front, and the fronts only grow from moment to moment.
     pub fn close(
         self,
         charge: &mut Debits<S>,

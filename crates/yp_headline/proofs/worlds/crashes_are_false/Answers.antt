@@ -2,6 +2,7 @@ use Rattle.yp_headline.proofs.Torn as torn
 use Rattle.yp_headline.proofs.Lost as lost
 use Rattle.yp_headline.proofs.Spoiled as spoiled
 use Rattle.yp_headline.proofs.Served as served
+use Rattle.yp_headline.proofs.Returned as returned
 use Rattle.yp_headline.proofs.worlds.crashes_are_false.Goals as goal
 
 pub returns : goal.returns
@@ -20,4 +21,5 @@ returns c = record {
   of_nobody_meanwhile = served.of_nobody_meanwhile c.first_is_one.ensures;
   of_nobody_at_end = served.of_nobody_at_end c.first_is_one.ensures;
   never_new = served.never_new c.first_is_one.ensures;
+  went_back = returned.went_back c.first_is_one.ensures;
 }

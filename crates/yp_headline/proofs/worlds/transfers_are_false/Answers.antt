@@ -23,6 +23,7 @@ returns c =
       called_without_call = called.called_without_call;
       called_of_no_server = called.called_of_no_server;
       called_of_order = called.called_of_order one;
+      called_of_skewed = called.called_of_skewed one;
       called_unshown = called.called_unshown one;
       of_another_host = called.of_another_host;
       called_twice = called.called_twice one;

@@ -1,6 +1,6 @@
 use Rattle.std.proofs.Common.{◌≡◌, ◌+◌, [], ◌∷◌, length, ap, ◌∙◌, rules, arith}
 use Rattle.std.proofs.lemmas.List.{length-append}
-use Rattle.yp_publisher.proofs.Loading.{loading_none, loading_more, loading_stopped, stopped_first}
+use Rattle.yp_publisher.proofs.Loading.{loading_none, loading_more, all_stand, loading_stopped, stopped_first}
 use Rattle.yp_publisher.proofs.loaded.load_all.Goals as goal
 
 pub returns-in_default-clause-refused : goal.returns-in_default-clause-refused
@@ -44,3 +44,11 @@ returns-in-Err-clause-refused g c =
     c.in-Err.disk c.len-in-Err.result c.in-Err.fault
     c.loop-disk.invariant.loading c.in-Some.ensures.items
     (search rules) c.push_reserved-in-Err.ensures.items c.give_back.ensures.disks (search rules)
+
+pub invariant_of-result : goal.invariant_of-result
+invariant_of-result g c =
+    let loading = c.loop-disk.invariant.loading in (
+      search rules,
+      search rules,
+      all_stand g.D.Disk.history g.D.Disk.faults loading.front c.loop-disk.maps.items loading.each,
+    )

@@ -9,11 +9,11 @@ use Rattle.yp_publisher.specs.declared.install.Origin.TheVariants.{Built, Fetche
 use Rattle.yp_publisher.specs.Standing.{StoredMap, Published, OfMap}
 use Rattle.yp_publisher.specs.Keeping.{Keeping}
 use Rattle.yp_publisher.specs.Rising.{PublisherState}
-use Rattle.yp_publisher.specs.Grown.{Making, GrowsBy, IsOfBetween, IsBehindMade}
+use Rattle.yp_publisher.specs.Grown.{Making, GrowsBy, IsShownOrMade, LeavesByFronts, IsBehindMade}
 use Rattle.yp_publisher.specs.inside.Rising.{IsStart}
 use Rattle.yp_publisher.specs.inside.sharing.Moments.{MapsTell}
 use Rattle.yp_publisher.specs.sharing.Sources.{Building}
-use Rattle.yp_publisher.specs.sharing.Tracing.{FetchLog, IsNewBehind, LeavesSince}
+use Rattle.yp_publisher.specs.sharing.Tracing.{FetchLog, IsNewBehind}
 
 -- a log is the other one, with more behind it or nothing
 abbrev pub IsBeginning : FetchLog → FetchLog → Type 0
@@ -31,7 +31,7 @@ pub record IsTraced {D : Type 0} (history : D → Option History) (Is : Making) 
   pub begins : IsFront first log
   pub grown : MapsTell history maps → GrowsBy Is first log
   pub any_moment : (number : ℕ) → IfSome (slice_get histories number) (λ before. OfMap number maps
-      (λ kept. LeavesSince before (IsOfBetween Is number first log) (history kept.disk)))
+      (λ kept. LeavesByFronts (IsShownOrMade Is number) before (history kept.disk) first log))
   pub behind : (number : ℕ) → OfMap number maps
       (λ kept. IsSome (history kept.disk) → IsBehindMade Is number log kept.standing)
 

@@ -5,7 +5,7 @@ use Rattle.yp_publisher.specs.Opens.{IsAnother, Opens, StaysBehind}
 use Rattle.yp_publisher.specs.Standing.{StoredMap, Published, At}
 use Rattle.yp_publisher.proofs.Changing.{all_ok, all_err, new, at, upheld, few_more, opened, stayed, Told, reshown}
 use Rattle.yp_publisher.proofs.Changing.{shown_of, still_version, not_level}
-use Rattle.yp_publisher.proofs.Maps.{on_ok, on_err, read_map, Reshown, shows_reopened, publisher_set}
+use Rattle.yp_publisher.proofs.Maps.{on_ok, on_err, read_map, Reshown, shows_reopened, publisher_set, stand_set}
 use Rattle.yp_publisher.proofs.publisher.Publisher.reopen.Goals as goal
 
 pub returns-clause-opened : goal.returns-clause-opened
@@ -134,4 +134,5 @@ invariant_of-self g c =
       c.self.invariant.0,
       publisher_set maps n y _ (K.log board)
           (K.log after) _ _ _ c.self.invariant.1 c.reopen.ensures.maps shows,
+      stand_set K.history maps n y within c.self.invariant.2 c.reopen.ensures.standing,
     )

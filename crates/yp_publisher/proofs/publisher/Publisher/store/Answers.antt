@@ -5,7 +5,7 @@ use Rattle.yp_publisher.specs.Installs.{IsInstalled, IsUnsure, IsUnshown, Leaves
 use Rattle.yp_publisher.specs.Rising.{PublisherState, Stores, publisher_state}
 use Rattle.yp_publisher.specs.Standing.{StoredMap, Published, Level}
 use Rattle.yp_publisher.proofs.Maps.{on_ok, if_ok, on_err, read_map, of_read, of_at, at_set, shows_after}
-use Rattle.yp_publisher.proofs.Maps.{stores_after, publisher_set}
+use Rattle.yp_publisher.proofs.Maps.{stores_after, publisher_set, stand_set}
 use Rattle.yp_publisher.specs.Keeping.{Upholds, keeping_of}
 use Rattle.yp_publisher.proofs.Changing.{upheld, new}
 use Rattle.yp_publisher.proofs.publisher.Publisher.store.Goals as goal
@@ -126,8 +126,11 @@ invariant_of-self g c =
     let after = L c.install.new.board in
     let kept = on_err c.install.result (λ e. ap L e) c.install.ensures.not_shown in
     let shows = shows_after c.install.result log after maps n x y w here c.install.ensures.log kept
-    c.install.ensures.version c.install.ensures.version_kept c.self.invariant.1.shows in
-    (c.self.invariant.0, publisher_set maps n y _ log after _ _ _ c.self.invariant.1 c.install.ensures.maps shows)
+    c.install.ensures.version c.install.ensures.version_kept c.self.invariant.1.shows in (
+      c.self.invariant.0,
+      publisher_set maps n y _ log after _ _ _ c.self.invariant.1 c.install.ensures.maps shows,
+      stand_set g.D.Disk.history maps n y within c.self.invariant.2 c.install.ensures.standing,
+    )
 
 pub returns-clause-upheld : goal.returns-clause-upheld
 returns-clause-upheld g c =

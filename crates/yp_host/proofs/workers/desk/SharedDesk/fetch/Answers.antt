@@ -16,33 +16,35 @@ use Rattle.yp_host.proofs.workers.desk.SharedDesk.fetch.Goals as goal
 
 pub invariant_of-self : goal.invariant_of-self
 invariant_of-self g c =
+    let task = c.args.task.now in
     let dialing = dialing_of g.A.Dial.past g.A.Dial.faults in
     let tells = dial_by g.A.Dial in
-    let wanted = wanted_of c.deref.result.now c.deref-2.result.now c.args.shown false in
+    let wanted = wanted_of c.deref.result.now c.deref-2.result.now task.shown false in
     let fetched = c.fetch_from-fetched.result in
     let old = dialing c.self.inside.desk.dial in
     let new = dialing c.fetch_from-fetched.new.dial in
     let fetches = c.fetch_from-fetched.ensures.fetches in (
       record { texts_are = c.self.invariant.0.texts_are; hosts_are = c.self.invariant.0.hosts_are },
       c.self.invariant.1,
-      rw (c.add.ensures.total, c.orders_in.ensures) (fetched_orders g.S.Supplies.wires c.self.inside.orders.total wanted fetched old new
-          c.self.invariant.2 c.self.inside.desk.hosts c.args.source.now fetches),
+      rw (c.add.ensures.total, c.orders_in.ensures) (fetched_orders g.S.Supplies.wires c.self.inside.orders.total
+          wanted fetched old new c.self.invariant.2 c.self.inside.desk.hosts task.source.now fetches),
       rw (c.add-2.ensures.total, c.sources_in.ensures) (fetched_sources c.fetched_is_one.ensures g.S.Supplies.wires
-          g.S.Supplies.dial_faults c.self.inside.sources.total wanted fetched old new c.self.invariant.3 c.self.inside.desk.hosts
-          c.args.source.now (rw c.deref.ensures.value c.requires.domain.0) (rw c.deref-2.ensures.value c.requires.map.0)
-          c.requires.named c.in_ok-find.field-0 c.in_ok-find.ensures fetches),
-      rw c.charge_version.ensures.total (fetched_versions g.S.Supplies.wires c.self.inside.versions.total wanted fetched old new
-          c.self.invariant.4 c.self.inside.desk.hosts c.args.source.now fetches),
-      all_noted g.S.Supplies.wires wanted old new c.self.inside.desk.hosts c.args.source.now c.self.inside.versions.total fetched
-          c.self.inside.fetches c.note.new.fetches fetches c.self.invariant.4 c.self.invariant.5 c.note.ensures.added
-          c.note.ensures.same,
+          g.S.Supplies.dial_faults c.self.inside.sources.total wanted fetched old new c.self.invariant.3
+          c.self.inside.desk.hosts task.source.now (rw c.deref.ensures.value c.requires.domain.0)
+          (rw c.deref-2.ensures.value c.requires.map.0) c.requires.named c.in_ok-find.field-0 c.in_ok-find.ensures
+          fetches),
+      rw c.charge_version.ensures.total (fetched_versions g.S.Supplies.wires c.self.inside.versions.total wanted
+          fetched old new c.self.invariant.4 c.self.inside.desk.hosts task.source.now fetches),
+      all_noted g.S.Supplies.wires wanted old new c.self.inside.desk.hosts task.source.now
+          c.self.inside.versions.total fetched c.self.inside.fetches c.note.new.fetches fetches
+          c.self.invariant.4 c.self.invariant.5 c.note.ensures.added c.note.ensures.same,
       used_more g.S.Supplies.hosts g.S.Site.catalogue.maps
-          (Fetching c.args.source.now (name_view c.args.name.now) c.args.shown fetched)
+          (Fetching task.source.now (name_view task.name.now) task.shown fetched)
           (dial_told g.S.Supplies.wires g.S.Supplies.letters g.S.Supplies.dial_faults)
           (tells c.self.inside.desk.dial) (tells c.fetch_from-fetched.new.dial) c.self.invariant.6 (
             c.requires.served,
-            subst (λ (h : HostList). FetchesFrom h c.args.source.now
-                (wanted_of c.args.name.now.domain.items c.args.name.now.map.items c.args.shown false) fetched old new)
+            subst (λ (h : HostList). FetchesFrom h task.source.now
+                (wanted_of task.name.now.domain.items task.name.now.map.items task.shown false) fetched old new)
                 c.self.invariant.0.hosts_are
                 (rw (← c.deref.ensures.value, ← c.deref-2.ensures.value) fetches),
             c.fetch_from-fetched.ensures.letters,
@@ -51,5 +53,6 @@ invariant_of-self g c =
 
 pub returns-clause-aged : goal.returns-clause-aged
 returns-clause-aged g c =
-    fetched_aged c.deref.result.now c.deref-2.result.now c.args.shown c.fetch_from-fetched.result _ _ c.self.inside.desk.hosts
-    c.args.source.now c.fetch_from-fetched.ensures.fetches
+    let task = c.args.task.now in
+    fetched_aged c.deref.result.now c.deref-2.result.now task.shown c.fetch_from-fetched.result _ _
+    c.self.inside.desk.hosts task.source.now c.fetch_from-fetched.ensures.fetches

@@ -29,7 +29,8 @@ invariant_of-self g c =
       traced_after (keeping_of g.D.Disk.history g.D.Disk.faults g.B.Show.log) g.S.Accounts.built c.self.inside.fetches
           c.with_known.result g.S.Accounts.first g.S.Accounts.histories c.args.map c.args.version c.args.origin
           g.S.Site.catalogue.own c.args.known c.self.inside.publisher step.new.publisher step.result within
-          c.catalog-catalog.ensures.shown (ap (λ (served : Catalogue). served.own) c.self.invariant.0)
+          c.catalog-catalog.ensures.shown c.catalog-catalog.ensures.standing
+          (ap (λ (served : Catalogue). served.own) c.self.invariant.0)
           (rw c.self.view_is c.requires.built) c.requires.known c.with_known.ensures.this c.with_known.ensures.that
           step.ensures.installed step.ensures.refused c.self.invariant.4,
       rw c.transfer.ensures.parts_given c.self.invariant.5,

@@ -15,6 +15,7 @@ invariant_of-result g c = (
   sourced_at_first (keeping_of g.D.Disk.history g.D.Disk.faults g.B.Show.log) g.S.Accounts.built g.S.Accounts.first
       c.args.publisher c.args.made.total c.args.versions.amount c.requires.first c.requires.none.1,
   traced_at_first (keeping_of g.D.Disk.history g.D.Disk.faults g.B.Show.log) g.S.Accounts.built c.args.fetches
-      g.S.Accounts.first g.S.Accounts.histories c.args.publisher c.requires.first c.requires.histories,
+      g.S.Accounts.first g.S.Accounts.histories c.args.publisher c.catalog-catalog.ensures.shown c.catalog-catalog.ensures.standing
+      c.requires.first c.requires.histories,
   c.requires.part,
 )
