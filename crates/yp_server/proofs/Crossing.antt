@@ -30,6 +30,7 @@ use Rattle.yp_worker.specs.contracts.worker.Worker as Worker
 use Rattle.yp_worker.specs.contracts.datagrams.pending.PendingTransfers as PendingTransfers
 use Rattle.yp_worker.specs.contracts.datagrams.pending.TransferPass as TransferPass
 use Rattle.yp_worker.specs.contracts.datagrams.server.MailServer as MailServer
+use Rattle.yp_worker.specs.contracts.datagrams.carrier.TransferCarrier as TransferCarrier
 use Rattle.yp_server.specs.contracts.datagrams.DatagramWorker as DatagramWorker
 use Rattle.yp_server.specs.contracts.workers.ConnectionWorker as ConnectionWorker
 use Rattle.yp_server.specs.contracts.workers.ServerWorker as ServerWorker
@@ -77,6 +78,12 @@ mail_server_send : (a : NamedLft) (I H R Count : RattleType) (sites : site.Ghost
     (hosts : host.Ghosts H.Denot) (views : view.Ghosts H.Denot) → IsSend H → IsSync R
     → IsSend (MailServer.the_row a I H R Count sites learners hosts views)
 mail_server_send a I H R Count sites learners hosts views host rt =
+    search (sendable, crosses, transfer_pass_send, pending_sync) depth 60 fits 50000
+
+pub transfer_carrier_send : (a : NamedLft) (I H R Count : RattleType) (sites : site.Ghosts I.Denot)
+    (learners : catch_up.Ghosts H.Denot Count.Denot) (hosts : host.Ghosts H.Denot) (views : view.Ghosts H.Denot)
+    → IsSend H → IsSync R → IsSend (TransferCarrier.the_row a I H R Count sites learners hosts views)
+transfer_carrier_send a I H R Count sites learners hosts views host rt =
     search (sendable, crosses, transfer_pass_send, pending_sync) depth 60 fits 50000
 
 pub datagram_worker_send : (a : NamedLft) (B I H R Count : RattleType) (sites : site.Ghosts I.Denot)

@@ -61,9 +61,10 @@ module _ {H T : Type 0} (conduct : Conduct H) (counting : Counting H T) (catalog
       (failed, others, is, left_here, left_there, left_is, carried_here, carried_there, carried_is, one, rest) =
       started failed old new left_here carried_here count one
 
-  pub starts_in : (fault : Bool) (before after : List InboxTells) (counts : List T) → 0 < length before
-      → CountsInboxes conduct counting catalogue starts log turns fault before after counts → IsFront starts log
-  starts_in fault before after counts some all = each_starts fault before after all.left all.carried counts some all.each
+  pub starts_in : (fault : Bool) (before after : List InboxTells) (of_carrier : T) (counts : List T) → 0 < length before
+      → CountsInboxes conduct counting catalogue starts log turns fault before after of_carrier counts → IsFront starts log
+  starts_in fault before after of_carrier counts some all =
+      each_starts fault before after all.left all.carried counts some all.each
 
   -- what was served, but for what was counted
   each_served : (fault : Bool) (before after : List InboxTells) (left carried : List Awaited) (counts : List T)
@@ -89,12 +90,14 @@ module _ {H T : Type 0} (conduct : Conduct H) (counting : Counting H T) (catalog
         each_served others before after left_there carried_there counts rest,
       )
 
-  pub served_of : (fault : Bool) (before after : List InboxTells) (counts : List T)
-      → CountsInboxes conduct counting catalogue starts log turns fault before after counts
+  pub served_of : (fault : Bool) (before after : List InboxTells) (of_carrier : T) (counts : List T)
+      → CountsInboxes conduct counting catalogue starts log turns fault before after of_carrier counts
       → ServesInboxes conduct counting.counted catalogue starts log turns fault before after
-  served_of fault before after counts all = record {
+  served_of fault before after of_carrier counts all = record {
     left = all.left;
     carried = all.carried;
+    beside = all.beside;
+    carrier = all.carrier.carries;
     each = each_served fault before after all.left all.carried counts all.each;
     all = all.all;
   }

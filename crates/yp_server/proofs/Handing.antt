@@ -33,7 +33,7 @@ fold_push f from (y ∷ xs) x = fold_push f (f from y) xs x
 
 -- ---- what was handed over
 
-weigh_append : (h : Awaited → ℕ) (xs ys : List Awaited) → weigh h (xs ++ ys) ≡ weigh h xs + weigh h ys
+pub weigh_append : (h : Awaited → ℕ) (xs ys : List Awaited) → weigh h (xs ++ ys) ≡ weigh h xs + weigh h ys
 weigh_append h [] ys = omega arith
 weigh_append h (x ∷ xs) ys = let more = weigh_append h xs ys in omega (arith, more)
 

@@ -17,7 +17,7 @@ use Rattle.yp_worker.specs.Summing.{Counting, SumsUp, counting_of}
 use Rattle.yp_host.specs.declared.workers.outcome.Totals.{Totals}
 use Rattle.yp_host.specs.workers.Workers.{WorkerState}
 use Rattle.yp_host.specs.workers.Charges.{no_totals, totals_plus, totals_of}
-use Rattle.yp_server.specs.Serving.{ServesDatagrams}
+use Rattle.yp_server.specs.Serving.{ServesDatagrams, CarriesBeside}
 
 -- how the hosts of workers count
 abbrev pub count_totals : {V : Type 0} → Counting (WorkerState V) Totals
@@ -46,25 +46,38 @@ EachCounts conduct counting catalogue starts log turns fault (old ∷ before) (n
     × EachCounts conduct counting catalogue starts log turns others before after left_there carried_there counts
 EachCounts conduct counting catalogue starts log turns fault before after left carried counts = ⊥
 
--- Inboxes were served, each so by a host of its own. All transfers that were left by one of the hosts were carried out
--- by one of them.
+-- Transfers were carried out by a host that had counted nothing yet, and has counted this then.
+pub record CountsBeside {H T : Type 0} (conduct : Conduct H) (counting : Counting H T) (catalogue : Catalogue)
+    (starts log : Log) (carried : List Awaited) (count : T) : Type 0 where
+  pub carries : CarriesBeside conduct catalogue starts log carried
+  pub from_none : counting.counted carries.old ≡ counting.none
+  pub counted : counting.counted carries.new ≡ count
+
+-- Inboxes were served, each so by a host of its own, and one host more carried out transfers beside them. All transfers
+-- that were left by one of the hosts were carried out by one of them, or beside them.
 pub record CountsInboxes {H T : Type 0} (conduct : Conduct H) (counting : Counting H T) (catalogue : Catalogue)
-    (starts log : Log) (turns : ℕ) (fault : Bool) (before after : List InboxTells) (counts : List T) : Type 0 where
+    (starts log : Log) (turns : ℕ) (fault : Bool) (before after : List InboxTells) (of_carrier : T) (counts : List T)
+    : Type 0 where
   pub left : List Awaited
   pub carried : List Awaited
+  pub beside : List Awaited
   pub each : EachCounts conduct counting catalogue starts log turns fault before after left carried counts
-  pub all : WeighTheSame left carried
+  pub carrier : CountsBeside conduct counting catalogue starts log beside of_carrier
+  pub all : WeighTheSame left (carried ++ beside)
 
--- What all hosts did and counted: in the connections that workers served, of which so many records were read, and in
--- the turns of the datagrams of each inbox. What was known at the end of each is a front of this log.
+-- What all hosts did and counted: in the connections that workers served, of which so many records were read, in the
+-- turns of the datagrams of each inbox, and in the transfers that one more carried out for these. What was known at the
+-- end of each is a front of this log.
 pub record CountsAll {H T : Type 0} (conduct : Conduct H) (counting : Counting H T) (terms : Terms)
     (door door' : ListenTells) (calls : ℕ) (log : Log) (turns : ℕ) (fault : Bool) (before after : List InboxTells)
     (all : T) : Type 0 where
   pub connections : T
+  pub transfers : T
   pub datagrams : List T
   pub of_connections : SumsUp conduct counting terms door door' calls connections log
-  pub of_datagrams : CountsInboxes conduct counting terms.catalogue terms.starts log turns fault before after datagrams
-  pub all_is : all ≡ fold counting.plus connections datagrams
+  pub of_datagrams : CountsInboxes conduct counting terms.catalogue terms.starts log turns fault before after transfers
+      datagrams
+  pub all_is : all ≡ fold counting.plus connections (transfers ∷ datagrams)
 
 -- A disk tells what a crash may leave, its count of faults doesn't stand at its last value, and the last generation of
 -- its file isn't reached.

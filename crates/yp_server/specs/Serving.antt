@@ -77,14 +77,28 @@ EachServes conduct counted catalogue starts log turns fault (old ∷ before) (ne
     × ServesDatagrams conduct counted catalogue starts log turns failed old new left_here carried_here
     × EachServes conduct counted catalogue starts log turns others before after left_there carried_there
 
--- Inboxes were served, each so by a host of its own, and one of them has failed exactly where that is said. All
--- transfers that were left by one of the hosts were carried out by one of them.
+-- A host that knew these maps at the start, and had counted nothing, carried out these transfers, which datagrams took.
+-- What the host knew then is a front of this log.
+pub record CarriesBeside {H : Type 0} (conduct : Conduct H) (catalogue : Catalogue) (starts log : Log)
+    (carried : List Awaited) : Type 0 where
+  pub old : H
+  pub new : H
+  pub start : IsAtStart catalogue starts (conduct.seen old)
+  pub fresh : conduct.counts old ≡ no_counts
+  pub carries : CarriesAll conduct carried old new
+  pub shown : IsFront (conduct.seen new).known log
+
+-- Inboxes were served, each so by a host of its own, and one of them has failed exactly where that is said. Beside them
+-- one host more carried out transfers. All transfers that were left by one of the hosts were carried out by one of
+-- them, or beside them.
 pub record ServesInboxes {H T : Type 0} (conduct : Conduct H) (counted : H → T) (catalogue : Catalogue)
     (starts log : Log) (turns : ℕ) (fault : Bool) (before after : List InboxTells) : Type 0 where
   pub left : List Awaited
   pub carried : List Awaited
+  pub beside : List Awaited
   pub each : EachServes conduct counted catalogue starts log turns fault before after left carried
-  pub all : WeighTheSame left carried
+  pub carrier : CarriesBeside conduct catalogue starts log beside
+  pub all : WeighTheSame left (carried ++ beside)
 
 -- One of these counts has risen.
 abbrev pub SomeHasRisen : (before after : List ℕ) → Type 0

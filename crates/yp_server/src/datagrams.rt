@@ -3,6 +3,7 @@
 ghost use Rattle.std.specs.Prelude.{◌≡◌, ◌≤◌, ◌<◌, ◌||◌, ◌∷◌, ◌++◌, [], false, map, reverse, length};
 ghost use Rattle.std.specs.Prelude.{vec_len, vec_capacity};
 ghost use Rattle.std.specs.List.{AllByRecursion, list_any};
+ghost use Rattle.yp_board.specs.Views.{IsFront};
 ghost use Rattle.yp_answer.specs.inside.session.Hosts.{conduct_by};
 ghost use Rattle.yp_rpc.specs.inside.Turns.{box_by};
 ghost use Rattle.yp_worker.specs.Summing.{counting_of};
@@ -13,7 +14,7 @@ use std::sync::Wait;
 use yp_io::Inbox;
 use yp_publisher::sharing::Site;
 use yp_rpc::Room;
-use yp_worker::datagrams::{MailServer, TransferPass, serve_mail};
+use yp_worker::datagrams::{MailServer, TransferCarrier, TransferPass, serve_mail};
 use yp_worker::{CatchUp, HandsOver};
 
 /// What the worker of datagrams works with: an inbox, the most turns of it, a reader of the maps, the memory of a
@@ -89,7 +90,8 @@ impl<'a, I: Inbox, J: Site, H: CatchUp, R: Wait> DatagramWorker<'a, I, J, H, R> 
         }
     }
 
-    /// Answers datagrams until all turns are taken or the inbox has failed. It takes no lock of a listener.
+    /// Answers datagrams until all turns are taken or the inbox has failed, and tells the carrier then. It takes no lock
+    /// of a listener.
     pub(crate) fn work(&mut self)
         ensures { AnswersDatagrams (conduct_by H.Host) H.counted (box_by I.Inbox) I.faults self.old self.new }
     {
@@ -100,6 +102,7 @@ impl<'a, I: Inbox, J: Site, H: CatchUp, R: Wait> DatagramWorker<'a, I, J, H, R> 
             self.turns,
         );
         self.fault = ended.is_err();
+        self.server.end();
     }
 }
 
@@ -129,6 +132,21 @@ impl<'a, I, J: Site, H: HandsOver + Drop, R: Wait> DatagramWorker<'a, I, J, H, R
         host.hand_over(sum);
         (EndedInbox { inbox, fault }, pass)
     }
+}
+
+/// Adds what the host of a carrier has counted to a sum, and hands back what it held of the queue of transfers.
+pub(crate) fn hand_over_carrier<J: Site, H: HandsOver + Drop, R: Wait>(
+    carrier: TransferCarrier<'_, J, H, R>,
+    sum: &mut H::Sum,
+) -> TransferPass
+    ensures pass { result ≡ carrier.entry.holding }
+    ensures added { H.summed sum.new ≡ H.plus (H.summed sum.old) (H.counted carrier.entry.host) }
+    ensures covered { IsFront (H.seen carrier.entry.host).known (H.reached sum.new) }
+    ensures kept { IsFront (H.reached sum.old) (H.reached sum.new) }
+{
+    let (mut host, pass) = carrier.into_parts();
+    host.hand_over(sum);
+    pass
 }
 
 /// Adds what the hosts of all workers of datagrams have counted to a sum, the last one's first, and hands back what

@@ -44,24 +44,24 @@ pub(crate) struct Blanks {
 }
 
 impl Blanks {
-    /// Ledgers for so many workers of connections, the one that does what takes long among them, and so many of
-    /// datagrams.
+    /// Ledgers for so many workers of connections, the one that does what takes long among them, for so many of
+    /// datagrams, and for a carrier.
     pub(crate) fn new(workers: u64, inboxes: u64) -> Blanks
-        requires { workers + inboxes + 3 < 2 ^ 64 }
+        requires { workers + inboxes + 4 < 2 ^ 64 }
         ensures listener { (result.listener.out.parts ≡ workers + 2) × (result.listener.ended.parts ≡ workers + 1) }
-        ensures unread { result.charges.unread.parts ≡ workers + inboxes + 2 }
-        ensures orders { result.charges.orders.parts ≡ workers + inboxes + 2 }
-        ensures sources { result.charges.sources.parts ≡ workers + inboxes + 2 }
-        ensures failures { result.charges.failures.parts ≡ workers + inboxes + 2 }
-        ensures made { result.charges.made.parts ≡ workers + inboxes + 2 }
-        ensures versions { result.charges.versions.parts ≡ workers + inboxes + 3 }
+        ensures unread { result.charges.unread.parts ≡ workers + inboxes + 3 }
+        ensures orders { result.charges.orders.parts ≡ workers + inboxes + 3 }
+        ensures sources { result.charges.sources.parts ≡ workers + inboxes + 3 }
+        ensures failures { result.charges.failures.parts ≡ workers + inboxes + 3 }
+        ensures made { result.charges.made.parts ≡ workers + inboxes + 3 }
+        ensures versions { result.charges.versions.parts ≡ workers + inboxes + 4 }
     {
         Blanks {
             listener: ListenerBlanks {
                 out: Blank::new(workers + 2),
                 ended: Blank::new(workers + 1),
             },
-            charges: ChargeBlanks::new(workers + inboxes + 2),
+            charges: ChargeBlanks::new(workers + inboxes + 3),
             fetches: OpenedFetches::new(),
         }
     }

@@ -8,6 +8,7 @@ ghost use Rattle.yp_board.specs.readers.Boards.{workers_max};
 ghost use Rattle.yp_worker.specs.Receptions.{IsListenerState, IsUnder, opening_by};
 ghost use Rattle.yp_worker.specs.inside.Receptions.{terms_by};
 ghost use Rattle.yp_worker.specs.datagrams.Mailing.{nothing_held};
+ghost use Rattle.yp_worker.specs.inside.Mailing.{resting};
 ghost use Rattle.yp_worker.specs.inside.Queues.{all_parts};
 ghost use Rattle.yp_host.specs.inside.workers.Makings.{SiteBuilds};
 ghost use Rattle.yp_host.specs.workers.Charges.{no_totals, totals_of};
@@ -17,7 +18,7 @@ ghost use Rattle.yp_rpc.specs.inside.Turns.{box_by};
 ghost use Rattle.yp_server.specs.Serving.{conduct_at, IsAtStart, SomeHasRisen};
 ghost use Rattle.yp_server.specs.declared.datagrams.DatagramWorker.{DatagramWorker};
 ghost use Rattle.yp_server.specs.inside.Counting.{BeginsMail};
-ghost use Rattle.yp_server.specs.inside.Serving.{before_work};
+ghost use Rattle.yp_server.specs.inside.Serving.{before_work, fresh_worker};
 ghost use Rattle.yp_server.specs.inside.Shares.{SharesFor};
 ghost use Rattle.yp_server.specs.inside.Workers.{workers_of, connections_of, datagram_worker_of};
 ghost use Rattle.yp_server.specs.Counting.{CountsAll, count_totals};
@@ -39,11 +40,11 @@ use yp_host::workers::{
 use yp_io::{Clock, Dial, Disk, Hall, Inbox, Texts};
 use yp_publisher::sharing::{Accounts, Locked};
 use yp_rpc::Room;
-use yp_worker::datagrams::{MailServer, PendingTransfers, TransferPass};
+use yp_worker::datagrams::{MailServer, PendingTransfers, TransferCarrier, TransferPass};
 use yp_worker::{Gate, Listening, Pass, Reception, Tally, Worker};
 
-/// What workers work with: their memory, a reader for each, and the inboxes of those of datagrams, with the most turns
-/// of each.
+/// What workers work with: their memory, a reader for each and for the carrier, and the inboxes of those of datagrams,
+/// with the most turns of each.
 #[derive(Drop)]
 pub(crate) struct WorkerResources<I, V> {
     pub(crate) memory: WorkerMemory,
@@ -176,6 +177,22 @@ impl<
         let host = WorkerHost::new(self.setting(), reader, charges);
         let server = MailServer::new(host, self.pending, transfers, self.rt);
         DatagramWorker::new(inbox, server, room, turns)
+    }
+
+    /// A carrier with this reader, a part of the charges, and these parts of the queue of transfers.
+    fn carrier(
+        &self,
+        reader: B::Reader,
+        charges: Charges<J>,
+        transfers: TransferPass,
+    ) -> TransferCarrier<'a, J, WorkerHost<'a, J, D, B, A, T, C, &'a R>, R>
+        requires knows { IsAtStart J.catalogue J.starts (B.Reader.seen reader) }
+        requires builds { SiteBuilds J.text J.catalogue J.built }
+        requires transfers { transfers.queue ≡ self.now.pending.now }
+        ensures { result ≡ resting (fresh_worker reader) transfers }
+    {
+        let host = WorkerHost::new(self.setting(), reader, charges);
+        TransferCarrier::new(host, self.pending, transfers, self.rt)
     }
 
     /// Makes a worker of each inbox, in their order.
@@ -334,11 +351,11 @@ impl<
     R: Threads + Wait + RandomSource + Sync,
 > WorkerMaker<'a, J, D, B, A, T, C, G, R> {
     /// Serves the connections of a listener and the datagrams of inboxes by workers in threads, which have room here.
-    /// One of the workers does what takes long for the others.
+    /// One of the workers does what takes long for the others, and a carrier what datagrams ask for.
     pub(crate) fn serve<E: Ledger + Send + Sync, L: Hall + Send, I: Inbox + Send + Drop>(
         &self,
         mut staff: Staff<'a, J, E, WorkerHost<'a, J, D, B, A, T, C, &'a R>, &'a G, I, R>,
-        worker_resources: WorkerResources<I, B::Reader>,
+        mut worker_resources: WorkerResources<I, B::Reader>,
         listen: L,
         blanks: ListenerBlanks,
         charges: Charges<J>,
@@ -358,7 +375,7 @@ impl<
         requires most { (self.now.most ≡ J.most) × (self.now.most ≤ CALLS_MAX) }
         requires rooms { length worker_resources.memory.rooms.items ≡ length worker_resources.inboxes.items }
         requires readers { length worker_resources.readers.items
-            ≡ length worker_resources.memory.all_buffers.items + length worker_resources.inboxes.items }
+            ≡ length worker_resources.memory.all_buffers.items + length worker_resources.inboxes.items + 1 }
         requires knows { All (λ reader. IsAtStart J.catalogue J.starts (B.Reader.seen reader))
             worker_resources.readers.items }
         requires builds { SiteBuilds J.text J.catalogue J.built }
@@ -376,7 +393,7 @@ impl<
         requires ended { (blanks.ended.name ≡ E.name) × (blanks.ended.parts ≡ E.parts)
             × (blanks.ended.parts ≡ length worker_resources.memory.all_buffers.items + 1) }
         requires charges { charges.parts ≡ length worker_resources.memory.all_buffers.items
-            + length worker_resources.inboxes.items + 2 }
+            + length worker_resources.inboxes.items + 3 }
         requires transfers { transfers ≡ nothing_held self.now.pending.now all_parts }
         requires inboxes { (0 < length worker_resources.inboxes.items)
             × (length worker_resources.inboxes.items < 2 ^ 32) }
@@ -393,7 +410,10 @@ impl<
         let (book, out) = blanks.out.open::<J>();
         let (ends, ended) = blanks.ended.open::<E>();
         let workers = worker_resources.memory.all_buffers.len() as u32 - 1;
-        let front = B::known(&worker_resources.readers[0]);
+        let Some(reader) = worker_resources.readers.pop() else {
+            unreachable!();
+        };
+        let front = B::known(&reader);
         let mut shares = WorkerShares {
             charges,
             out,
@@ -402,14 +422,15 @@ impl<
         };
         self.add_workers(&mut staff.all_workers, worker_resources, &mut shares);
         let WorkerShares {
-            charges,
+            mut charges,
             mut out,
             ended,
             transfers,
         } = shares;
         let held = out.split_off(1, 0);
+        let carrier = self.carrier(reader, charges.split_off(), transfers);
         let account = Account::new(charges, front);
         let listening = Listening::new(self.alloc, listen, book, ends, account, held, workers);
-        run_workers(self.rt, listening, staff, Pass::new(out, ended), transfers)
+        run_workers(self.rt, listening, staff, Pass::new(out, ended), carrier)
     }
 }

@@ -79,7 +79,7 @@ where
     R: Threads + Wait + RandomSource + Sync,
     requires workers { (1 ≤ spec.now.workers) × (spec.now.workers ≤ workers_max) }
     requires inboxes { (1 ≤ vec_len resources.inboxes) × (vec_len resources.inboxes < 2 ^ 32) }
-    requires readers { vec_len resources.readers ≡ spec.now.workers + 1 + vec_len resources.inboxes }
+    requires readers { vec_len resources.readers ≡ spec.now.workers + 2 + vec_len resources.inboxes }
     requires starts { All (λ reader. IsAtStart resources.publisher.catalogue (B.log resources.publisher.board)
         (B.Reader.seen reader)) resources.readers.items }
     requires most { spec.now.most ≤ CALLS_MAX }
@@ -220,7 +220,7 @@ where
     requires inboxes { (0 < length resources.inboxes.items) × (length resources.inboxes.items < 2 ^ 32) }
     requires rooms { length memory.rooms.items ≡ length resources.inboxes.items }
     requires readers { length resources.readers.items
-        ≡ length memory.all_buffers.items + length resources.inboxes.items }
+        ≡ length memory.all_buffers.items + length resources.inboxes.items + 1 }
     requires know { All (λ reader. IsAtStart J.catalogue J.starts (B.Reader.seen reader)) resources.readers.items }
     requires out { (blanks.listener.out.name ≡ J.name) × (blanks.listener.out.parts ≡ J.parts)
         × (J.parts ≡ length memory.all_buffers.items + 2) }
@@ -228,7 +228,7 @@ where
         × (E.parts ≡ length memory.all_buffers.items + 1) }
     requires builds { SiteBuilds J.text J.catalogue J.built }
     requires unread { (blanks.charges.unread.name ≡ J.unread) × (blanks.charges.unread.parts ≡ J.shares)
-        × (J.shares ≡ length memory.all_buffers.items + length resources.inboxes.items + 2) }
+        × (J.shares ≡ length memory.all_buffers.items + length resources.inboxes.items + 3) }
     requires orders { (blanks.charges.orders.name ≡ J.orders) × (blanks.charges.orders.parts ≡ J.shares) }
     requires sources { (blanks.charges.sources.name ≡ J.sources) × (blanks.charges.sources.parts ≡ J.shares) }
     requires failures { (blanks.charges.failures.name ≡ J.failures) × (blanks.charges.failures.parts ≡ J.shares) }
@@ -277,10 +277,11 @@ where
         × (refused.inboxes ≡ resources.inboxes)) }
     ensures disks { IfErr result (λ refused. refused.disks.items ≡ disks_of resources.publisher.maps) }
 {
-    let Ok((pending, transfers)) = PendingTransfers::<J>::new(setting.alloc) else {
+    let inboxes = memory.rooms.len();
+    let Ok((pending, transfers)) = PendingTransfers::<J>::new(setting.alloc, inboxes as u64) else {
         return Err(refuse(resources));
     };
-    let Ok(staff) = Staff::new(setting.alloc, memory.all_buffers.len(), memory.rooms.len()) else {
+    let Ok(staff) = Staff::new(setting.alloc, memory.all_buffers.len(), inboxes) else {
         return Err(refuse(resources));
     };
     let Blanks {

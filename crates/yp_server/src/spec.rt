@@ -24,7 +24,7 @@ pub struct ServerResources<D: Disk, B: Tell, A, T, C, L, I> {
     /// The maps, and the writer of the board that shows them.
     pub publisher: Publisher<D, B>,
     /// Readers of that board: one for each worker of connections, one for the worker that does for them what takes
-    /// long, and one for each inbox.
+    /// long, one for each inbox, and one for the carrier of what datagrams ask for.
     pub readers: Vec<B::Reader>,
     pub desk: Desk<A, T, C>,
     pub listen: L,

@@ -9,26 +9,27 @@ ghost use Rattle.yp_answer.specs.inside.session.Hosts.{conduct_by};
 ghost use Rattle.yp_worker.specs.Receptions.{IsListenerState, IsUnder, opening_by};
 ghost use Rattle.yp_worker.specs.inside.Receptions.{terms_by};
 ghost use Rattle.yp_worker.specs.Summing.{counting_of};
-ghost use Rattle.yp_worker.specs.datagrams.Mailing.{nothing_held};
+ghost use Rattle.yp_worker.specs.inside.Mailing.{CarriesOn};
 ghost use Rattle.yp_worker.specs.inside.Queues.{all_parts};
 ghost use Rattle.yp_rpc.specs.inside.Turns.{box_by};
 ghost use Rattle.yp_server.specs.Counting.{CountsAll};
 ghost use Rattle.yp_server.specs.Serving.{SomeHasRisen};
-ghost use Rattle.yp_server.specs.inside.Counting.{BeginsMail};
+ghost use Rattle.yp_server.specs.inside.Counting.{BeginsMail, BeginsCarrying};
 ghost use Rattle.yp_server.specs.inside.Serving.{before_work, after_work};
 ghost use Rattle.yp_server.specs.inside.Workers.{AnswersDatagrams, Works, AllWork, workers_of, IsManned};
 ghost use Rattle.yp_server.specs.inside.Workers.{mails_in, held_in};
 
-use crate::datagrams::{DatagramWorker, EndedInboxes, hand_over_all};
+use crate::datagrams::{DatagramWorker, EndedInboxes, hand_over_all, hand_over_carrier};
 use std::alloc::Global;
 use std::marker::Model;
 use std::sync::ledger::Ledger;
 use std::sync::{Mutex, Wait};
-use std::thread::{Threads, for_each_mut};
+use std::thread::{Threads, for_each_mut, join_mut};
 use yp_io::{Hall, Inbox, NoMemory};
-use yp_worker::datagrams::TransferPass;
+use yp_publisher::sharing::Site;
+use yp_worker::datagrams::TransferCarrier;
 use yp_worker::laws::sums_reach_further;
-use yp_worker::{Gate, HandsOver, Listening, Pass, Reception, Tally, Worker};
+use yp_worker::{CatchUp, Gate, HandsOver, Listening, Pass, Reception, Tally, Worker};
 
 /// A worker of a listener, with what it holds of that. It is seen as this.
 #[derive(Drop)]
@@ -169,6 +170,24 @@ trait Work<P> {
         ensures { works place.old place.new };
 }
 
+/// Is done beside the places of a server.
+trait Beside {
+    /// What is made of it.
+    ghost does: { Self → Self → Type 0 };
+
+    /// Goes on until there is nothing more to do.
+    fn run(&mut self)
+        ensures { does self.old self.new };
+}
+
+impl<'a, J: Site, H: CatchUp, R: Wait> Beside for TransferCarrier<'a, J, H, R> {
+    ghost does = { CarriesOn (conduct_by H.Host) [] };
+
+    fn run(&mut self) {
+        self.carry_all_that_come();
+    }
+}
+
 /// What is lent to all places of a server: its listener.
 #[derive(Drop)]
 struct Lent<'a, J: Reception, E: Ledger, H: HandsOver, G, L: Hall, R> {
@@ -200,14 +219,15 @@ impl<
 }
 
 /// Serves the datagrams of inboxes at the first workers, one for each inbox, and the connections of a listener at all
-/// others, side by side, until all have ended. The last one does for the others what takes long. What came of the
-/// connections and of the datagrams, and the sum of what was counted.
+/// others, side by side, until all have ended. The last one does for the others what takes long, and a carrier beside
+/// them the transfers that datagrams ask for. What came of the connections and of the datagrams, and the sum of what was
+/// counted.
 pub(crate) fn run_workers<J, E, H, G, L, I, R: Threads + Wait + Sync>(
     rt: &R,
     listening: Listening<J, E, H, L, G>,
     staff: Staff<'_, J, E, H, G, I, R>,
     mut pass: Pass<J, E>,
-    transfers: TransferPass,
+    mut carrier: TransferCarrier<'_, J, H, R>,
 ) -> (L, Tally, EndedInboxes<I>, H::Sum)
 where
     J: Reception + Send + Sync,
@@ -229,10 +249,11 @@ where
         × (length datagram_workers ≤ vec_capacity staff.inboxes)
         × (inboxes : List I) × (turns : ℕ)
         × AllZip (BeginsMail (conduct_by H.Host) (counting_of H.counted H.none H.plus) J.catalogue J.starts
-        transfers.queue turns) inboxes datagram_workers }
+        carrier.holding.queue turns) inboxes datagram_workers }
+    requires carrier { BeginsCarrying (conduct_by H.Host) (counting_of H.counted H.none H.plus) J.catalogue J.starts
+        carrier }
     requires transfers { (0 < length (mails_in staff.all_workers.items))
-        × (transfers ≡ nothing_held transfers.queue transfers.parts)
-        × (transfers.parts + length (mails_in staff.all_workers.items) ≡ all_parts) }
+        × (carrier.holding.parts + length (mails_in staff.all_workers.items) ≡ all_parts) }
     requires none { (staff.datagram_workers.items ≡ []) × (staff.inboxes.items ≡ []) }
     requires pass { pass ≡ before_work }
     ensures kept { IsListenerState J.opening (opening_by L.Hall result.0) result.1.connections result.1.listen_fault
@@ -240,7 +261,7 @@ where
     ensures counted { (inboxes : List I) → (datagram_workers : List (DatagramWorker I J H R H.Count))
         → IsManned datagram_workers before_work J.parts staff.entry.all_workers.items → (turns : ℕ)
         → AllZip (BeginsMail (conduct_by H.Host) (counting_of H.counted H.none H.plus) J.catalogue J.starts
-        transfers.queue turns) inboxes datagram_workers
+        carrier.entry.holding.queue turns) inboxes datagram_workers
         → (log : Log) → IsFront (H.reached result.3) log
         → CountsAll (conduct_by H.Host) (counting_of H.counted H.none H.plus) (terms_by J.Reception)
         J.opening (opening_by L.Hall result.0) result.1.calls log turns result.2.fault
@@ -248,7 +269,7 @@ where
     ensures cause { (inboxes : List I) → (datagram_workers : List (DatagramWorker I J H R H.Count))
         → IsManned datagram_workers before_work J.parts staff.entry.all_workers.items → (turns : ℕ)
         → AllZip (BeginsMail (conduct_by H.Host) (counting_of H.counted H.none H.plus) J.catalogue J.starts
-        transfers.queue turns) inboxes datagram_workers
+        carrier.entry.holding.queue turns) inboxes datagram_workers
         → result.2.fault ≡ true → SomeHasRisen (map I.faults inboxes) (map I.faults result.2.inboxes.items) }
 {
     let Staff {
@@ -257,22 +278,25 @@ where
         inboxes,
     } = staff;
     let listening = Mutex::new(listening);
-    work_beside(rt, &listening, &mut all_workers);
+    work_beside(rt, &listening, &mut all_workers, &mut carrier);
     let mut maker = last_of(&mut all_workers);
     let listening = maker.drain(rt, listening.into_inner());
     pass.merge(maker.into_pass());
     let datagram_workers = gather(&mut pass, all_workers, datagram_workers);
     let (listen, tally, mut sum) = listening.close(&mut pass);
+    let transfers = hand_over_carrier(carrier, &mut sum);
     let (mailed, _) = hand_over_all(datagram_workers, transfers, &mut sum, inboxes);
     sums_reach_further::<H>();
     (listen, tally, mailed, sum)
 }
 
-/// Works at all places of a server side by side, until all have ended.
+/// Works at all places of a server side by side, and carries out beside them what is left of transfers, until all have
+/// ended. The carrier waits for all others, so where it has no thread of its own it works behind them.
 fn work_beside<J, E, H, G, L, I, R: Threads + Wait + Sync>(
     rt: &R,
     listening: &Mutex<Listening<J, E, H, L, G>>,
     places: &mut [ServerWorker<'_, J, E, H, G, I, R>],
+    carrier: &mut TransferCarrier<'_, J, H, R>,
 )
 where
     J: Reception + Send + Sync,
@@ -291,9 +315,25 @@ where
     ensures count { length places.new ≡ length places.old }
     ensures works { AllWork (Works (AnswersDatagrams (conduct_by H.Host) H.counted (box_by I.Inbox) I.faults))
         places.old places.new }
+    ensures carries { CarriesOn (conduct_by H.Host) [] carrier.old carrier.new }
 {
     let lent = Lent { rt, listening };
-    work_all(rt, &lent, places);
+    work_all_beside(rt, &lent, carrier, places);
+}
+
+/// Works at all places side by side, and does what is done beside them in a thread of its own, until all have ended.
+/// Where that thread can't be started, it is done last.
+fn work_all_beside<P: Send, W: Work<P> + Sync, T: Beside + Send, R: Threads + Sync>(
+    rt: &R,
+    work: &W,
+    beside: &mut T,
+    places: &mut [P],
+)
+    ensures count { length places.new ≡ length places.old }
+    ensures works { AllWork W.works places.old places.new }
+    ensures beside { T.does beside.old beside.new }
+{
+    join_mut(rt, &mut || beside.run(), &mut || work_all(rt, work, places));
 }
 
 /// Works at all places side by side, at each in a thread of its own, until all have ended. Where a thread can't be

@@ -95,7 +95,7 @@ struct BoardStart {
 }
 
 /// What the board of a server begins with. Each worker has a reader: so many of connections, the one that does what
-/// takes long for them, and one for each inbox.
+/// takes long for them, one for each inbox, and the one that carries out what datagrams ask for.
 fn starting<D: Disk>(
     alloc: Global,
     catalog: &Catalog,
@@ -107,7 +107,7 @@ fn starting<D: Disk>(
     ensures catalogue { IfOk result (λ starting. starting.catalog ≡ catalog.now) }
     ensures versions { IfOk result (λ starting.
         map (option_map arc_value) starting.versions.items ≡ versions loaded.now) }
-    ensures readers { IfOk result (λ starting. starting.readers ≡ workers + 1 + inboxes) }
+    ensures readers { IfOk result (λ starting. starting.readers ≡ workers + 2 + inboxes) }
     ensures few { OnOk result (inboxes < 2 ^ 32) }
 {
     let readers = readers_of(workers, inboxes).ok_or(NoMemory)?;
@@ -125,10 +125,10 @@ fn starting<D: Disk>(
 /// many.
 fn readers_of(workers: u32, inboxes: usize) -> Option<u32>
     requires { workers ≤ workers_max }
-    ensures readers { IfSome result (λ readers. readers ≡ workers + 1 + inboxes) }
+    ensures readers { IfSome result (λ readers. readers ≡ workers + 2 + inboxes) }
     ensures few { OnSome result (inboxes < 2 ^ 32) }
 {
-    u32::try_from(inboxes).ok()?.checked_add(workers + 1)
+    u32::try_from(inboxes).ok()?.checked_add(workers + 2)
 }
 
 /// A publisher of level maps, on a board that shows exactly them. From there on its log rises.
@@ -353,7 +353,7 @@ where
     requires moment { C.moment resources.desk.clock ≡ M.moment }
     requires copy { starting.catalog ≡ resources.catalog }
     requires start { map (option_map arc_value) starting.versions.items ≡ versions resources.loaded }
-    requires readers { starting.readers ≡ spec.now.workers + 1 + vec_len resources.inboxes }
+    requires readers { starting.readers ≡ spec.now.workers + 2 + vec_len resources.inboxes }
     requires few { vec_len resources.inboxes < 2 ^ 32 }
     requires count { length resources.loaded ≡ length resources.catalog.maps }
     requires level { All (λ standing. standing ≡ Level) (map (λ kept. kept.standing) resources.loaded) }

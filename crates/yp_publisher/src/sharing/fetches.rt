@@ -177,7 +177,7 @@ impl<S: Accounts> FetchesFront<S> {
     }
 
     /// This front, or another one that is known, where that is longer.
-    pub(crate) fn with_known(&self, known: Option<FetchesFront<S>>) -> FetchesFront<S>
+    pub fn with_known(&self, known: Option<FetchesFront<S>>) -> FetchesFront<S>
         ensures this { IsBeginning self.now result }
         ensures that { IfSome known (λ front. IsBeginning front result) }
     {

@@ -1,10 +1,10 @@
--- A worker of datagrams before it has counted anything.
+-- Workers that have counted nothing yet.
 use Rattle.std.specs.Prelude.{◌≡◌, ℕ}
 use Rattle.yp_board.specs.Catalogues.{Catalogue}
 use Rattle.yp_board.specs.Logs.{Log}
 use Rattle.yp_answer.specs.session.Hosts.{Conduct}
 use Rattle.yp_worker.specs.Summing.{Counting}
-use Rattle.yp_worker.specs.datagrams.Mailing.{QueueName}
+use Rattle.yp_worker.specs.datagrams.Mailing.{QueueName, Mailing, nothing_held}
 use Rattle.yp_server.specs.declared.datagrams.DatagramWorker.{DatagramWorker}
 use Rattle.yp_server.specs.Serving.{at_rest, no_counts, IsAtStart}
 
@@ -20,3 +20,12 @@ pub record BeginsMail {I J H R T : Type 0} (conduct : Conduct H) (counting : Cou
   pub start : IsAtStart catalogue starts (conduct.seen host)
   pub fresh : conduct.counts host ≡ no_counts
   pub from_none : counting.counted host ≡ counting.none
+
+-- A carrier has a host that knows what was shown at the start and has counted nothing yet. It has these parts of the
+-- queue, and has taken nothing over from there.
+pub record BeginsCarrying {H T : Type 0} (conduct : Conduct H) (counting : Counting H T) (catalogue : Catalogue)
+    (starts : Log) (carrier : Mailing H) : Type 0 where
+  pub start : IsAtStart catalogue starts (conduct.seen carrier.host)
+  pub fresh : conduct.counts carrier.host ≡ no_counts
+  pub from_none : counting.counted carrier.host ≡ counting.none
+  pub holding : carrier.holding ≡ nothing_held carrier.holding.queue carrier.holding.parts

@@ -155,7 +155,7 @@ fn served<J: Naming + Send + Sync, R: Threads + Wait + RandomSource + Abort + Sy
     let listen = hall(rt, alloc, NAMES, &visit);
     let inboxes = inboxes_of(rt, alloc, case, gate);
     let desk = desk_of(rt, alloc, TEXT, 200, case.unread);
-    let count = spec.workers + 1 + inboxes.len() as u32;
+    let count = spec.workers + 2 + inboxes.len() as u32;
     let (publisher, readers) = publisher::<J, R>(rt, alloc, opened, b"m1", file, count);
     let resources = ServerResources {
         publisher,
@@ -512,6 +512,38 @@ static UNMAILED: Case = Case {
 #[test]
 fn inbox_fault(rt: HostRuntime) {
     try_case(&rt, rt.alloc(), &UNMAILED);
+}
+
+// The transfer that a datagram asks for is carried out by the carrier.
+static TRANSFER_MAILED: Case = Case {
+    name: "a datagram that asks for a transfer",
+    file: "",
+    callers: &[("MATCH", 0, 0)],
+    most: 1,
+    workers: 1,
+    mail: &["XFR_MAIL", "NULL"],
+    turns: 2,
+    tally: Tally {
+        connections: 1,
+        calls: 1,
+        listen_fault: false,
+    },
+    totals: Totals {
+        transfers: 1,
+        outcomes: Outcomes {
+            no_address: 1,
+            ..NO_OUTCOMES
+        },
+        ..NONE
+    },
+    output: "NO_MAP",
+    mailed: (2, "TAKEN_MAIL NULL_DONE", false),
+    ..TWO_WORKERS
+};
+
+#[test]
+fn transfer_of_a_datagram(rt: HostRuntime) {
+    try_case(&rt, rt.alloc(), &TRANSFER_MAILED);
 }
 
 // Each inbox has turns of its own.

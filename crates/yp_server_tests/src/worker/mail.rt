@@ -124,7 +124,7 @@ pub fn sent(rt: &impl Abort, alloc: Global, letters: &[Letter]) -> Vec<u8> {
 // How turns end, how many were taken, how many transfers were carried out, and what was sent.
 type Came = (Result<Ended, Failed>, u64, u64, Vec<u8>);
 
-// Takes so many turns at most, with a host that shares its transfers with nobody.
+// Takes so many turns at most, with a host that carries out what is left then.
 fn serve_turns<J: Site, R: Wait + Abort>(
     rt: &R,
     alloc: Global,
@@ -134,10 +134,11 @@ fn serve_turns<J: Site, R: Wait + Abort>(
 ) -> (Result<Ended, Failed>, TestHost)
     requires { host.board.catalogue ≡ J.catalogue }
 {
-    let (pending, pass) = PendingTransfers::<J>::new(alloc).expect(rt, "memory for transfers");
+    let (pending, pass) = PendingTransfers::<J>::new(alloc, 1).expect(rt, "memory for transfers");
     let mut server = MailServer::new(host, &pending, pass, rt);
     let mut room = Room::new(alloc).expect(rt, "memory for turns");
     let ended = serve_mail(inbox, &mut server, &mut room, most);
+    server.carry_rest();
     let (host, _) = server.into_parts();
     (ended, host)
 }
@@ -452,7 +453,7 @@ fn hear<J: Site, R: Wait>(
     }
 }
 
-// How many transfers were carried out for an XFR, before its reply is sent or behind that.
+// How many transfers were left and carried out for an XFR, before its reply is sent or behind that.
 fn transfers_of<J: Site, R: Wait + Abort>(
     rt: &R,
     alloc: Global,
@@ -463,9 +464,10 @@ fn transfers_of<J: Site, R: Wait + Abort>(
     requires { host.board.catalogue ≡ J.catalogue }
 {
     let mut buf = vec![in alloc; 0; DATAGRAM_MAX].expect(rt, "memory for a reply");
-    let (pending, pass) = PendingTransfers::<J>::new(alloc).expect(rt, "memory for transfers");
+    let (pending, pass) = PendingTransfers::<J>::new(alloc, 1).expect(rt, "memory for transfers");
     let mut server = MailServer::new(host, &pending, pass, rt);
     hear(&mut server, call, &mut buf, is_sent);
+    server.carry_rest();
     let (host, _) = server.into_parts();
     host.transfers()
 }

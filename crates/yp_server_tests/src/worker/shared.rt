@@ -1,4 +1,4 @@
-//! A server of datagrams that answers while another one carries out the transfers of both.
+//! A server of datagrams that answers while a carrier carries out its transfers.
 
 ghost use Rattle.std.specs.Prelude.{◌≡◌, None};
 ghost use Rattle.std.proofs.Common.{ap};
@@ -22,7 +22,9 @@ use yp_publisher::sharing::Site;
 use yp_rpc::Room;
 use yp_version::Version;
 use yp_worker::CatchUp;
-use yp_worker::datagrams::{MailServer, PendingTransfers, TransferPass, serve_mail};
+use yp_worker::datagrams::{
+    MailServer, PendingTransfers, TransferCarrier, TransferPass, serve_mail,
+};
 
 // A server with its inbox, and the memory of a datagram and its reply.
 #[derive(Drop)]
@@ -38,11 +40,13 @@ impl<'a, J: Site, H: CatchUp, R: Wait> Served<'a, J, H, R> {
     }
 }
 
-// A host that lets another server take two turns before it carries out a transfer. It is seen as the host inside.
+// A host that lets a server take turns, so many and then none, before it carries out a transfer. It is seen as the host
+// inside.
 #[derive(Drop)]
 struct BusyHost<'a, J: Site, R> {
     host: TestHost,
     beside: Served<'a, J, TestHost, R>,
+    turns: u64,
 }
 
 impl<'a, J: Site, R> Model for BusyHost<'a, J, R> {
@@ -89,7 +93,9 @@ impl<'a, J: Site, R: Wait> Host for BusyHost<'a, J, R> {
     ghost carried = { λ taken peer old new. Unit {0} };
 
     fn transfer(&mut self, job: &TransferJob<'_>, peer: Peer) {
-        self.beside.take_turns(2);
+        self.beside.take_turns(self.turns);
+        self.beside.server.end();
+        self.turns = 0;
         self.host.transfer(job, peer);
     }
 
@@ -126,12 +132,16 @@ fn server_of<'a, J: Site, H: CatchUp, R: Wait + Abort>(
     }
 }
 
-// How many transfers each of two servers carried out, and the inbox of the other one.
+// How many transfers a carrier and a server carried out, and the inbox of the server.
 type Came = (u64, u64, MemInbox);
 
-fn came_of<'a, J: Site, R: Wait>(served: Served<'a, J, BusyHost<'a, J, R>, R>) -> Came {
-    let (host, _) = served.server.into_parts();
-    let BusyHost { host, beside } = host;
+fn came_of<'a, J: Site, R: Wait>(carrier: TransferCarrier<'a, J, BusyHost<'a, J, R>, R>) -> Came {
+    let (host, _) = carrier.into_parts();
+    let BusyHost {
+        host,
+        beside,
+        turns: _,
+    } = host;
     let Served {
         server,
         inbox,
@@ -141,11 +151,13 @@ fn came_of<'a, J: Site, R: Wait>(served: Served<'a, J, BusyHost<'a, J, R>, R>) -
     (host.transfers(), other.transfers(), inbox)
 }
 
-static FIRST: [Mail; 1] = [(OWN_HOST, 700, "XFR", 0)];
+static MAIL: [Mail; 3] = [
+    (OWN_HOST, 700, "XFR", 0),
+    (OWN_HOST, 701, "XFR", 0),
+    (OWN_HOST, 700, "NULL", 0),
+];
 
-static SECOND: [Mail; 2] = [(OWN_HOST, 701, "XFR", 0), (OWN_HOST, 700, "NULL", 0)];
-
-// Runs a server, and another one over the same queue while the first one carries out.
+// Runs a server for a turn, and for two more while a carrier carries out what is there.
 fn run_busy<'a, J: Site, R: Wait + Abort>(
     rt: &'a R,
     alloc: Global,
@@ -159,10 +171,16 @@ fn run_busy<'a, J: Site, R: Wait + Abort>(
 {
     let (pass, part) = passes;
     let (host, other) = hosts;
-    let beside = server_of(rt, alloc, pending, part, other, &SECOND);
-    let mut busy = server_of(rt, alloc, pending, pass, BusyHost { host, beside }, &FIRST);
-    busy.take_turns(1);
-    came_of(busy)
+    let mut beside = server_of(rt, alloc, pending, part, other, &MAIL);
+    beside.take_turns(1);
+    let busy = BusyHost {
+        host,
+        beside,
+        turns: 2,
+    };
+    let mut carrier = TransferCarrier::new(busy, pending, pass, rt);
+    carrier.carry_all_that_come();
+    came_of(carrier)
 }
 
 // The same over a queue of their own.
@@ -170,7 +188,8 @@ fn run_both<J: Site, R: Wait + Abort>(rt: &R, alloc: Global, hosts: (TestHost, T
     requires first { hosts.0.board.catalogue ≡ J.catalogue }
     requires second { hosts.1.board.catalogue ≡ J.catalogue }
 {
-    let (pending, mut pass) = PendingTransfers::<J>::new(alloc).expect(rt, "memory for transfers");
+    let made = PendingTransfers::<J>::new(alloc, 1);
+    let (pending, mut pass) = made.expect(rt, "memory for transfers");
     let part = pending.split_off(&mut pass);
     run_busy(rt, alloc, &pending, (pass, part), hosts)
 }
@@ -180,11 +199,12 @@ fn both<R: RandomSource + Wait + Abort>(rt: &R, alloc: Global) -> Came {
 }
 
 #[test]
-fn a_look_up_while_another_server_carries_out(rt: HostRuntime) {
+fn a_look_up_while_transfers_are_carried_out(rt: HostRuntime) {
     let alloc = rt.alloc();
-    let (one, other, inbox) = both(&rt, alloc);
-    assert_same(&rt, &(one, other), &(2, 0), "who carries out");
+    let (carried, own, inbox) = both(&rt, alloc);
+    assert_same(&rt, &(carried, own), &(2, 0), "who carries out");
     let replies = sent(&rt, alloc, inbox.letters());
-    let wanted = named(&rt, alloc, NAMES, "TO_701 TAKEN TO_700 NULL_REPLY");
+    let wanted = "TO_700 TAKEN TO_701 TAKEN TO_700 NULL_REPLY";
+    let wanted = named(&rt, alloc, NAMES, wanted);
     assert_same(&rt, &replies, &wanted, "what is answered meanwhile");
 }

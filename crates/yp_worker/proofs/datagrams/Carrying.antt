@@ -7,8 +7,8 @@ use Rattle.yp_answer.specs.session.Hosts.{Conduct, CarriesOut}
 use Rattle.yp_worker.specs.declared.datagrams.pending.Dealt.{Dealt}
 use Rattle.yp_worker.specs.datagrams.Mailing.{Awaited, Holding, Mailing, CarriesAll, Clears, held_behind}
 use Rattle.yp_worker.specs.datagrams.Queues.{weigh, WeighTheSame}
-use Rattle.yp_worker.specs.inside.Queues.{all_parts, Balances}
-use Rattle.yp_worker.specs.inside.Mailing.{CarriesOn}
+use Rattle.yp_worker.specs.inside.Queues.{all_parts, Balances, CarriesRest}
+use Rattle.yp_worker.specs.inside.Mailing.{CarriesOn, resting}
 
 pub behind_twice : (holding : Holding) (a t b u : List Awaited)
     → held_behind (held_behind holding a t) b u ≡ held_behind holding (a ++ b) (t ++ u)
@@ -51,6 +51,26 @@ module _ {H : Type 0} (conduct : Conduct H) where
   pub left_on : (one : Awaited) (a b : Mailing H) → b.host ≡ a.host → b.waiting ≡ a.waiting
       → b.holding ≡ held_behind a.holding (one ∷ []) [] → CarriesOn conduct (one ∷ []) a b
   left_on one a b host waiting holding = record { took = []; carries = host; waiting = waiting; holding = holding }
+
+  -- the same of a server for which a transfer waits all the time, or none
+  pub on_beside : (waiting : Option Awaited) (before after : H) (a b : Holding)
+      → CarriesOn conduct [] (resting before a) (resting after b)
+      → CarriesOn conduct [] (record { host = before; waiting = waiting; holding = a })
+      (record { host = after; waiting = waiting; holding = b })
+  on_beside waiting before after a b on =
+      record { took = on.took; carries = on.carries; waiting = refl; holding = on.holding }
+
+  -- the last step found that nothing waits
+  pub rest_of : (a mid b : Mailing H) → CarriesOn conduct [] a mid → CarriesOn conduct [] mid b
+      → (mid.holding.parts ≡ all_parts → WeighTheSame b.holding.left b.holding.took) → CarriesRest conduct a b
+  rest_of a mid b first last all =
+      let both = on_then [] [] a mid b first last in record {
+        rest = both.took;
+        carries = both.carries;
+        waiting = both.waiting;
+        holding = both.holding;
+        all = λ whole. all (ap (λ (h : Holding). h.parts) first.holding ∙ whole);
+      }
 
   -- no transfer waited
   pub clears_none : (a b : Mailing H) → a.waiting ≡ None → b ≡ a → Clears conduct a b

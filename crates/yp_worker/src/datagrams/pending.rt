@@ -6,12 +6,13 @@ ghost use Rattle.yp_worker.specs.datagrams.Mailing.{held_behind, nothing_held};
 ghost use Rattle.yp_worker.specs.datagrams.Queues.{WeighTheSame};
 ghost use Rattle.yp_worker.specs.inside.Queues.{all_parts};
 
+use crate::datagrams::arrivals::Arrivals;
 use crossbeam_queue::protocol::{Join, Lesson, Outcome, Protocol, Split};
 use crossbeam_queue::{Pass, RuledArrayQueue};
 use std::alloc::Global;
 use std::collections::LinkedList;
 use std::marker::{Model, PhantomData};
-use std::sync::{Mutex, Wait};
+use std::sync::Wait;
 use yp_answer::session::Errand;
 use yp_io::{NoMemory, Peer};
 use yp_publisher::sharing::Site;
@@ -119,13 +120,13 @@ impl Model for TransferPass {
 }
 
 /// The transfers that datagrams took and that no host has carried out yet, oldest first, which the servers of datagrams
-/// share, and whether one of them carries out what is there.
+/// leave for the one who carries them out, and where that one is told of them.
 ///
 /// It is seen as the name of the queue.
 #[derive(Drop)]
 pub struct PendingTransfers<J: Site> {
     queue: RuledArrayQueue<(Errand, Peer), Dealt, Fair<J>>,
-    is_carried: Mutex<bool>,
+    arrivals: Arrivals,
 }
 
 impl<J: Site> Model for PendingTransfers<J> {
@@ -137,14 +138,14 @@ impl<J: Site> Model for PendingTransfers<J> {
 }
 
 impl<J: Site> PendingTransfers<J> {
-    /// An empty queue, and all parts of it. It takes all its memory.
-    pub fn new(alloc: Global) -> Result<(PendingTransfers<J>, TransferPass), NoMemory>
+    /// An empty queue, and all parts of it, for so many servers of datagrams. It takes all its memory.
+    pub fn new(alloc: Global, servers: u64) -> Result<(PendingTransfers<J>, TransferPass), NoMemory>
         ensures { IfOk result (λ made. made.1 ≡ nothing_held made.0 all_parts) }
     {
         let (queue, pass) = RuledArrayQueue::ruled(alloc, PENDING_MAX).map_err(|_| NoMemory)?;
         let pending = PendingTransfers {
             queue,
-            is_carried: Mutex::new(false),
+            arrivals: Arrivals::new(servers),
         };
         Ok((pending, TransferPass { pass }))
     }
@@ -172,47 +173,41 @@ impl<J: Site> PendingTransfers<J> {
         self.queue.absorb::<Parts>(&mut pass.pass, other);
     }
 
-    /// Leaves a transfer in the queue. Where nobody carries out what is there, the caller does from then on, and is
-    /// told so. Where there is no room, the transfer comes back.
+    /// Leaves a transfer in the queue, and wakes the one who carries out what is there. Where there is no room, the
+    /// transfer comes back.
     pub(crate) fn leave<R: Wait>(
         &self,
         rt: &R,
         pass: &mut TransferPass,
         transfer: (Errand, Peer),
-    ) -> Result<bool, (Errand, Peer)>
+    ) -> Result<(), (Errand, Peer)>
         requires queue { pass.old.queue ≡ self.now }
         requires due { IsDue (length J.catalogue.maps) transfer.0 }
         ensures { MatchResult result (λ _. pass.new ≡ held_behind pass.old (transfer ∷ []) [])
             (λ back. (back ≡ transfer) × (pass.new ≡ pass.old)) }
     {
-        let mut is_carried = self.is_carried.lock(rt);
         self.queue
             .push_as::<Leaving, R>(rt, &mut pass.pass, transfer)?;
-        let begins = !*is_carried;
-        *is_carried = true;
-        Ok(begins)
+        self.arrivals.tell(rt);
+        Ok(())
     }
 
-    /// Takes over the transfer that has waited longest, for the one who carries out what is there. Where none waits, it
-    /// doesn't any more.
-    pub(crate) fn take_over<R: Wait>(
-        &self,
-        rt: &R,
-        pass: &mut TransferPass,
-    ) -> Option<(Errand, Peer)>
-        requires queue { pass.old.queue ≡ self.now }
-        ensures one { IfSome result (λ one. (pass.new ≡ held_behind pass.old [] (one ∷ []))
-            × IsDue (length J.catalogue.maps) one.0) }
-        ensures none { IfNone result (pass.new ≡ pass.old) }
-        ensures all { IfNone result (pass.old.parts ≡ all_parts → WeighTheSame pass.old.left pass.old.took) }
-    {
-        let mut is_carried = self.is_carried.lock(rt);
-        let one = self.oldest(rt, pass);
-        *is_carried = one.is_some();
-        one
+    /// Tells that a server of datagrams has ended, and leaves no transfer any more.
+    pub(crate) fn end<R: Wait>(&self, rt: &R) {
+        self.arrivals.end(rt);
     }
 
-    /// Takes over the transfer that has waited longest, where one waits, whoever carries out what is there.
+    /// How often a transfer was left, for one who looks for it then.
+    pub(crate) fn told<R: Wait>(&self, rt: &R) -> u64 {
+        self.arrivals.told(rt)
+    }
+
+    /// Waits until a transfer was left since so many were, or until all servers have ended, and answers whether one was.
+    pub(crate) fn wait_past<R: Wait>(&self, rt: &R, seen: u64) -> bool {
+        self.arrivals.wait_past(rt, seen)
+    }
+
+    /// Takes over the transfer that has waited longest, where one waits.
     pub(crate) fn oldest<R: Wait>(&self, rt: &R, pass: &mut TransferPass) -> Option<(Errand, Peer)>
         requires queue { pass.old.queue ≡ self.now }
         ensures one { IfSome result (λ one. (pass.new ≡ held_behind pass.old [] (one ∷ []))

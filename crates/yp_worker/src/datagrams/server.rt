@@ -13,6 +13,7 @@ ghost use Rattle.yp_worker.specs.inside.Queues.{CarriesRest, all_parts};
 ghost use Rattle.yp_worker.specs.inside.Mailing.{CarriesOn};
 
 use crate::CatchUp;
+use crate::datagrams::carrier::carry_oldest;
 use crate::datagrams::pending::{PendingTransfers, TransferPass};
 use std::marker::Model;
 use std::sync::Wait;
@@ -23,8 +24,8 @@ use yp_publisher::sharing::Site;
 use yp_rpc::{Handler, Wish};
 
 /// A host that answers datagrams. It takes no memory for that. A transfer that it took waits until the next turn is
-/// wanted, when the reply is out. Then it is left in a queue that servers share, and one of them carries out what is
-/// there. What still waits where a datagram is heard is dropped.
+/// wanted, when the reply is out. Then it is left in a queue, for a carrier. What still waits where a datagram is heard
+/// is dropped.
 ///
 /// It is seen as its host, the transfer that waits, and what it holds of the queue.
 #[derive(Drop)]
@@ -85,22 +86,18 @@ impl<'a, J: Site, H: CatchUp, R: Wait> MailServer<'a, J, H, R> {
         (host, pass)
     }
 
-    /// Leaves the transfer that waits in the queue. Where no other server carries out what is there, this one does,
-    /// until nothing waits.
+    /// Leaves the transfer that waits in the queue, for the one who carries out what is there.
     pub(crate) fn carry_out(&mut self)
         ensures { Clears (conduct_by H.Host) self.old self.new }
     {
         let Some(transfer) = self.waiting.take() else {
             return;
         };
-        if self.leave(transfer) {
-            self.carry_all();
-        }
+        self.leave(transfer);
     }
 
-    /// Leaves a transfer in the queue, and answers whether this server carries out what is there from then on. While
-    /// there is no room it carries out the one that has waited longest.
-    fn leave(&mut self, transfer: (Errand, Peer)) -> bool
+    /// Leaves a transfer in the queue. While there is no room it carries out the one that has waited longest.
+    fn leave(&mut self, transfer: (Errand, Peer))
         requires due { IsDue (length J.catalogue.maps) transfer.0 }
         ensures { CarriesOn (conduct_by H.Host) (transfer ∷ []) self.old self.new }
     {
@@ -108,7 +105,7 @@ impl<'a, J: Site, H: CatchUp, R: Wait> MailServer<'a, J, H, R> {
         let rt = self.rt;
         for _ in rt.forever() {
             match self.pending.leave(rt, &mut self.pass, transfer) {
-                Ok(begins) => return begins,
+                Ok(()) => return,
                 Err(back) => transfer = back,
             }
             self.carry_oldest();
@@ -116,41 +113,18 @@ impl<'a, J: Site, H: CatchUp, R: Wait> MailServer<'a, J, H, R> {
         unreachable!()
     }
 
-    /// Carries out the transfer that has waited longest, where one waits.
-    fn carry_oldest(&mut self)
-        ensures { CarriesOn (conduct_by H.Host) [] self.old self.new }
-    {
-        if let Some((errand, peer)) = self.pending.oldest(self.rt, &mut self.pass) {
-            self.host.transfer(&errand.job(), peer);
-        }
-    }
-
-    /// Carries out one transfer of the queue after the other, until none waits.
-    fn carry_all(&mut self)
-        ensures carries { CarriesOn (conduct_by H.Host) [] self.old self.new }
-        ensures all { self.old.holding.parts ≡ all_parts → WeighTheSame self.new.holding.left self.new.holding.took }
-    {
-        let rt = self.rt;
-        for _ in rt.forever() {
-            if !self.carry_next() {
-                return;
-            }
-        }
-        unreachable!()
-    }
-
-    /// Carries out the transfer that has waited longest, for the one who carries out what is there, and answers whether
-    /// one waited. Where none does, it doesn't any more.
-    fn carry_next(&mut self) -> bool
+    /// Carries out the transfer that has waited longest, where one waits, and answers whether one did.
+    fn carry_oldest(&mut self) -> bool
         ensures carries { CarriesOn (conduct_by H.Host) [] self.old self.new }
         ensures all { result ≡ false → self.old.holding.parts ≡ all_parts
             → WeighTheSame self.new.holding.left self.new.holding.took }
     {
-        let Some((errand, peer)) = self.pending.take_over(self.rt, &mut self.pass) else {
-            return false;
-        };
-        self.host.transfer(&errand.job(), peer);
-        true
+        carry_oldest(self.rt, self.pending, &mut self.pass, &mut self.host)
+    }
+
+    /// Tells the one who carries out transfers that this server leaves none any more.
+    pub fn end(&self) {
+        self.pending.end(self.rt);
     }
 
     /// Takes in what another server of the queue holds, once that has ended.
@@ -170,7 +144,13 @@ impl<'a, J: Site, H: CatchUp, R: Wait> MailServer<'a, J, H, R> {
     pub fn carry_rest(&mut self)
         ensures { CarriesRest (conduct_by H.Host) self.old self.new }
     {
-        self.carry_all();
+        let rt = self.rt;
+        for _ in rt.forever() {
+            if !self.carry_oldest() {
+                return;
+            }
+        }
+        unreachable!()
     }
 
     /// Drops what waits.

@@ -1,4 +1,4 @@
-use Rattle.std.proofs.Common.{◌≡◌, ◌+◌, Bool, List, length, map, reverse, ap, sym, subst, ◌∙◌, arith}
+use Rattle.std.proofs.Common.{◌≡◌, ◌+◌, Bool, List, [], fold, length, map, reverse, refl, ap, sym, subst, ◌∙◌, arith}
 use Rattle.std.proofs.lemmas.List.{with_items_is, length-reverse, reverse-reverse}
 use Rattle.std.proofs.lemmas.Slice.Zip.{AllZip-long}
 use Rattle.std.specs.List.{AllZip, AllByRecursion, list_any}
@@ -9,6 +9,7 @@ use Rattle.yp_worker.specs.inside.Receptions.{Passed}
 use Rattle.yp_worker.specs.Summing.{counting_of}
 use Rattle.yp_server.specs.declared.datagrams.DatagramWorker.{DatagramWorker}
 use Rattle.yp_server.specs.Serving.{SomeHasRisen}
+use Rattle.yp_worker.specs.datagrams.Mailing.{Holding, held_behind}
 use Rattle.yp_worker.specs.datagrams.Queues.{weigh}
 use Rattle.yp_server.specs.Counting.{EachCounts}
 use Rattle.yp_server.specs.inside.Counting.{BeginsMail}
@@ -16,7 +17,7 @@ use Rattle.yp_server.specs.inside.Handing.{Handed, left_by, carried_by}
 use Rattle.yp_server.specs.inside.Workers.{AnswersDatagrams}
 use Rattle.yp_server.specs.inside.Serving.{before_work, after_work}
 use Rattle.yp_server.proofs.Fronts.{front_then, fronts_then, each_mailed, queues, parts_are, some_fails}
-use Rattle.yp_server.proofs.Handing.{rec_reverse}
+use Rattle.yp_server.proofs.Handing.{rec_reverse, weigh_append}
 use Rattle.yp_server.proofs.Posted.{worked, mails_of, held_of}
 use Rattle.yp_server.proofs.workers.run_workers.Goals as goal
 
@@ -127,11 +128,15 @@ hand_over_all-mailed-requires-clause-queue g c =
     let left = c.last_of-maker.ensures.others all.0 was.others (same ∙ all.2) in
     let these = c.gather-datagram_workers.ensures.datagram_workers ∙ mails_of all.0 was.others after_work _ left in
     let begins = manned.6 in
-    let queue = c.args.transfers.queue in
+    let queue = c.args.carrier.holding.queue in
+    let here = ap (λ (h : Holding). h.queue) c.hand_over_carrier-transfers.ensures.pass
+    ∙ ap (λ (h : Holding). h.queue) c.work_beside.ensures.carries.holding in
     let fit = queues conduct counting box g.I.Inbox.faults g.J.Site.catalogue g.J.Reception.starts queue manned.5 manned.4 manned.0 all.0 begins all.1 in
-    subst (AllByRecursion (λ (m : DatagramWorker g.row.I.Denot g.row.J.Denot g.row.H.Denot g.row.R.Denot g.row.H-Count.Denot). m.server.holding.queue ≡ queue))
+    subst (λ q. AllByRecursion (λ (m : DatagramWorker g.row.I.Denot g.row.J.Denot g.row.H.Denot g.row.R.Denot g.row.H-Count.Denot). m.server.holding.queue ≡ q) c.gather-datagram_workers.result.items)
+    (sym here)
+    (subst (AllByRecursion (λ (m : DatagramWorker g.row.I.Denot g.row.J.Denot g.row.H.Denot g.row.R.Denot g.row.H-Count.Denot). m.server.holding.queue ≡ queue))
     (ap reverse (sym these) ∙ reverse-reverse c.gather-datagram_workers.result.items)
-    (rec_reverse (λ (m : DatagramWorker g.row.I.Denot g.row.J.Denot g.row.H.Denot g.row.R.Denot g.row.H-Count.Denot). m.server.holding.queue ≡ queue) all.0 fit)
+    (rec_reverse (λ (m : DatagramWorker g.row.I.Denot g.row.J.Denot g.row.H.Denot g.row.R.Denot g.row.H-Count.Denot). m.server.holding.queue ≡ queue) all.0 fit))
 
 pub returns-clause-counted : goal.returns-clause-counted
 returns-clause-counted g c = λ inboxes datagram_workers was turns begins log reaches.
@@ -154,31 +159,40 @@ returns-clause-counted g c = λ inboxes datagram_workers was turns begins log re
     let fronts = fronts_then (λ (h : Handed g.row.H.Denot). (g.H.View.seen h.host).known) reached log handed.handed reaches handed.covered in
     let catalogue = g.J.Site.catalogue in
     let starts = g.J.Reception.starts in
-    let queue = c.args.transfers.queue in
+    let carrier = c.args.carrier in
+    let carried = c.work_beside.new.carrier in
+    let on = c.work_beside.ensures.carries in
+    let aside = c.hand_over_carrier-transfers.ensures in
+    let middle = g.H.HandsOver.reached c.hand_over_carrier-transfers.new.sum in
+    let begun = c.requires.carrier in
+    let queue = carrier.holding.queue in
     let counts = map (λ (h : Handed g.row.H.Denot). g.H.CatchUp.counted h.host) handed.handed in
     let these_left = left_by handed.handed in
     let these_carried = carried_by handed.handed in
     let some = c.requires.transfers.0 in
-    let whole = c.requires.transfers.2 in
-    let none = c.requires.transfers.1 in
+    let whole = c.requires.transfers.1 in
+    let held = aside.pass ∙ on.holding ∙ ap (λ (h : Holding). held_behind h [] on.took) begun.holding in
     let parts = parts_are conduct counting box g.I.Inbox.faults catalogue starts queue turns inboxes datagram_workers ended handed.handed begins zip handed.servers_are in
     let count = AllZip-long (BeginsMail conduct counting catalogue starts queue turns) inboxes datagram_workers begins in
     let among = ap length (mails_of datagram_workers (was.others + 1) before_work _ was.workers_are) in
     let p = parts.0 in
     let q = parts.1 in
     let r = handed.parts in
+    let of_carrier = ap (λ (h : Holding). h.parts) held in
     record {
       connections = g.H.HandsOver.summed closed;
+      transfers = g.H.CatchUp.counted carried.host;
       datagrams = counts;
       of_connections = c.sums_reach_further.ensures (terms_of g.J.Site.catalogue g.J.Reception.starts g.J.Reception.most)
           g.J.Reception.opening
           (opening_by g.L.Hall c.close-listen.result.0)
           c.close-listen.result.1.calls (g.H.HandsOver.summed closed)
           (g.H.HandsOver.reached closed) log c.close-listen.ensures.summed
-          (front_then (g.H.HandsOver.reached closed) reached log handed.kept reaches);
+          (front_then (g.H.HandsOver.reached closed) middle log aside.kept (front_then middle reached log handed.kept reaches));
       of_datagrams = record {
         left = these_left;
         carried = these_carried;
+        beside = on.took;
         each =
             subst (λ (b : Bool). EachCounts conduct counting catalogue starts log turns b (map box inboxes) (map box out.result.0.inboxes.items) these_left these_carried counts)
             (sym out.ensures.fault)
@@ -186,15 +200,28 @@ returns-clause-counted g c = λ inboxes datagram_workers was turns begins log re
             (sym out.ensures.inboxes)
             (each_mailed conduct counting box g.I.Inbox.faults catalogue starts queue turns log inboxes datagram_workers ended handed.handed begins zip
             handed.servers_are handed.carries fronts));
+        carrier = record {
+          carries = record {
+            old = carrier.host;
+            new = carried.host;
+            start = begun.start;
+            fresh = begun.fresh;
+            carries = on.carries;
+            shown = front_then (g.H.View.seen carried.host).known middle log aside.covered
+                (front_then middle reached log handed.kept reaches);
+          };
+          from_none = begun.from_none;
+          counted = refl;
+        };
         all = λ weight.
-            let w = handed.all (omega (arith, q, count, among, some)) (omega (arith, r, p, count, among, whole)) weight in
+            let w = handed.all (omega (arith, q, count, among, some)) (omega (arith, r, p, count, among, whole, of_carrier)) weight in
             let l = handed.left weight in
             let t = handed.took weight in
-            let no_left = ap (λ k. weigh weight k.left) none in
-            let no_took = ap (λ k. weigh weight k.took) none in
-            omega (arith, w, l, t, no_left, no_took);
+            let no_left = ap (λ (k : Holding). weigh weight k.left) held in
+            let took = ap (λ (k : Holding). weigh weight k.took) held in
+            omega (arith, w, l, t, no_left, took, weigh_append weight these_carried on.took);
       };
-      all_is = handed.added;
+      all_is = handed.added ∙ ap (λ (s : g.row.H-Count.Denot). fold g.H.HandsOver.plus s counts) aside.added;
     }
 
 pub returns-clause-cause : goal.returns-clause-cause
@@ -212,7 +239,7 @@ returns-clause-cause g c = λ inboxes datagram_workers was turns begins fails.
     let these : ended ≡ all.0 = c.gather-datagram_workers.ensures.datagram_workers ∙ mails_of all.0 was.others after_work _ left in
     let zip : AllZip mails datagram_workers ended = subst (λ l. AllZip mails datagram_workers l) (sym these) all.1 in
     let handed = c.hand_over_all-mailed in
-    let queue = c.args.transfers.queue in
+    let queue = c.args.carrier.holding.queue in
     subst (λ l. SomeHasRisen (map g.I.Inbox.faults inboxes) (map g.I.Inbox.faults l)) (sym handed.ensures.inboxes)
     (some_fails conduct counting box g.I.Inbox.faults g.J.Site.catalogue g.J.Reception.starts queue turns inboxes datagram_workers ended
     begins zip (sym handed.ensures.fault ∙ fails))

@@ -1,12 +1,13 @@
-use Rattle.std.proofs.Common.{length, subst, ap, sym, ◌∙◌, arith}
+use Rattle.std.proofs.Common.{length, refl, subst, ap, sym, ◌∙◌, arith}
 use Rattle.std.specs.List.{AllZip}
 use Rattle.std.proofs.lemmas.Slice.Zip.{AllZip-long}
 use Rattle.yp_worker.specs.datagrams.Mailing.{QueueName, Holding, nothing_held}
 use Rattle.yp_server.specs.inside.Serving.{before_work}
 use Rattle.yp_server.specs.Counting.{count_totals}
-use Rattle.yp_server.specs.Serving.{conduct_at}
-use Rattle.yp_server.specs.inside.Counting.{BeginsMail}
+use Rattle.yp_server.specs.Serving.{conduct_at, IsAtStart}
+use Rattle.yp_server.specs.inside.Counting.{BeginsMail, BeginsCarrying}
 use Rattle.yp_server.proofs.Posted.{manned, mails_of}
+use Rattle.yp_server.proofs.Rows.{all_before, all_last}
 use Rattle.yp_server.proofs.preparing.WorkerMaker.serve.Goals as goal
 
 pub run_workers-requires-clause-manned : goal.run_workers-requires-clause-manned
@@ -17,7 +18,8 @@ run_workers-requires-clause-manned g c κs within =
     let inboxes = c.args.worker_resources.inboxes.items in
     let turns = c.args.worker_resources.turns in
     let conduct = conduct_at g.B.Reader.View.seen g.B.Reader.View.stepped g.J.Supplies.text g.J.Supplies.hosts in
-    let queue = ap (λ (h : Holding). h.queue) c.add_workers.ensures.transfers.0 in
+    let queue = ap (λ m. m.holding.queue) c.carrier-carrier.ensures
+    ∙ ap (λ (h : Holding). h.queue) c.add_workers.ensures.transfers.0 in
     let begin = subst (λ (q : QueueName). AllZip (BeginsMail conduct count_totals g.J.Site.catalogue g.J.Reception.starts q turns) inboxes added.0)
     (sym queue) added.2 in
     let count =
@@ -32,22 +34,46 @@ run_workers-requires-clause-manned g c κs within =
       begin,
     )
 
+pub add_workers-requires-clause-knows : goal.add_workers-requires-clause-knows
+add_workers-requires-clause-knows g c κs within =
+    all_before (λ reader. IsAtStart g.J.Site.catalogue g.J.Reception.starts (g.B.Reader.View.seen reader)) _ _ _
+    c.in-Some.ensures.items c.requires.knows κs within
+
+pub carrier-carrier-requires-clause-knows : goal.carrier-carrier-requires-clause-knows
+carrier-carrier-requires-clause-knows g c =
+    all_last (λ reader. IsAtStart g.J.Site.catalogue g.J.Reception.starts (g.B.Reader.View.seen reader)) _ _ _
+    c.in-Some.ensures.items c.requires.knows
+
+pub run_workers-requires-clause-carrier : goal.run_workers-requires-clause-carrier
+run_workers-requires-clause-carrier g c κs within =
+    let begins = BeginsCarrying (conduct_at g.B.Reader.View.seen g.B.Reader.View.stepped g.J.Supplies.text g.J.Supplies.hosts) count_totals
+    g.J.Site.catalogue g.J.Reception.starts in
+    let left = c.add_workers.new.shares.transfers in
+    let is = c.add_workers.ensures.transfers in
+    let queue = ap (λ (h : Holding). h.queue) is.0 in
+    let knows = all_last (λ reader. IsAtStart g.J.Site.catalogue g.J.Reception.starts (g.B.Reader.View.seen reader)) _ _ _
+    c.in-Some.ensures.items c.requires.knows in
+    subst begins (sym c.carrier-carrier.ensures) (record {
+      start = knows;
+      fresh = refl;
+      from_none = refl;
+      holding = is.0 ∙ ap (λ q. nothing_held q left.parts) (sym queue);
+    })
+
 pub run_workers-requires-clause-transfers : goal.run_workers-requires-clause-transfers
 run_workers-requires-clause-transfers g c κs within =
     let added = c.add_workers.ensures.workers in
-    let left = c.add_workers.new.shares.transfers in
     let is = c.add_workers.ensures.transfers in
     let inboxes = c.args.worker_resources.inboxes.items in
     let begins = BeginsMail (conduct_at g.B.Reader.View.seen g.B.Reader.View.stepped g.J.Supplies.text g.J.Supplies.hosts) count_totals
     g.J.Site.catalogue g.J.Reception.starts c.args.self.now.pending.now c.args.worker_resources.turns in
-    let queue = ap (λ h. h.queue) is.0 in
     let count = AllZip-long begins inboxes added.0 added.2 in
     let among =
     ap length (mails_of added.0 (length c.args.worker_resources.memory.all_buffers.items) before_work _ added.1) in
+    let parts = ap (λ m. m.holding.parts) c.carrier-carrier.ensures in
     let some = c.requires.inboxes.0 in (
       omega (arith, some, count, among),
-      is.0 ∙ ap (λ q. nothing_held q left.parts) (sym queue),
-      omega (arith, count, among) ∙ is.1 ∙ ap (λ h. h.parts) c.requires.transfers,
+      omega (arith, count, among, parts) ∙ is.1 ∙ ap (λ h. h.parts) c.requires.transfers,
     )
 
 pub returns-clause-counted : goal.returns-clause-counted
@@ -57,7 +83,8 @@ returns-clause-counted g c =
     let inboxes = c.args.worker_resources.inboxes.items in
     let turns = c.args.worker_resources.turns in
     let conduct = conduct_at g.B.Reader.View.seen g.B.Reader.View.stepped g.J.Supplies.text g.J.Supplies.hosts in
-    let queue = ap (λ (h : Holding). h.queue) c.add_workers.ensures.transfers.0 in
+    let queue = ap (λ m. m.holding.queue) c.carrier-carrier.ensures
+    ∙ ap (λ (h : Holding). h.queue) c.add_workers.ensures.transfers.0 in
     let begin = subst (λ (q : QueueName). AllZip (BeginsMail conduct count_totals g.J.Site.catalogue g.J.Reception.starts q turns) inboxes added.0)
     (sym queue) added.2 in
     c.run_workers.ensures.counted inboxes added.0
@@ -72,7 +99,8 @@ returns-clause-cause g c =
     let inboxes = c.args.worker_resources.inboxes.items in
     let turns = c.args.worker_resources.turns in
     let conduct = conduct_at g.B.Reader.View.seen g.B.Reader.View.stepped g.J.Supplies.text g.J.Supplies.hosts in
-    let queue = ap (λ (h : Holding). h.queue) c.add_workers.ensures.transfers.0 in
+    let queue = ap (λ m. m.holding.queue) c.carrier-carrier.ensures
+    ∙ ap (λ (h : Holding). h.queue) c.add_workers.ensures.transfers.0 in
     let begin = subst (λ (q : QueueName). AllZip (BeginsMail conduct count_totals g.J.Site.catalogue g.J.Reception.starts q turns) inboxes added.0)
     (sym queue) added.2 in
     c.run_workers.ensures.cause inboxes added.0

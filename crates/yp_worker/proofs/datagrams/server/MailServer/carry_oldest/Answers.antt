@@ -1,10 +1,8 @@
-use Rattle.std.proofs.Common.{refl, subst}
-use Rattle.yp_answer.specs.session.Hosts.{conduct_of, CarriesOut}
-use Rattle.yp_worker.proofs.datagrams.Carrying.{one_on}
+use Rattle.yp_answer.specs.session.Hosts.{conduct_of}
+use Rattle.yp_worker.proofs.datagrams.Carrying.{on_beside}
 use Rattle.yp_worker.proofs.datagrams.server.MailServer.carry_oldest.Goals as goal
 
-pub returns-in-Some : goal.returns-in-Some
-returns-in-Some g c =
+pub returns-clause-carries : goal.returns-clause-carries
+returns-clause-carries g c =
     let conduct = conduct_of g.H.View.seen g.H.Host.told g.H.Host.counts g.H.View.stepped g.H.Host.made g.H.Host.carried in
-    let out = subst (λ t. CarriesOut conduct t c.in-Some.peer c.self.inside.host c.transfer.new.self) c.job.ensures c.transfer.ensures in
-    rw (← c.self.view_is) (one_on conduct (c.in-Some.errand, c.in-Some.peer) _ _ out refl c.in-Some.ensures.one.0)
+    rw (← c.self.view_is) (on_beside conduct c.self.inside.waiting _ _ _ _ c.carry_oldest.ensures.carries)

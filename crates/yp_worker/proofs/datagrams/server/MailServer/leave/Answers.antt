@@ -17,5 +17,5 @@ loop-preserved g c =
       carries = on_then conduct [] [] c.args.self.now c.loop.self after c.loop.invariant.carries
           (subst (λ m. CarriesOn conduct [] m after)
           (ap (λ h. record { host = before.inside.host; waiting = before.inside.waiting; holding = h }) same.1 ∙ before.view_is)
-          c.carry_oldest.ensures);
+          c.carry_oldest.ensures.carries);
     }

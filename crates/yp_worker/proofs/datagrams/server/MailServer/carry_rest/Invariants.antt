@@ -1,7 +1,7 @@
 use Rattle.std.specs.Prelude.{[]}
 use Rattle.yp_answer.specs.session.Hosts.{conduct_of}
 use Rattle.yp_worker.specs.inside.Mailing.{CarriesOn}
-use Rattle.yp_worker.proofs.datagrams.server.MailServer.carry_all.Given as goal
+use Rattle.yp_worker.proofs.datagrams.server.MailServer.carry_rest.Given as goal
 
 abbrev pub invariant-loop : goal.invariant-loop
 invariant-loop g l =

@@ -1,7 +1,7 @@
 use Rattle.std.proofs.Common.{[]}
 use Rattle.yp_answer.specs.session.Hosts.{conduct_of}
 use Rattle.yp_worker.proofs.datagrams.Carrying.{on_then}
-use Rattle.yp_worker.proofs.datagrams.server.MailServer.carry_all.Goals as goal
+use Rattle.yp_worker.proofs.datagrams.carrier.TransferCarrier.carry_all_that_come.Goals as goal
 
 pub loop-preserved : goal.loop-preserved
 loop-preserved g c =
@@ -9,10 +9,10 @@ loop-preserved g c =
     record {
       next = tt;
       finite = tt;
-      carries = on_then conduct [] [] c.args.self.now c.loop.self c.carry_next.new.self c.loop.invariant.carries c.carry_next.ensures.carries;
+      carries = on_then conduct [] [] c.args.self.now c.loop.self c.carry_oldest.new.self c.loop.invariant.carries c.carry_oldest.ensures;
     }
 
-pub returns-then-not-carry_next-clause-carries : goal.returns-then-not-carry_next-clause-carries
-returns-then-not-carry_next-clause-carries g c =
+pub returns-then-not-wait_past : goal.returns-then-not-wait_past
+returns-then-not-wait_past g c =
     let conduct = conduct_of g.H.View.seen g.H.Host.told g.H.Host.counts g.H.View.stepped g.H.Host.made g.H.Host.carried in
-    on_then conduct [] [] c.args.self.now c.loop.self c.carry_next.new.self c.loop.invariant.carries c.carry_next.ensures.carries
+    on_then conduct [] [] c.args.self.now c.loop.self c.carry_oldest.new.self c.loop.invariant.carries c.carry_oldest.ensures
