@@ -1,7 +1,7 @@
 #!/usr/bin/env python3
 """Prints the headline as one document: bench/headline.py [--count|--apart]
 
-It begins with the three statements of crates/yp_headline/specs/Headline.antt, follows each name in them to its
+It begins with the statements of crates/yp_headline/specs/Headline.antt, follows each name in them to its
 definition, as bench/definitions.py does, and prints all that is reached with its comments: the files from the top down,
 so that a word mostly stands before what it means. Of a struct or an enum of the code it prints the fields or the
 variants, without the comments on each. With --count it prints, file by file, how many definitions and lines there are,

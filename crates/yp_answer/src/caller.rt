@@ -1,8 +1,7 @@
 //! Whom a reply is for, and the replies that need no version.
 
-ghost use Rattle.std.specs.Prelude.{◌≡◌, ◌+◌, ◌≤◌, length, take};
+ghost use Rattle.std.specs.Prelude.{◌≡◌, ◌≤◌, length, take};
 ghost use Rattle.yp_xdr.specs.Kind.{Boolean};
-ghost use Rattle.yp_xdr.specs.inside.Writing.{Sets};
 ghost use Rattle.yp_rpc.specs.Reply.{reply_head};
 ghost use Rattle.yp_rpc.specs.Turns.{datagram_max};
 ghost use Rattle.yp_answer.specs.Reply.{success};
@@ -10,7 +9,6 @@ ghost use Rattle.yp_answer.specs.Reply.{success};
 use crate::procedure::Path;
 use yp_io::Peer;
 use yp_rpc::{ReplyHead, write_reply};
-use yp_xdr::laws::written_is_joined;
 use yp_xdr::{NoRoom, set_bool};
 
 /// Whom a reply is for: how the call came, its xid, and where the caller is.
@@ -41,15 +39,4 @@ pub fn put_truth(buf: &mut [u8], xid: u32, truth: bool) -> usize
 {
     let at = put_head(buf, xid, &ReplyHead::Success);
     set_bool(buf, at, truth)
-}
-
-/// Copies bytes to a place, and answers the place behind them.
-pub fn copy(buf: &mut [u8], at: usize, bytes: &[u8]) -> usize
-    requires { at + length bytes.now ≤ length buf.old }
-    ensures { Sets bytes.now at result buf.old buf.new }
-{
-    written_is_joined();
-    let end = at + bytes.len();
-    buf[at..end].copy_from_slice(bytes);
-    end
 }

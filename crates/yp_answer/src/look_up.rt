@@ -18,14 +18,14 @@ ghost use Rattle.yp_answer.specs.inside.Answers.{IsPut};
 ghost use Rattle.yp_answer.specs.inside.Items.{valued_bytes, IsStatusAndValue};
 
 use crate::arguments::read_refreshed;
-use crate::caller::{Caller, copy, put_head};
+use crate::caller::{Caller, put_head};
 use crate::check::{ShownVersion, row_check};
 use crate::limits::exceeds;
 use yp_board::View;
 use yp_messages::{KeyVal, Message, ReqKey, ReqNokey, YpStat};
 use yp_rpc::ReplyHead;
 use yp_version::Next;
-use yp_xdr::XdrFault;
+use yp_xdr::{XdrFault, set_bytes};
 
 /// No value, behind its length.
 const NO_VALUE: [u8; 4] = [0; 4];
@@ -62,7 +62,7 @@ impl Valued<'_> {
         ensures { Sets (valued_bytes self.now) at result buf.old buf.new }
     {
         let at = self.stat.set(buf, at);
-        copy(buf, at, self.val)
+        set_bytes(buf, at, self.val)
     }
 }
 

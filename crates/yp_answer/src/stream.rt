@@ -13,7 +13,7 @@ ghost use Rattle.yp_answer.specs.declared.stream.TheConstants.{ITEM_MAX};
 ghost use Rattle.yp_answer.specs.inside.Answers.{StreamIsInside};
 ghost use Rattle.yp_answer.specs.inside.Items.{items_view, item_bytes, IsWithin};
 
-use crate::caller::{copy, put_head};
+use crate::caller::put_head;
 use crate::look_up::no_row;
 use std::marker::Model;
 use std::sync::Arc;
@@ -23,6 +23,7 @@ use yp_messages::{AllItem, Message, YpStat};
 use yp_rpc::ReplyHead;
 use yp_version::{KEY_MAX, VALUE_MAX, Version};
 use yp_xdr::laws::sets_join;
+use yp_xdr::set_bytes;
 
 /// The bytes that are enough for one item: its two first words, and its value and key, each behind its length and
 /// padded.
@@ -111,9 +112,9 @@ impl<'a> Item<'a> {
         match self {
             Item::Row { val, key } => {
                 sets_join();
-                let at = copy(buf, at, &ROW_HEAD);
-                let at = copy(buf, at, val);
-                copy(buf, at, key)
+                let at = set_bytes(buf, at, &ROW_HEAD);
+                let at = set_bytes(buf, at, val);
+                set_bytes(buf, at, key)
             }
             Item::Plain(item) => item.set(buf, at),
         }

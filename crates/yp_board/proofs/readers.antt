@@ -1,4 +1,2 @@
-pub mod Fronts
-pub mod Adding
 pub mod Held
 pub mod Starts

@@ -1,5 +1,5 @@
 -- What a view of a board tells, and what a read step does to it.
-use Rattle.std.specs.Prelude.{◌≡◌, ℕ, ◌++◌}
+use Rattle.std.specs.Prelude.{◌≡◌, ℕ, List, ◌++◌}
 use Rattle.yp_io.specs.Counts.{next_count}
 use Rattle.yp_board.specs.Catalogues.{Catalogue}
 use Rattle.yp_board.specs.Logs.{Log}
@@ -11,8 +11,8 @@ pub record Seen : Type 0 where
   pub asked : ℕ
 
 -- a log is the other one, with more behind it or nothing
-abbrev pub IsFront : Log → Log → Type 0
-IsFront front log = (more : Log) × (log ≡ front ++ more)
+abbrev pub IsFront : {E : Type 0} → List E → List E → Type 0
+IsFront {E} front log = (more : List E) × (log ≡ front ++ more)
 
 -- a read step: it counts, and what is known stays the front of what is known
 pub record Refreshes (old new : Seen) : Type 0 where

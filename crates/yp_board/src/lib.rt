@@ -5,11 +5,13 @@
 //! catalogue stands on the clauses of [`Catalog::find`] and [`Catalog::serves`], what is read of a board on
 //! [`View::held`], and that what a reader knew is a front of the log on [`Tell`].
 //!
-//! [`readers`] is a board for threads: its readers take no lock.
+//! [`readers`] is a board for threads: its readers take no lock. [`history`] is the log of such a board, of entries of
+//! any type.
 #![tactic(auto)]
 
 mod catalog;
 mod faults;
+pub mod history;
 mod log;
 mod order;
 mod plain;

@@ -3,19 +3,20 @@
 ghost use Rattle.std.specs.Prelude.{◌≡◌, [], ◌∷◌, ◌++◌, All};
 ghost use Rattle.yp_version.specs.Versions.{IsVersion};
 
+use crate::history::Entry;
 use std::marker::Model;
 use std::snapshot::Snapshot;
 use yp_io::Trail;
 use yp_version::Version;
 
-/// A version of a map that is shown. It is seen as an entry of a log.
+/// A version that was shown of a map, for contracts alone. It is seen as the map's number and the version.
 #[derive(Drop)]
-pub(crate) struct Entry {
+pub struct Shown {
     map: u32,
     version: Snapshot<Version>,
 }
 
-impl Model for Entry {
+impl Model for Shown {
     ghost use Rattle.std.specs.Prelude.{ℕ};
     ghost use Rattle.yp_version.specs.Versions.{MapVersion};
 
@@ -24,22 +25,29 @@ impl Model for Entry {
     ghost view = { λ e. (e.map, e.version.value) };
 }
 
-impl Entry {
+impl Shown {
     /// The version of a map, as it is now.
-    pub(crate) fn new(map: u32, version: &Version) -> Entry
+    pub(crate) fn new(map: u32, version: &Version) -> Shown
         ensures { result ≡ (map, version.now) }
     {
-        Entry {
+        Shown {
             map,
             version: Snapshot::of(version),
         }
     }
 }
 
+impl Entry for Shown {
+    ghost use Rattle.std.specs.Prelude.{[]};
+    ghost use Rattle.yp_version.specs.Versions.{unmarked};
+
+    ghost blank = { (0, unmarked 0 [] []) };
+}
+
 /// A log that takes no memory. It is seen as a log, of versions within their limits.
 #[derive(Drop)]
 pub(crate) struct PlainLog {
-    entries: Trail<Entry>,
+    entries: Trail<Shown>,
 }
 
 impl Model for PlainLog {
@@ -69,7 +77,7 @@ impl PlainLog {
         ensures { self.new ≡ self.old ++ (map, version.now) ∷ [] }
     {
         let _order = version.order();
-        self.entries.push(&Entry::new(map, version));
+        self.entries.push(&Shown::new(map, version));
     }
 
     /// Does nothing. Each version is within its limits.

@@ -14,6 +14,7 @@ use Rattle.yp_messages.specs.declared.transfer.XfrStat.TheVariants as told
 use Rattle.yp_version.specs.Versions.{MapVersion}
 use Rattle.yp_board.specs.Logs.{Log}
 use Rattle.yp_board.specs.Views.{IsFront}
+use Rattle.yp_answer.specs.declared.procedure.Path.TheVariants.{Stream}
 use Rattle.yp_answer.specs.Numbers.{record_max}
 use Rattle.yp_headline.specs.inside.Tried.{somebody, version_with, order_reply, fetched_bytes, first_log, fetched_log, xfr_call, success_call, success_letter, transfer_world, IsWrongTransfer}
 use Rattle.yp_headline.specs.inside.Files.{streamed}
@@ -33,7 +34,7 @@ use Rattle.yp_headline.proofs.Fetching.{xfr_record}
 use Rattle.yp_headline.proofs.Steps.{front_then}
 
 -- the status that a call back with SUCC says
-status_is : (transid prog : ℕ) (stat : XfrStat) → success_call ≡ call_of resp_xfr transid prog 1 1 (transid, xfr_number stat)
+pub status_is : (transid prog : ℕ) (stat : XfrStat) → success_call ≡ call_of resp_xfr transid prog 1 1 (transid, xfr_number stat)
     → stat ≡ told.Succ
 unfolding fixed opaque
 status_is transid prog told.Succ same = refl
@@ -58,7 +59,8 @@ pub called_without_call : IsWrongTransfer called_unasked
 called_without_call begun log transfers = let is = transfers.called_back (λ none. cc) in none_among is.connection is.among
 
 -- what the one letter of a world shows
-shown_by : (world : World) (one : Exchange) (letter : Letter) (front next : Log) (is : IsCallBack world one letter front next)
+shown_by : (world : World) (one : Exchange) (letter : Letter) (front next : Log)
+    (is : IsCallBack world Stream one letter front front next)
     → letter.bytes ≡ success_call
     → (version : MapVersion) × (before : Log) × IsFront front before × IsFront (before ++ (is.taken.map, version) ∷ []) next
     × (fetched : IsFetched world version) × IsOfSource world is.taken.map fetched.gives version
@@ -73,13 +75,13 @@ called_of_no_server begun log transfers =
     no_server shows.4.server shows.4.among
 
 -- a version that was entered is in each log that goes on
-in_log : (map : ℕ) (version : MapVersion) (before next log : Log) → IsFront (before ++ (map, version) ∷ []) next → IsFront next log
+pub in_log : (map : ℕ) (version : MapVersion) (before next log : Log) → IsFront (before ++ (map, version) ∷ []) next → IsFront next log
     → IsAmong log (map, version)
 in_log map version before next log entered goes =
     let all = front_then (before ++ (map, version) ∷ []) next log entered goes in
     (before, all.0, all.1 ∙ append_assoc before ((map, version) ∷ []) all.0)
 
-only_entry : (map : ℕ) (version : MapVersion) → IsAmong first_log (map, version) → version ≡ version_with 7 118
+pub only_entry : (map : ℕ) (version : MapVersion) → IsAmong first_log (map, version) → version ≡ version_with 7 118
 only_entry map version ([], back, is) = let same : (let it : ℕ × MapVersion = (map, version) in it) ≡ (0, version_with 7 118) = cc in
     ap (λ (e : ℕ × MapVersion). e.1) same
 only_entry map version (one ∷ [], back, is) = absurd cc
@@ -87,10 +89,10 @@ only_entry map version (one ∷ two ∷ front, back, is) = absurd cc
 
 -- ---- to whom
 
-only_connection : (one other : Connection) → IsAmong (one ∷ []) other → other ≡ one
-only_connection one other ([], back, is) = cc
-only_connection one other (two ∷ [], back, is) = absurd cc
-only_connection one other (two ∷ three ∷ front, back, is) = absurd cc
+pub only_one : {A : Type 0} (one other : A) → IsAmong (one ∷ []) other → other ≡ one
+only_one one other ([], back, is) = cc
+only_one one other (two ∷ [], back, is) = absurd cc
+only_one one other (two ∷ three ∷ front, back, is) = absurd cc
 
 caller_of : (peer : Peer) (passed : List Exchange) (one : Exchange) (left : List Exchange)
     → AllByRecursion (λ (e : Exchange). e.caller ≡ peer) (passed ++ one ∷ left) → one.caller ≡ peer
@@ -104,7 +106,7 @@ of_another_host begun log transfers =
     let letter = is.letters in
     let caller = caller_of is.connection.peer letter.0 letter.1 letter.2
     (subst (λ (l : List Exchange). AllByRecursion (λ (e : Exchange). e.caller ≡ is.connection.peer) l) letter.5 is.callers) in
-    let peer : letter.1.caller ≡ somebody = caller ∙ ap (λ (c : Connection). c.peer) (only_connection _ is.connection is.among) in
+    let peer : letter.1.caller ≡ somebody = caller ∙ ap (λ (c : Connection). c.peer) (only_one _ is.connection is.among) in
     let host : 8 ≡ 7 = ap (λ (l : List ℕ). slice_index l 3) (letter.8.host ∙ ap (λ (p : Peer). p.addr) peer) in
     omega (arith, host)
 
@@ -169,7 +171,7 @@ module _ (one : FirstIsOne) where
   called_of_skewed = called_of_less skewed_bytes (skewed one)
 
   -- the version that the server gave
-  order_nine : (world : World) → world.dialed ≡ streamed somebody fetched_bytes ∷ [] → (version : MapVersion)
+  pub order_nine : (world : World) → world.dialed ≡ streamed somebody fetched_bytes ∷ [] → (version : MapVersion)
       → IsFetched world version → version.order ≡ 9
   order_nine world dialed version fetched =
       let server = one_server (streamed somebody fetched_bytes) fetched.server
@@ -204,7 +206,7 @@ module _ (one : FirstIsOne) where
       let first = is.letters in
       let second = first.9 in
       let came : is.connection.came ≡ sent xfr_call =
-      ap (λ (c : Connection). c.came) (only_connection _ is.connection is.among) in
+      ap (λ (c : Connection). c.came) (only_one _ is.connection is.among) in
       alone is.exchanges is.connection.came is.rest came is.came
       (two_left is.exchanges first.0 first.1 first.2 second.0 second.1 second.2 first.5 second.5)
 

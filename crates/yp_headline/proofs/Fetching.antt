@@ -12,17 +12,18 @@ use Rattle.yp_rpc.specs.Reply.{words}
 use Rattle.yp_messages.specs.declared.transfer.XfrStat.TheVariants.{Succ}
 use Rattle.yp_version.specs.Versions.{MapVersion}
 use Rattle.yp_client.specs.Limits.{reply_max, all_max}
-use Rattle.yp_answer.specs.declared.procedure.Path.TheVariants.{Stream}
+use Rattle.yp_answer.specs.declared.procedure.Path.TheVariants.{Stream, Datagram as Mail}
 use Rattle.yp_answer.specs.Numbers.{record_max}
 use Rattle.yp_answer.specs.Served.{maps_on}
 use Rattle.yp_answer.specs.Reply.{Response, Bytes, Takes, reply, xfr_reply}
-use Rattle.yp_headline.specs.inside.Tried.{somebody, version_with, match_call, match_reply, one_map, first_log, order_reply, master_reply, all_reply, fetched_bytes, xfr_call, fetched_log, its_transfer, transfer_world}
+use Rattle.yp_headline.specs.inside.Tried.{somebody, version_with, match_call, match_reply, one_map, first_log, order_reply, master_reply, all_reply, fetched_bytes, xfr_call, fetched_log, its_transfer, transfer_world, mailed_transfer}
 use Rattle.yp_headline.specs.inside.Files.{streamed}
 use Rattle.yp_headline.specs.Fetching.{Reads, Says, RowsAre, Gives}
 use Rattle.yp_headline.specs.Serving.{IsReply}
 use Rattle.yp_headline.specs.Publishing.{IsFetched}
 use Rattle.yp_headline.specs.Sources.{IsOfSource}
-use Rattle.yp_headline.specs.Headline.{Replies, Transfers}
+use Rattle.yp_headline.specs.Answering.{answer}
+use Rattle.yp_headline.specs.Headline.{Replies, Transfers, CallBacks}
 use Rattle.yp_headline.proofs.Runs.{front_self, none_among}
 use Rattle.yp_headline.proofs.Listing.{one_listed}
 use Rattle.yp_headline.proofs.Matched.{match_record}
@@ -247,6 +248,89 @@ transfers of_source = record {
   };
 }
 
+-- the same, among many callers
+call_backs : IsOfSource transfer_world 0 gives (version_with 9 119) → CallBacks transfer_world first_log fetched_log
+unfolding fetched gives
+call_backs of_source = (
+  (
+    Stream,
+    record { caller = somebody; call = xfr_call; reply = Some (xfr_reply 7 5 Succ) },
+    (
+      record { peer = somebody; came = sent xfr_call ++ sent match_call },
+      ([], [], refl),
+      refl,
+      record { caller = somebody; call = xfr_call; reply = Some (xfr_reply 7 5 Succ) } ∷ [],
+      ([], [], refl),
+      sent match_call,
+      (sent xfr_call, sent match_call, xfr_record, refl, refl),
+    ),
+    first_log,
+    front_self first_log,
+    ((0, version_with 9 119) ∷ [], refl),
+    record {
+      reply = xfr_reply 7 5 Succ;
+      taken = its_transfer;
+      takes = is_taken;
+      host = refl;
+      port = λ some. refl;
+      stat = Succ;
+      says = refl;
+      shows = λ done.
+          (version_with 9 119, first_log, front_self first_log, front_self fetched_log, fetched, of_source);
+    },
+  ),
+  tt,
+)
+
+-- and where it was asked for in a datagram
+mail_taken : answer Mail (maps_on one_map first_log) somebody xfr_call ≡ Takes (xfr_reply 7 5 Succ) its_transfer
+unfolding word_at content_at opaque_at
+mail_taken = refl
+
+pub mail_transfer : IsOfSource mailed_transfer 0 gives (version_with 9 119) → CallBacks mailed_transfer first_log fetched_log
+unfolding gives
+mail_transfer of_source = (
+  (
+    Mail,
+    record { caller = somebody; call = xfr_call; reply = Some (xfr_reply 7 5 Succ) },
+    (
+      record { peer = somebody; came = xfr_call; sent = Some (xfr_reply 7 5 Succ); lost = false } ∷ [],
+      ([], [], refl),
+      record { peer = somebody; came = xfr_call; sent = Some (xfr_reply 7 5 Succ); lost = false },
+      ([], [], refl),
+      refl,
+      refl,
+    ),
+    first_log,
+    front_self first_log,
+    ((0, version_with 9 119) ∷ [], refl),
+    record {
+      reply = xfr_reply 7 5 Succ;
+      taken = its_transfer;
+      takes = mail_taken;
+      host = refl;
+      port = λ some. refl;
+      stat = Succ;
+      says = refl;
+      shows = λ done. (
+        version_with 9 119,
+        first_log,
+        front_self first_log,
+        front_self fetched_log,
+        record {
+          server = streamed somebody fetched_bytes;
+          among = ([], [], refl);
+          fetched = version_with 9 119;
+          gives = gives;
+          marked = refl;
+        },
+        of_source,
+      );
+    },
+  ),
+  tt,
+)
+
 replies : Replies transfer_world first_log fetched_log
 replies = record {
   published = record {
@@ -297,4 +381,5 @@ replies = record {
 
 pub session_transfer : IsOfSource transfer_world 0 gives (version_with 9 119)
     → Replies transfer_world first_log fetched_log × Transfers transfer_world first_log fetched_log
-session_transfer of_source = (replies, transfers of_source)
+    × CallBacks transfer_world first_log fetched_log
+session_transfer of_source = (replies, transfers of_source, call_backs of_source)

@@ -11,7 +11,7 @@ use Rattle.yp_client.specs.Results.{order_of, master_of}
 use Rattle.yp_client.specs.All.{all_said}
 use Rattle.yp_transfer.specs.declared.fault.XfrFault.{XfrFault}
 use Rattle.yp_transfer.specs.Faults.{of_client}
-use Rattle.yp_transfer.specs.Fetching.{Wanted, FetchOutcome, Course, Unless, ByAnswer, AsksThen, InMemory, Gives as GivesDraft, AsksRows, against_names, against_order, against_master, against_second}
+use Rattle.yp_transfer.specs.Fetching.{Wanted, wanted_of, FetchOutcome, Course, Unless, ByAnswer, AsksThen, InMemory, Gives as GivesDraft, AsksRows, AsksMaster, against_names, against_order, against_master, against_second}
 use Rattle.yp_transfer.specs.Fetched.{StreamPlace, place_of, IsReplied, ReadsReply, by_bytes, rows_of, draft_of, Fetched}
 use Rattle.yp_headline.specs.Fetching.{Says, RowsAre, Gives}
 use Rattle.yp_headline.specs.inside.Files.{streamed}
@@ -95,6 +95,35 @@ no_skew first second none =
 
 same_given : (a b : MapVersion) → (let one : FetchOutcome = Ok a in one) ≡ Ok b → a ≡ b
 same_given a b is = cc
+
+-- ---- another name
+
+goes_again : (wanted : Wanted) (domain map : List ℕ) (version : MapVersion) (old new : StreamPlace)
+    (answer : Result ℕ ClientFault)
+    → ByAnswer (λ order. Unless (against_order wanted order) (AsksMaster by_bytes order)) answer (Ok version) old new
+    → ByAnswer (λ order. Unless (against_order (wanted_of domain map None false) order) (AsksMaster by_bytes order)) answer
+    (Ok version) old new
+goes_again wanted domain map version old new (Err fault) goes = goes
+goes_again wanted domain map version old new (Ok order) goes =
+    went_on (against_order wanted order) (AsksMaster by_bytes order) version old new goes
+
+-- what bytes give doesn't depend on the name of what was wanted, nor on what was shown
+pub refetched : (wanted : Wanted) (domain map : List ℕ) (first : StreamPlace) (version : MapVersion)
+    → against_names (wanted_of domain map None false) ≡ None → Fetched wanted first (Ok version)
+    → Fetched (wanted_of domain map None false) first (Ok version)
+refetched wanted domain map first version none fetched =
+    let asks = went_on (against_names wanted) _ version first fetched.0 fetched.1 in (
+      fetched.0,
+      subst (λ (o : Option XfrFault). Unless o (AsksThen by_bytes.order
+          (λ order. Unless (against_order (wanted_of domain map None false) order) (AsksMaster by_bytes order))) (Ok version) first
+          fetched.0) (sym none)
+          (record {
+            answer = asks.answer;
+            middle = asks.middle;
+            answered = asks.answered;
+            goes_on = goes_again wanted domain map version asks.middle fetched.0 asks.answer asks.goes_on;
+          }),
+    )
 
 -- ---- the whole
 

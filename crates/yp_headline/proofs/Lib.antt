@@ -45,3 +45,10 @@ pub mod WrongWalks
 pub mod RightWalk
 pub mod Served
 pub mod Returned
+pub mod Weighed
+pub mod Letters
+pub mod Waiting
+pub mod Carrying
+pub mod Awaiting
+pub mod CalledBack
+pub mod Asked

@@ -1,6 +1,6 @@
 -- The datagrams that came to an inbox are answered in turn.
 use Rattle.std.proofs.Common.{◌≡◌, ◌≤◌, ℕ, Bool, true, false, cond, List, [], ◌∷◌, ◌++◌, length, map, Option, Some, None, Result, Ok, Err, refl, sym, ap, ◌∙◌, subst, arith, ⊎_elim, append_assoc}
-use Rattle.std.specs.Prelude.{◌||◌, flat_map, is_err, nat_lt}
+use Rattle.std.specs.Prelude.{◌||◌, flat_map, is_err, nat_lt, option_map, option_to_list}
 use Rattle.std.specs.List.{AllByRecursion, AllZip}
 use Rattle.std.proofs.lemmas.List.{append_cancel_left}
 use Rattle.std.proofs.lemmas.Bool.Decides.{nat_tests}
@@ -12,19 +12,23 @@ use Rattle.yp_board.specs.Logs.{Log}
 use Rattle.yp_board.specs.Views.{IsFront}
 use Rattle.yp_answer.specs.declared.procedure.Path.TheVariants.{Datagram as Mail}
 use Rattle.yp_answer.specs.Served.{maps_on}
-use Rattle.yp_answer.specs.Reply.{Response, Silence, exceeds, reply}
+use Rattle.yp_answer.specs.Transfer.{Taken}
+use Rattle.yp_answer.specs.Reply.{Response, Silence, Takes, exceeds, reply}
 use Rattle.yp_answer.specs.session.Hosts.{Conduct, Turn}
 use Rattle.yp_rpc.specs.Turns.{InboxTells, GainsAll, datagram_max}
 use Rattle.yp_rpc.specs.declared.turns.Ended.{Ended}
 use Rattle.yp_rpc.specs.declared.turns.Ended.TheVariants.{Done, Spent}
-use Rattle.yp_worker.specs.datagrams.Mailing.{Awaited, AnswersMail, CarriesAll}
-use Rattle.yp_worker.specs.datagrams.Serving.{MailTurn, Dropped, Rested, Answered, reply_posts, posts_over, DoesTurn, DoesTurns, LosesAnswer, EndsTurns}
+use Rattle.yp_worker.specs.datagrams.Mailing.{Awaited, Holding, AnswersMail, CarriesAll}
+use Rattle.yp_worker.specs.datagrams.Serving.{MailTurn, Dropped, Rested, Answered, reply_posts, posts_over, taken_over, DoesTurn, DoesTurns, LosesAnswer, EndsTurns}
 use Rattle.yp_server.specs.Serving.{ServesDatagrams, EachServes, ServesInboxes}
 use Rattle.yp_headline.specs.World.{Datagram}
+use Rattle.yp_headline.specs.Answering.{answer}
+use Rattle.yp_headline.specs.Publishing.{IsAmong}
 use Rattle.yp_headline.specs.Serving.{Exchange, IsReply, AnswersInTurn, AreSent, AreServed}
 use Rattle.yp_headline.specs.inside.Server.{Heard, but_silent, told_of, MayLoseLast, AreOfInbox}
 use Rattle.yp_headline.proofs.Runs.{exchange_of, front_self}
-use Rattle.yp_headline.proofs.Steps.{known, catalogue_of, linked, told_on, earlier}
+use Rattle.yp_headline.proofs.Steps.{known, catalogue_of, GoesOn, stays_on, goes_on_then, linked, linked_on, told_on, earlier, front_then}
+use Rattle.yp_headline.proofs.Weighed.{all_both, all_so}
 
 -- ---- the datagrams of turns
 
@@ -94,20 +98,62 @@ short_reply : (b : Bool) (response : Response) (reply : Option (List ℕ)) (fron
 short_reply true response reply front next short is = absurd cc
 short_reply false response reply front next short is = is
 
+short_takes : (b : Bool) (response : Response) (bytes : List ℕ) (taken : Taken) → b ≡ false → response ≡ Takes bytes taken
+    → cond b Silence response ≡ Takes bytes taken
+short_takes true response bytes taken short is = absurd cc
+short_takes false response bytes taken short is = is
+
+-- ---- transfers that datagrams took
+
+-- a transfer was taken by one of these datagrams, on a front of the log
+pub record IsOfMail (catalogue : Catalogue) (begun log : Log) (mails : List Datagram) (one : Awaited) : Type 0 where
+  pub mail : Datagram
+  pub among : IsAmong mails mail
+  pub caller : mail.peer ≡ one.1
+  pub front : Log
+  pub begins : IsFront begun front
+  pub ends : IsFront front log
+  pub bytes : List ℕ
+  pub takes : answer Mail (maps_on catalogue front) mail.peer mail.came ≡ Takes bytes one.0
+
+-- by one of those of some inbox
+abbrev pub IsOfMails : Catalogue → (begun log : Log) → List (List Datagram) → Awaited → Type 0
+IsOfMails catalogue begun log inboxes one =
+    (mails : List Datagram) × IsAmong inboxes mails × IsOfMail catalogue begun log mails one
+
+later_among : {A : Type 0} (first : A) (items : List A) (item : A) → IsAmong items item → IsAmong (first ∷ items) item
+later_among first items item is = (first ∷ is.0, is.1, ap (λ (l : List _). first ∷ l) is.2)
+
+later_mail : (catalogue : Catalogue) (begun log : Log) (first : Datagram) (mails : List Datagram) (one : Awaited)
+    → IsOfMail catalogue begun log mails one → IsOfMail catalogue begun log (first ∷ mails) one
+later_mail catalogue begun log first mails one is = record {
+  mail = is.mail;
+  among = later_among first mails is.mail is.among;
+  caller = is.caller;
+  front = is.front;
+  begins = is.begins;
+  ends = is.ends;
+  bytes = is.bytes;
+  takes = is.takes;
+}
+
 -- ---- datagrams that were served
 
 -- what more an inbox told are these datagrams, which were answered in turn on fronts of one log that never go back
-record MailIsServed (catalogue : Catalogue) (begun log : Log) (loses : Bool) (heard : Heard) : Type 0 where
-  datagrams : List Datagram
-  are : AreOfInbox loses heard datagrams
-  served : AreServed catalogue begun log datagrams
+record MailIsServed (catalogue : Catalogue) (begun log : Log) (loses : Bool) (left : List Awaited) (heard : Heard) : Type 0
+  where
+    datagrams : List Datagram
+    are : AreOfInbox loses heard datagrams
+    served : AreServed catalogue begun log datagrams
+    took : AllByRecursion (IsOfMail catalogue begun log datagrams) left
 
 -- and so what more each inbox told, apart from the others
-pub record InboxesAreServed (catalogue : Catalogue) (begun log : Log) (loses : Bool) (inboxes : List Heard) : Type 0
-  where
-    pub datagrams : List (List Datagram)
-    pub are : AllZip (AreOfInbox loses) inboxes datagrams
-    pub served : AllByRecursion (AreServed catalogue begun log) datagrams
+pub record InboxesAreServed (catalogue : Catalogue) (begun log : Log) (loses : Bool) (left : List Awaited)
+    (inboxes : List Heard) : Type 0 where
+  pub datagrams : List (List Datagram)
+  pub are : AllZip (AreOfInbox loses) inboxes datagrams
+  pub served : AllByRecursion (AreServed catalogue begun log) datagrams
+  pub took : AllByRecursion (IsOfMails catalogue begun log datagrams) left
 
 both_same : {X : Type 0} (one other : X) (more others : List X) → one ∷ more ≡ other ∷ others
     → (one ≡ other) × (more ≡ others)
@@ -173,6 +219,98 @@ module _ {H T : Type 0} (conduct : Conduct H) (counted : H → T) where
   all_turns (one ∷ more) exchanges old last log does follow =
       before_turn one more exchanges old does.0 log does.1 (all_turns more exchanges does.0 last log does.2 follow)
 
+  -- ---- what they took
+
+  pub carries_on : (transfers : List Awaited) (old new : H) → CarriesAll conduct transfers old new → GoesOn conduct old new
+  carries_on [] old new carries = stays_on conduct old new carries
+  carries_on (one ∷ more) old new carries =
+      goes_on_then conduct old carries.0 new (record { catalogue = carries.1.catalogue; grown = carries.1.grown })
+      (carries_on more carries.0 new carries.2)
+
+  pub mail_on : (from : Peer) (turn : Turn) (old new : H) → AnswersMail conduct from turn old new → GoesOn conduct old new
+  mail_on from turn old new answers = linked_on conduct Mail from turn old new (linked conduct Mail from turn old new answers.link)
+
+  pub turn_on : (one : MailTurn) (old new : H) → DoesTurn conduct counted one old new → GoesOn conduct old new
+  turn_on (Dropped from bytes) old new does = stays_on conduct old new does.1
+  turn_on Rested old new does = told_on conduct counted old new does
+  turn_on (Answered from turn behind) old new does =
+      let did = does.1 in
+      goes_on_then conduct old did.mid new (mail_on from turn old did.mid did.answers) (carries_on behind did.mid new did.carries)
+
+  pub turns_on : (served : List MailTurn) (old new : H) → DoesTurns conduct counted served old new → GoesOn conduct old new
+  turns_on [] old new does = stays_on conduct old new does
+  turns_on (one ∷ more) old new does =
+      goes_on_then conduct old does.0 new (turn_on one old does.0 does.1) (turns_on more does.0 new does.2)
+
+  pub ends_on : (most count : ℕ) (end : Result Ended Failed) (events : List InboxEvent) (old new : H)
+      → EndsTurns conduct counted most count end events old new → GoesOn conduct old new
+  ends_on most count (Ok Spent) events old new ends = stays_on conduct old new ends.2
+  ends_on most count (Ok Done) events old new ends = absurd ends
+  ends_on most count (Err why) events old new ends =
+      ⊎_elim (λ none. stays_on conduct old new none.1) (λ lost. mail_on lost.from lost.turn old new lost.answers) ends.1
+
+  module _ (catalogue : Catalogue) (begun log : Log) where
+    abbrev OfMail : List Datagram → Awaited → Type 0
+    OfMail mails one = IsOfMail catalogue begun log mails one
+
+    -- what one datagram took
+    one_took : (from : Peer) (turn : Turn) (mails : List Datagram) (old mid : H) (o : Option Taken) → turn.taken ≡ o
+        → length turn.message ≤ datagram_max → catalogue_of conduct old ≡ catalogue → IsFront begun (known conduct old)
+        → AnswersMail conduct from turn old mid → IsFront (known conduct mid) log
+        → AllByRecursion (OfMail (mail_of false from turn ∷ mails)) (option_to_list (option_map (λ taken. (taken, from)) o))
+    one_took from turn mails old mid None took short same begins answers upto = tt
+    one_took from turn mails old mid (Some taken) took short same begins answers upto =
+        let link = linked conduct Mail from turn old mid answers.link in
+        let takes = link.took taken took in
+        let is_short : nat_lt datagram_max (length turn.message) ≡ false = grind (arith, nat_tests) in (
+          record {
+            mail = mail_of false from turn;
+            among = ([], mails, refl);
+            caller = refl;
+            front = link.front;
+            begins = front_then begun (known conduct old) link.front begins link.begins;
+            ends = front_then link.front (known conduct mid) log link.goes upto;
+            bytes = takes.0;
+            takes = short_takes (exceeds Mail (length turn.message)) (reply Mail (maps_on catalogue link.front) from turn.message)
+                takes.0 taken is_short
+                (subst (λ (c : Catalogue). reply Mail (maps_on c link.front) from turn.message ≡ Takes takes.0 taken) same takes.1);
+          },
+          tt,
+        )
+
+    took_before : (one : MailTurn) (more : List MailTurn) (others : List Datagram) (old next last : H)
+        → catalogue_of conduct old ≡ catalogue → IsFront begun (known conduct old) → DoesTurn conduct counted one old next
+        → DoesTurns conduct counted more next last → IsFront (known conduct last) log
+        → AllByRecursion (OfMail (mails_of more ++ others)) (taken_over more)
+        → AllByRecursion (OfMail (mails_of (one ∷ more) ++ others)) (taken_over (one ∷ more))
+    took_before (Dropped from bytes) more others old next last same begins does later upto rest =
+        let mails = mails_of more ++ others in
+        let first : Datagram = record { peer = from; came = bytes; sent = None; lost = false } in
+        all_so (OfMail mails) (OfMail (first ∷ mails)) (later_mail catalogue begun log first mails) (taken_over more) rest
+    took_before Rested more others old next last same begins does later upto rest = rest
+    took_before (Answered from turn behind) more others old next last same begins does later upto rest =
+        let mails = mails_of more ++ others in
+        let did = does.1 in
+        let first = mail_of false from turn in
+        let carried = carries_on behind did.mid next did.carries in
+        let onward = turns_on more next last later in
+        let reaches = front_then (known conduct did.mid) (known conduct next) log carried.grown
+        (front_then (known conduct next) (known conduct last) log onward.grown upto) in
+        all_both (OfMail (first ∷ mails)) (option_to_list (option_map (λ taken. (taken, from)) turn.taken)) (taken_over more)
+        (one_took from turn mails old did.mid turn.taken refl does.0 same begins did.answers reaches)
+        (all_so (OfMail mails) (OfMail (first ∷ mails)) (later_mail catalogue begun log first mails) (taken_over more) rest)
+
+    took_turns : (served : List MailTurn) (others : List Datagram) (old last : H) → catalogue_of conduct old ≡ catalogue
+        → IsFront begun (known conduct old) → DoesTurns conduct counted served old last → IsFront (known conduct last) log
+        → AllByRecursion (OfMail (mails_of served ++ others)) (taken_over served)
+    took_turns [] others old last same begins does upto = tt
+    took_turns (one ∷ more) others old last same begins does upto =
+        let next = does.0 in
+        let on = turn_on one old next does.1 in
+        let rest = took_turns more others next last (on.catalogue ∙ same)
+        (front_then begun (known conduct old) (known conduct next) begins on.grown) does.2 upto in
+        took_before one more others old next last same begins does.1 does.2 upto rest
+
   -- ---- the end
 
   -- what is behind the last whole turn: nothing, or a datagram whose reply was lost
@@ -232,7 +370,7 @@ module _ {H T : Type 0} (conduct : Conduct H) (counted : H → T) where
       (left carried : List Awaited) → (fault ≡ true → loses ≡ true)
       → ServesDatagrams conduct counted catalogue starts log turns fault before after left carried
       → (heard : Heard) → before.past ≡ Some heard.before → after.past ≡ Some (heard.before ++ heard.more)
-      → MailIsServed catalogue starts log loses heard
+      → MailIsServed catalogue starts log loses left heard
   mail_served catalogue starts log turns fault loses before after left carried lossy serves heard was is =
       let mail = serves.serves in
       let posts = mail.serves in
@@ -259,6 +397,15 @@ module _ {H T : Type 0} (conduct : Conduct H) (counted : H → T) where
               (subst (λ (c : Catalogue). AnswersInTurn c Mail (exchanges_in posts.served ++ last.exchanges)
               (known conduct serves.old) log) serves.start.catalogue_is follow);
         };
+        took =
+            let ready = carries_on posts.first serves.old posts.ready posts.carries in
+            let onward = ends_on turns (length posts.served) serves.end posts.rest posts.last ended posts.ends in
+            subst (λ (l : List Awaited). AllByRecursion (IsOfMail catalogue starts log (mails_of posts.served ++ last.mails)) l)
+            (sym (serves.left_is ∙ ap (λ (h : Holding). h.left) posts.holding))
+            (took_turns catalogue starts log posts.served last.mails posts.ready posts.last
+            (ready.catalogue ∙ serves.start.catalogue_is)
+            (subst (λ (l : Log). IsFront l (known conduct posts.ready)) serves.start.known ready.grown) posts.does
+            (front_then (known conduct posts.last) (known conduct ended) log onward.grown shown));
       }
 
   -- ---- several inboxes
@@ -272,9 +419,13 @@ module _ {H T : Type 0} (conduct : Conduct H) (counted : H → T) where
       → EachServes conduct counted catalogue starts log turns fault before after left carried
       → (inboxes : List Heard) → map (λ box. box.past) before ≡ map (λ one. Some one.before) inboxes
       → map (λ box. box.past) after ≡ map (λ one. Some (one.before ++ one.more)) inboxes
-      → InboxesAreServed catalogue starts log loses inboxes
-  each_served catalogue starts log turns fault loses [] [] left carried lossy serves [] was is =
-      record { datagrams = []; are = tt; served = tt }
+      → InboxesAreServed catalogue starts log loses left inboxes
+  each_served catalogue starts log turns fault loses [] [] left carried lossy serves [] was is = record {
+    datagrams = [];
+    are = tt;
+    served = tt;
+    took = subst (λ (l : List Awaited). AllByRecursion (IsOfMails catalogue starts log []) l) (sym serves.1) tt;
+  }
   each_served catalogue starts log turns fault loses [] [] left carried lossy serves (heard ∷ inboxes) was is = absurd cc
   each_served catalogue starts log turns fault loses [] (new ∷ after) left carried lossy serves inboxes was is = absurd serves
   each_served catalogue starts log turns fault loses (old ∷ before) [] left carried lossy serves inboxes was is = absurd serves
@@ -293,13 +444,21 @@ module _ {H T : Type 0} (conduct : Conduct H) (counted : H → T) where
         datagrams = here.datagrams ∷ there.datagrams;
         are = (here.are, there.are);
         served = (here.served, there.served);
+        took =
+            let all = here.datagrams ∷ there.datagrams in
+            subst (λ (l : List Awaited). AllByRecursion (IsOfMails catalogue starts log all) l) (sym left_is)
+            (all_both (IsOfMails catalogue starts log all) left_here left_there
+            (all_so (IsOfMail catalogue starts log here.datagrams) (IsOfMails catalogue starts log all)
+            (λ one is. (here.datagrams, ([], there.datagrams, refl), is)) left_here here.took)
+            (all_so (IsOfMails catalogue starts log there.datagrams) (IsOfMails catalogue starts log all)
+            (λ one is. (is.0, later_among here.datagrams there.datagrams is.0 is.1, is.2)) left_there there.took));
       }
 
   pub boxes_served : (catalogue : Catalogue) (starts log : Log) (turns : ℕ) (fault loses : Bool)
       (before after : List InboxTells) → (fault ≡ true → loses ≡ true)
-      → ServesInboxes conduct counted catalogue starts log turns fault before after
+      → (serves : ServesInboxes conduct counted catalogue starts log turns fault before after)
       → (inboxes : List Heard) → map (λ box. box.past) before ≡ map (λ one. Some one.before) inboxes
       → map (λ box. box.past) after ≡ map (λ one. Some (one.before ++ one.more)) inboxes
-      → InboxesAreServed catalogue starts log loses inboxes
+      → InboxesAreServed catalogue starts log loses serves.left inboxes
   boxes_served catalogue starts log turns fault loses before after lossy serves inboxes was is =
       each_served catalogue starts log turns fault loses before after serves.left serves.carried lossy serves.each inboxes was is

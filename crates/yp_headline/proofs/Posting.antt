@@ -51,7 +51,7 @@ pub record Gains (Q : List Letter → Type 0) (old new : Option (List Sending)) 
   pub told : (before : List Sending) → old ≡ Some before → new ≡ Some (before ++ gained)
   pub are : Q (posted_of gained)
 
-gains_none : (Q : List Letter → Type 0) → Q [] → (old new : Option (List Sending)) → new ≡ old → Gains Q old new
+pub gains_none : (Q : List Letter → Type 0) → Q [] → (old new : Option (List Sending)) → new ≡ old → Gains Q old new
 gains_none Q none old new same = record {
   gained = [];
   told = λ before was. same ∙ was ∙ ap (λ (l : List Sending). Some l) (sym (append-nil before));
@@ -64,7 +64,7 @@ posted_both (Posted peer bytes ∷ sent) more =
     ap (λ (l : List Letter). record { peer = peer; bytes = bytes } ∷ l) (posted_both sent more)
 posted_both (Asked peer bytes came ∷ sent) more = posted_both sent more
 
-gains_then : (P Q R : List Letter → Type 0) → ((some more : List Letter) → P some → Q more → R (some ++ more))
+pub gains_then : (P Q R : List Letter → Type 0) → ((some more : List Letter) → P some → Q more → R (some ++ more))
     → (a b c : Option (List Sending)) → Gains P a b → Gains Q b c → Gains R a c
 gains_then P Q R join a b c one other = record {
   gained = one.gained ++ other.gained;
@@ -79,7 +79,7 @@ gains_so : (P Q : List Letter → Type 0) → ((letters : List Letter) → P let
 gains_so P Q then old new gains =
     record { gained = gains.gained; told = gains.told; are = then (posted_of gains.gained) gains.are }
 
-gains_from : (Q : List Letter → Type 0) (a b c : Option (List Sending)) → b ≡ a → Gains Q b c → Gains Q a c
+pub gains_from : (Q : List Letter → Type 0) (a b c : Option (List Sending)) → b ≡ a → Gains Q b c → Gains Q a c
 gains_from Q a b c same gains = subst (λ (o : Option (List Sending)). Gains Q o c) same gains
 
 seam : (front back : List Sending) → drop (length front) (front ++ back) ≡ back
@@ -120,7 +120,7 @@ pub record TellsAsker (asker : Asker) (stat : XfrStat) (letter : Letter) : Type 
   pub says : letter.bytes ≡ call_back_bytes asker.prog asker.transid stat
 
 -- no letter, or one of which P holds
-abbrev AtMostOne : (Letter → Type 0) → List Letter → Type 0
+abbrev pub AtMostOne : (Letter → Type 0) → List Letter → Type 0
 AtMostOne P [] = ⊤
 AtMostOne P (letter ∷ []) = P letter
 AtMostOne P (letter ∷ other ∷ letters) = ⊥
@@ -152,7 +152,7 @@ sends_back true asker stat failed old new is asks = ⊎_elim
     (λ not. record { gained = question asker asks.came ∷ []; told = gained_item (question asker asks.came) old new not.0; are = tt })
     asks.sent
 
-calls_back : (wants : Bool) (asker : Asker) (stat : XfrStat) (old new : DialTells) → CallsBack wants asker stat old new
+pub calls_back : (wants : Bool) (asker : Asker) (stat : XfrStat) (old new : DialTells) → CallsBack wants asker stat old new
     → Gains (AtMostOne (TellsAsker asker stat)) old.letters new.letters
 calls_back true asker stat old new calls = ⊎_elim
     (λ sends. sends_back (asker.port == 0) asker stat (HasRisen old.faults new.faults) old.letters new.letters refl sends)

@@ -103,7 +103,7 @@ module _ {S K D C A I T : Type 0} (seen : Seeing S K D C A I T) (read : ReadIsBo
       revnet_holds seen name store s old new does.0.0 h h' n now was is netgroups moment_is held stood
   commanded (Serve own port workers connections count stores hosts log) s old new door door' before after logged does =
       λ hosted closed inboxes wires tell.
-      serve_holds seen (serve_job_of own connections count stores hosts log) s old new door door' logged does.0 hosted closed
+      serve_holds seen read shown between (serve_job_of own connections count stores hosts log) s old new door door' logged does.0 hosted closed
       inboxes wires tell
   commanded _ s old new door door' before after logged does = tt
 

@@ -1,28 +1,36 @@
 -- What `serve` does is what the headline says.
-use Rattle.std.proofs.Common.{◌≡◌, ◌⊎◌, ℕ, zero, suc, Bool, true, false, List, [], ◌∷◌, ◌++◌, length, map, Option, Some, None, refl, sym, ap, ◌∙◌, subst, arith, inl, inr, ⊎_elim}
-use Rattle.std.specs.Prelude.{Contains, flat_map, slice_get, IfSome, ⊤}
+use Rattle.std.proofs.Common.{◌≡◌, ◌⊎◌, ℕ, zero, suc, Bool, true, false, List, [], ◌∷◌, ◌++◌, length, map, Option, Some, None, Ok, refl, sym, ap, ◌∙◌, subst, arith, inl, inr, ⊎_elim}
+use Rattle.std.specs.Prelude.{Contains, flat_map, slice_get, unwrap_or, IfSome, ⊤}
 use Rattle.std.specs.List.{AllByRecursion, AllZip}
 use Rattle.std.proofs.lemmas.List.{append_cancel_left, length-map}
 use Rattle.yp_io.specs.Disk.{History, IsImage}
 use Rattle.yp_io.specs.Calls.{ClosedConnection, ListenerHistory}
 use Rattle.yp_io.specs.Dials.{Connected, Wires}
 use Rattle.yp_version.specs.Versions.{MapVersion}
-use Rattle.yp_board.specs.Catalogues.{name_view}
+use Rattle.yp_map_file.specs.inside.Laws.{ReadIsBody}
+use Rattle.yp_board.specs.Catalogues.{Name, name_view}
+use Rattle.yp_board.specs.Views.{Refreshes}
 use Rattle.yp_board.specs.Logs.{Log, starts}
 use Rattle.yp_publisher.specs.Standing.{StoredMap, OfMap, versions}
 use Rattle.yp_publisher.specs.Grown.{Making, IsShownOrMade, LeavesByFronts, OrAsBefore, AtDisk, AreTold}
 use Rattle.yp_publisher.specs.Opens.{IsOpened}
 use Rattle.yp_publisher.specs.sharing.Failures as publisher
 use Rattle.yp_publisher.specs.sharing.Tracing.{IsNewBehind}
+use Rattle.yp_transfer.specs.Fetching.{wanted_of, against_names}
+use Rattle.yp_transfer.specs.Fetched.{place_of, Fetched}
+use Rattle.yp_end_to_end.specs.inside.transfer.Laws.{FetchedIsShown}
+use Rattle.yp_end_to_end.specs.inside.transfer.Shown.{ShownBetween}
+use Rattle.yp_worker.specs.datagrams.Mailing.{Awaited}
 use Rattle.yp_worker.specs.Receptions.{terms_of}
 use Rattle.yp_worker.specs.Summing.{WorkerRun, ends_of, TellsClosed}
 use Rattle.yp_answer.specs.declared.session.session.TheConstants.{CALLS_MAX}
 use Rattle.yp_answer.specs.Make.{job_of}
-use Rattle.yp_host.specs.workers.Charges.{totals_of}
+use Rattle.yp_host.specs.declared.workers.charges.Counted.{Counted}
+use Rattle.yp_host.specs.workers.Charges.{counted_of, nothing_counted}
 use Rattle.yp_host.specs.workers.Desks.{texts_alone}
 use Rattle.yp_host.specs.workers.Makings.{IsBuiltAsNamed}
-use Rattle.yp_host.specs.workers.Wires.{AtLeast, BytesGive, GivesVersion, CoversBy}
-use Rattle.yp_server.specs.Counting.{count_totals}
+use Rattle.yp_host.specs.workers.Wires.{AtLeast, BytesGive, GivesVersion, CoversBy, CameByWire}
+use Rattle.yp_server.specs.Counting.{count_told, CountsAll}
 use Rattle.yp_command.specs.declared.office.disks.NamedDisk.{NamedDisk}
 use Rattle.yp_command.specs.declared.office.office.Office.{Office}
 use Rattle.yp_command.specs.declared.office.status.Status.{Status}
@@ -35,16 +43,22 @@ use Rattle.yp_command_serve.specs.serve.Serve.{Job, catalogue_of, setup, place, 
 use Rattle.yp_headline.specs.World.{World, Connection, Datagram}
 use Rattle.yp_headline.specs.Serving.{IsServed, AreServed}
 use Rattle.yp_headline.specs.Publishing.{IsMarked, IsFetched, IsNew, IsPublishedLog, OfFile, StandsBy}
-use Rattle.yp_headline.specs.Headline.{Replies, Crashes}
+use Rattle.yp_headline.specs.Sources.{IsOfSource}
+use Rattle.yp_headline.specs.Headline.{Replies, Crashes, CallBacks}
 use Rattle.yp_headline.specs.inside.Files.{stores_between}
 use Rattle.yp_headline.specs.inside.Server.{IsToldClosed, Heard, closed_in, may_lose, was_hosted, AllTell, serve_world, ServeHolds}
 use Rattle.yp_headline.proofs.Runs.{none_among}
-use Rattle.yp_headline.proofs.Given.{fetched_gives}
+use Rattle.yp_headline.proofs.Given.{fetched_gives, refetched}
+use Rattle.yp_headline.proofs.Sourced.{stream_throughout, marked_throughout}
 use Rattle.yp_headline.proofs.Built.{made_built}
-use Rattle.yp_headline.proofs.Stores.{stores_have, left_at, end_at, by_wire, zip_length, is_published, stands_by, left_of_map}
+use Rattle.yp_headline.proofs.Stores.{told_input, stores_have, left_at, end_at, by_wire, zip_length, is_published, stands_by, left_of_map}
 use Rattle.yp_headline.proofs.Moments.{since_before}
 use Rattle.yp_headline.proofs.Server.{ConnectionsAreServed, all_served}
-use Rattle.yp_headline.proofs.Mail.{InboxesAreServed, boxes_served}
+use Rattle.yp_headline.proofs.Mail.{IsOfMails, InboxesAreServed, boxes_served}
+use Rattle.yp_headline.proofs.Letters.{letters_told}
+use Rattle.yp_headline.proofs.Carrying.{IsOfCall, runs_tell}
+use Rattle.yp_headline.proofs.Awaiting.{inboxes_serve, inboxes_tell}
+use Rattle.yp_headline.proofs.CalledBack.{all_asked_for}
 
 -- ---- connections and datagrams
 
@@ -136,7 +150,7 @@ module _ {S K D C A I T : Type 0} (seen : Seeing S K D C A I T) (job : Job) (s :
   -- the connections that were closed
   connections_served : ConnectionsAreServed (catalogue_of job) begun log closed
   connections_served =
-      let sums = serves.is_hosted.served.accounted.counted.of_connections in
+      let sums = serves.is_hosted.served.accounted.counted.counted.of_connections in
       let ends = map (λ run. ends_of run.stays) sums.worker_runs in
       let ends_are : tell.more_closed ≡ ends = append_cancel_left tell.calls.closed tell.more_closed ends
       (sym tell.closes ∙ told_more door.listen.past door'.listen.past tell.calls tell.calls_at_last ends tell.listens
@@ -144,42 +158,95 @@ module _ {S K D C A I T : Type 0} (seen : Seeing S K D C A I T) (job : Job) (s :
       let all : closed ≡ flat_map (λ run. ends_of run.stays) sums.worker_runs =
       tell.closed_are ∙ ap closed_in ends_are ∙ joined_map sums.worker_runs in
       subst (λ (l : List ClosedConnection). ConnectionsAreServed (catalogue_of job) begun log l) (sym all)
-      (all_served (conduct (setup seen job old)) count_totals (terms_of (catalogue_of job) begun CALLS_MAX) door.listen.past
+      (all_served (conduct (setup seen job old)) count_told (terms_of (catalogue_of job) begun CALLS_MAX) door.listen.past
       log sums.worker_runs sums.work (subst (λ (l : List ClosedConnection). AllByRecursion IsToldClosed l) all tell.told_closed))
 
+  abbrev counts : CountsAll (conduct (setup seen job old)) count_told (terms_of (catalogue_of job) begun CALLS_MAX)
+      door.listen door'.listen serves.hosted.tally.calls log job.turns serves.hosted.inbox_fault ((place seen old door).boxes)
+      ((place seen new door').boxes)
+      (record { totals = serves.hosted.totals; told = serves.is_hosted.served.accounted.counted.told })
+  counts = serves.is_hosted.served.accounted.counted.counted
+
   -- what the inboxes told
-  inboxes_served : InboxesAreServed (catalogue_of job) begun log (may_lose s) inboxes
-  inboxes_served = boxes_served (conduct (setup seen job old)) totals_of (catalogue_of job) begun log job.turns
+  inboxes_served : InboxesAreServed (catalogue_of job) begun log (may_lose s) counts.of_datagrams.left inboxes
+  inboxes_served =
+      let serve = inboxes_serve (conduct (setup seen job old)) count_told (catalogue_of job) begun log job.turns
+      serves.hosted.inbox_fault ((place seen old door).boxes) ((place seen new door').boxes) counts.transfers counts.datagrams
+      counts.of_datagrams in
+      subst (λ (l : List Awaited). InboxesAreServed (catalogue_of job) begun log (may_lose s) l inboxes) serve.1
+      (boxes_served (conduct (setup seen job old)) counted_of (catalogue_of job) begun log job.turns
       serves.hosted.inbox_fault (may_lose s) ((place seen old door).boxes) ((place seen new door').boxes)
-      (may_have_lost serves.hosted s (output seen old) (output seen new) serves.tells) serves.is_hosted.served.datagrams
-      inboxes tell.hears tell.hears_at_last
+      (may_have_lost serves.hosted s (output seen old) (output seen new) serves.tells) serve.0
+      inboxes tell.hears tell.hears_at_last)
 
   module _ (connections : List Connection) (datagrams : List (List Datagram)) where
     abbrev world : World
-    world = serve_world seen job old new connections datagrams wires
+    world = serve_world seen job old new tell.calls.coming wires connections datagrams
 
     abbrev Is : Making
     Is = IsNewBehind (IsBuiltAsNamed (seen.texts.text old.texts) (catalogue_of job))
         serves.is_hosted.served.accounted.traced.fetches
 
-    -- a version that a wire gave
-    given : (fetched version : MapVersion) → Contains serves.is_hosted.served.accounted.traced.fetches fetched
-        → IsMarked fetched version → IsFetched world version
-    given fetched version among marked =
+    -- one of the wires gave a version
+    record GaveWire (fetched : MapVersion) : Type 0 where
+      front : List Connected
+      wire : Connected
+      back : List Connected
+      parts : wires ≡ front ++ wire ∷ back
+      stream : List ℕ
+      input : wire.input ≡ Some stream
+      gave : BytesGive fetched stream
+
+    gave_wire : (fetched : MapVersion) → CameByWire (seen.dial.past old.dial) (seen.dial.past new.dial) fetched
+        → GaveWire fetched
+    gave_wire fetched came =
         let P = GivesVersion fetched in
         let covers : CoversBy P (Some tell.dialed) (Some tell.dialed_at_last) 1 =
         subst (λ (o : Option Wires). CoversBy P (Some tell.dialed) o 1) tell.dials_at_last
-        (subst (λ (o : Option Wires). CoversBy P o (seen.dial.past new.dial) 1) tell.dials
-        (serves.is_hosted.served.accounted.traced.came fetched among)) in
+        (subst (λ (o : Option Wires). CoversBy P o (seen.dial.past new.dial) 1) tell.dials came) in
         let gains = covers tell.few in
         let same : gains.gained ≡ wires =
         append_cancel_left tell.dialed.came gains.gained wires (sym gains.came ∙ tell.wires_are) in
         let one = one_of P wires (subst (λ (l : List Connected). AtLeast P 1 l) same gains.enough) in
         let input = tell.inputs one.wire (one.front, one.back, one.parts) in
-        let gave : BytesGive fetched input.0 =
-        subst (λ (o : Option (List ℕ)). IfSome o (BytesGive fetched)) input.1 one.holds in
-        by_wire world wires one.front one.back one.wire refl one.parts input.0 input.1 fetched version
-        (fetched_gives gave.wanted one.wire.peer input.0 fetched gave.fetched) marked
+        record {
+          front = one.front;
+          wire = one.wire;
+          back = one.back;
+          parts = one.parts;
+          stream = input.0;
+          input = input.1;
+          gave = subst (λ (o : Option (List ℕ)). IfSome o (BytesGive fetched)) input.1 one.holds;
+        }
+
+    -- a version that a wire gave
+    given : (fetched version : MapVersion) → Contains serves.is_hosted.served.accounted.traced.fetches fetched
+        → IsMarked fetched version → IsFetched world version
+    given fetched version among marked =
+        let one = gave_wire fetched (serves.is_hosted.served.accounted.traced.came fetched among) in
+        by_wire world wires one.front one.back one.wire refl one.parts one.stream one.input fetched version
+        (fetched_gives one.gave.wanted one.wire.peer one.stream fetched one.gave.fetched) marked
+
+    -- one of a map of the catalogue, which its source showed
+    given_of : ReadIsBody → FetchedIsShown → ShownBetween → (number : ℕ) (fetched stored : MapVersion)
+        → CameByWire (seen.dial.past old.dial) (seen.dial.past new.dial) fetched → IsMarked fetched stored
+        → ((name : Name) → slice_get (catalogue_of job).maps number ≡ Some name
+        → against_names (wanted_of name.0 name.1 None false) ≡ None)
+        → (is : IsFetched world stored) × IsOfSource world number is.gives stored
+    given_of read shown between number fetched stored came marked named =
+        let one = gave_wire fetched came in
+        let bytes = unwrap_or one.wire.input [] in
+        let same : bytes ≡ one.stream = told_input one.wire.input one.stream one.input in
+        let got : IsFetched world stored =
+        by_wire world wires one.front one.back one.wire refl one.parts one.stream one.input fetched stored
+        (fetched_gives one.gave.wanted one.wire.peer one.stream fetched one.gave.fetched) marked in (
+          got,
+          λ name there source.
+              marked_throughout name got.gives stored marked source
+              (stream_throughout read shown between (wanted_of name.0 name.1 None false) one.wire.peer bytes fetched got.gives
+              (refetched one.gave.wanted name.0 name.1 (place_of 1 0 bytes) fetched (named name there)
+              (subst (λ (l : List ℕ). Fetched one.gave.wanted (place_of 1 0 l) (Ok fetched)) (sym same) one.gave.fetched)) source),
+        )
 
     is_new : (number : ℕ) (front : Log) (version : MapVersion) → Is number front version → IsNew world number front version
     is_new number front version (inl built) =
@@ -232,6 +299,27 @@ module _ {S K D C A I T : Type 0} (seen : Seeing S K D C A I T) (job : Job) (s :
           stored = λ number among. absurd (none_among number among);
         }
 
+    -- whom the workers told what
+    called_back : ReadIsBody → FetchedIsShown → ShownBetween
+        → AllByRecursion (IsOfMails (catalogue_of job) begun log datagrams) counts.of_datagrams.left → CallBacks world begun log
+    called_back read shown between left =
+        let told = serves.is_hosted.served.accounted.counted in
+        let its = setup seen job old in
+        let runs = counts.of_connections.worker_runs in
+        let by_runs = runs_tell (λ reader. reader) Refreshes its.text its.hosts world begun log CALLS_MAX tell.calls door.listen.past
+        tell.listens refl tell.coming runs nothing_counted counts.of_connections.work tt in
+        let by_connections = subst (λ (c : Counted). AllByRecursion (IsOfCall world its.hosts begun log) c.told)
+        (sym counts.of_connections.sum_is) by_runs in
+        let by_all = inboxes_tell (λ reader. reader) Refreshes its.text its.hosts world begun log job.turns serves.hosted.inbox_fault
+        ((place seen old door).boxes) ((place seen new door').boxes) counts.transfers counts.datagrams counts.of_datagrams left
+        counts.connections by_connections in
+        let are : AllByRecursion (IsOfCall world its.hosts begun log) told.told =
+        subst (λ (c : Counted). AllByRecursion (IsOfCall world its.hosts begun log) c.told) (sym counts.all_is) by_all in
+        all_asked_for world its.hosts begun log (seen.dial.past old.dial) (seen.dial.past new.dial)
+        (given_of read shown between) told.told are told.came told.posted told.same world.posted
+        (letters_told its.hosts (catalogue_of job).maps told.posted ((place seen old door).supply.dial)
+        ((place seen new door').supply.dial) told.used)
+
 served_maps : {S K D C A I T : Type 0} (seen : Seeing S K D C A I T) (job : Job) (s : Status) (old new : Office S K D C A I T)
     (door door' : DoorTells) (logged : List ℕ) → was_hosted s ≡ true → ServesOrRefuses seen job s old new door door' logged
     → ServesMaps seen job s old new door door' logged
@@ -241,8 +329,9 @@ served_maps seen job status.ListenFault old new door door' logged hosted serves 
 served_maps seen job status.InboxFault old new door door' logged hosted serves = serves
 served_maps seen job _ old new door door' logged hosted serves = absurd cc
 
-pub serve_holds : {S K D C A I T : Type 0} (seen : Seeing S K D C A I T) → ServeHolds seen
-serve_holds seen job s old new door door' logged does hosted closed inboxes wires tell =
+pub serve_holds : {S K D C A I T : Type 0} (seen : Seeing S K D C A I T) → ReadIsBody → FetchedIsShown → ShownBetween
+    → ServeHolds seen
+serve_holds seen read shown between job s old new door door' logged does hosted closed inboxes wires tell =
     let serves = served_maps seen job s old new door door' logged hosted does.serves in
     let called = connections_served seen job s old new door door' logged does serves closed inboxes wires tell in
     let heard = inboxes_served seen job s old new door door' logged does serves closed inboxes wires tell in
@@ -257,4 +346,6 @@ serve_holds seen job s old new door door' logged does hosted closed inboxes wire
           heard.datagrams called.served heard.served;
       crashes = crashes seen job s old new door door' logged does serves closed inboxes wires tell called.connections
           heard.datagrams;
+      called_back = called_back seen job s old new door door' logged does serves closed inboxes wires tell called.connections
+          heard.datagrams read shown between heard.took;
     }

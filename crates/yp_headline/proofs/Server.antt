@@ -28,7 +28,7 @@ use Rattle.yp_headline.proofs.Steps.{of_steps, had_answered}
 
 -- ---- the bytes of a conversation
 
-framed_begins : (peer : Peer) (turns : List Turn) (spelled rest : List ℕ) → AreFramed (messages_of turns) spelled
+pub framed_begins : (peer : Peer) (turns : List Turn) (spelled rest : List ℕ) → AreFramed (messages_of turns) spelled
     → BeginsWith (spelled ++ rest) (exchanges_of peer turns) rest
 framed_begins peer [] spelled rest framed = ap (λ (l : List ℕ). l ++ rest) framed
 framed_begins peer (turn ∷ turns) spelled rest framed = (

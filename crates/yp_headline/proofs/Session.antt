@@ -278,8 +278,8 @@ module _ {D B E : Type 0} (service : Service D B E) (end : End) (old new : Conne
         (entered.stored, entered.before, entered.goes_on, entered.entry, given.fetched, given.of_source read shown between)
 
     call_back : (letter : Letter) (is : IsPosted service serves.start transitions letter)
-        → IsCallBack world (exchange_of service.peer is.transition.turn) letter (log_of service is.middle)
-        (log_of service is.transition.after)
+        → IsCallBack world Stream (exchange_of service.peer is.transition.turn) letter (log_of service is.middle)
+        (log_of service is.middle) (log_of service is.transition.after)
     call_back letter is = record {
       reply = is.answer;
       taken = is.taken;

@@ -1,5 +1,5 @@
 -- What a worker does in the conversation of one connection is that its records are answered in turn.
-use Rattle.std.proofs.Common.{◌≡◌, ◌≢◌, ℕ, zero, suc, ◌<◌, Bool, true, false, cond, List, [], ◌∷◌, ◌++◌, length, map, refl, sym, ap, ◌∙◌, subst, arith, inl, inr, append_assoc, eqb}
+use Rattle.std.proofs.Common.{◌≡◌, ◌≢◌, ℕ, zero, suc, ◌<◌, Bool, true, false, cond, List, [], ◌∷◌, ◌++◌, length, map, Some, None, refl, sym, ap, ◌∙◌, subst, arith, inl, inr, append_assoc, eqb}
 use Rattle.std.specs.Prelude.{slice_index_or, Contains}
 use Rattle.std.specs.List.{All}
 use Rattle.std.proofs.lemmas.Bool.Decides.{eqb_tells}
@@ -62,13 +62,13 @@ module _ {H : Type 0} (conduct : Conduct H) where
     pub catalogue : catalogue_of new ≡ catalogue_of old
     pub grown : IsFront (known old) (known new)
 
-  stays_on : (old new : H) → new ≡ old → GoesOn old new
+  pub stays_on : (old new : H) → new ≡ old → GoesOn old new
   stays_on old new same = record {
     catalogue = ap catalogue_of same;
     grown = subst (λ (h : H). IsFront (known old) (known h)) (sym same) (front_self (known old));
   }
 
-  goes_on_then : (a b c : H) → GoesOn a b → GoesOn b c → GoesOn a c
+  pub goes_on_then : (a b c : H) → GoesOn a b → GoesOn b c → GoesOn a c
   goes_on_then a b c one other = record {
     catalogue = other.catalogue ∙ one.catalogue;
     grown = front_then (known a) (known b) (known c) one.grown other.grown;
@@ -101,6 +101,18 @@ module _ {H : Type 0} (conduct : Conduct H) where
         replied = (carries.0, carries.1, succeeded (conduct.told old) (catalogue_of old) job carries.0 (known old) (known new) fulfils.cause);
       }
 
+  same_taken : (a b : Taken) → Some a ≡ Some b → a ≡ b
+  same_taken a b e = cc
+
+  -- the response of a record that took a transfer
+  took_of : (peer : Peer) (response : Response) (turn : Turn) (taken : Taken) (old new : H) → Carries conduct peer response turn old new
+      → turn.taken ≡ Some taken → (bytes : List ℕ) × (response ≡ Takes bytes taken)
+  took_of peer Silence turn taken old new carries took = absurd (let e : None ≡ Some taken = sym carries.2 ∙ took in cc)
+  took_of peer (Bytes bytes) turn taken old new carries took = absurd (let e : None ≡ Some taken = sym carries.2 ∙ took in cc)
+  took_of peer (Takes bytes other) turn taken old new carries took =
+      (bytes, ap (λ (t : Taken). Takes bytes t) (same_taken other taken (sym carries.2 ∙ took)))
+  took_of peer (Open xid job) turn taken old new carries took = absurd (let e : None ≡ Some taken = sym carries.3 ∙ took in cc)
+
   -- a record's link, on logs alone
   pub record Linked (path : Path) (peer : Peer) (turn : Turn) (old new : H) : Type 0 where
     pub front : Log
@@ -108,6 +120,8 @@ module _ {H : Type 0} (conduct : Conduct H) where
     pub goes : IsFront front (known new)
     pub catalogue : catalogue_of new ≡ catalogue_of old
     pub replied : IsReply (reply path (maps_on (catalogue_of old) front) peer turn.message) turn.answer front (known new)
+    pub took : (taken : Taken) → turn.taken ≡ Some taken
+        → (bytes : List ℕ) × (reply path (maps_on (catalogue_of old) front) peer turn.message ≡ Takes bytes taken)
 
   pub linked : (path : Path) (peer : Peer) (turn : Turn) (old new : H) → Link conduct path peer turn old new
       → Linked path peer turn old new
@@ -121,6 +135,9 @@ module _ {H : Type 0} (conduct : Conduct H) where
         catalogue = got.on.catalogue ∙ step.catalogue;
         replied = subst (λ (c : Catalogue). IsReply (reply path (maps_on c (known link.mid)) peer turn.message) turn.answer
             (known link.mid) (known new)) step.catalogue got.replied;
+        took = λ taken is. subst (λ (c : Catalogue). (bytes : List ℕ)
+            × (reply path (maps_on c (known link.mid)) peer turn.message ≡ Takes bytes taken)) step.catalogue
+            (took_of peer (reply path (maps_of (conduct.seen link.mid)) peer turn.message) turn taken link.mid new link.carried is);
       }
 
   pub linked_on : (path : Path) (peer : Peer) (turn : Turn) (old new : H) → Linked path peer turn old new → GoesOn old new
@@ -129,7 +146,7 @@ module _ {H : Type 0} (conduct : Conduct H) where
 
   -- ---- the deeds of a worker
 
-  deed_on : (peer : Peer) (deed : Deed) (old new : H) → DoesDeed conduct peer deed old new → GoesOn old new
+  pub deed_on : (peer : Peer) (deed : Deed) (old new : H) → DoesDeed conduct peer deed old new → GoesOn old new
   deed_on peer (Answered turn) old new does =
       linked_on Stream peer turn old new (linked Stream peer turn old new does.1)
   deed_on peer (Carried taken wire) old new does = record { catalogue = does.catalogue; grown = does.grown }
@@ -210,7 +227,7 @@ module _ {H : Type 0} (conduct : Conduct H) where
 
     -- ---- a conversation that was taken over
 
-    step_on : (step : WorkerStep) (old new : H) → TakesStep conduct counted step old new → GoesOn old new
+    pub step_on : (step : WorkerStep) (old new : H) → TakesStep conduct counted step old new → GoesOn old new
     step_on Learned old new takes = told_on old new takes
     step_on (TookOver number seen) old new takes = told_on old new takes.0
     step_on (Did number peer deed) old new takes = deed_on peer deed old new takes
@@ -237,7 +254,7 @@ kept_in_front : (b : Bool) (deed : Deed) (all front back : List Deed) → all �
 kept_in_front true deed all front back is = ap (λ (l : List Deed). deed ∷ l) is
 kept_in_front false deed all front back is = is
 
-deeds_over : (number : ℕ) (before behind : List WorkerStep)
+pub deeds_over : (number : ℕ) (before behind : List WorkerStep)
     → deeds_of number (before ++ behind) ≡ deeds_of number before ++ deeds_of number behind
 deeds_over number [] behind = refl
 deeds_over number (Learned ∷ before) behind = deeds_over number before behind
@@ -246,7 +263,7 @@ deeds_over number (Did one peer deed ∷ before) behind =
     kept_in_front (eqb one number) deed (deeds_of number (before ++ behind)) (deeds_of number before) (deeds_of number behind)
     (deeds_over number before behind)
 
-exchanges_over : (peer : Peer) (front back : List Deed)
+pub exchanges_over : (peer : Peer) (front back : List Deed)
     → exchanges_of peer (turns_of (front ++ back)) ≡ exchanges_of peer (turns_of front) ++ exchanges_of peer (turns_of back)
 exchanges_over peer [] back = refl
 exchanges_over peer (Answered turn ∷ front) back =
@@ -256,7 +273,7 @@ exchanges_over peer (Read wire ∷ front) back = exchanges_over peer front back
 
 -- ---- whose steps they are
 
-same_number : (a b : ℕ) → eqb a b ≡ true → a ≡ b
+pub same_number : (a b : ℕ) → eqb a b ≡ true → a ≡ b
 same_number a b is = elim (eqb_tells a b) [
   | inl same ↦ same.1
   | inr differ ↦ absurd (let e : false ≡ true = sym differ.0 ∙ is in cc)
@@ -272,7 +289,7 @@ not_closed (stay ∷ stays) others a number zero within is all same =
 not_closed (stay ∷ stays) others a number (suc j) within is all same =
     not_closed stays others a number j (omega (arith, within)) is (λ k d within'. all (suc k) d (omega (arith, within'))) same
 
-not_left : (numbers : List ℕ) (left : List LeftConnection) (one : LeftConnection) (number j : ℕ) → j < length left
+pub not_left : (numbers : List ℕ) (left : List LeftConnection) (one : LeftConnection) (number j : ℕ) → j < length left
     → slice_index_or left j one ≡ one → All (λ other. other ≢ number) (numbers ++ map (λ one. one.number) left)
     → one.number ≡ number → ⊥
 not_left [] [] one number j within is all same = absurd (omega (arith, within))
@@ -297,7 +314,7 @@ one_stay (stay ∷ stays) left a b apart (suc j) zero within within' is is' same
 one_stay (stay ∷ stays) left a b apart (suc j) (suc k) within within' is is' same =
     one_stay stays left a b apart.1 j k (omega (arith, within)) (omega (arith, within')) is is' same
 
-closed_or_left : (stays : List ServedConnection) (left : List LeftConnection) (a : ServedConnection) (one : LeftConnection)
+pub closed_or_left : (stays : List ServedConnection) (left : List LeftConnection) (a : ServedConnection) (one : LeftConnection)
     → AreApart (numbers_of stays left) → (j k : ℕ) → j < length stays → k < length left → slice_index_or stays j a ≡ a
     → slice_index_or left k one ≡ one → one.number ≡ a.number → ⊥
 closed_or_left [] left a one apart j k within within' is is' same = absurd (omega (arith, within))
@@ -337,7 +354,7 @@ module _ {H T : Type 0} (conduct : Conduct H) (counting : Counting H T) (terms :
   alone_step number peer (TookOver one seen) is = tt
   alone_step number peer (Did one other deed) is = λ same. is (same_number one number same)
 
-  alone : (number : ℕ) (peer : Peer) (steps : List WorkerStep) → All (IsDoneWith number peer) steps
+  pub alone : (number : ℕ) (peer : Peer) (steps : List WorkerStep) → All (IsDoneWith number peer) steps
       → HavePeer conduct counting.counted number peer steps
   alone number peer [] all = tt
   alone number peer (step ∷ steps) all = (

@@ -24,9 +24,8 @@ yp_procedure path number =
     else (if number == 11 then Some Maplist else None)))))))))))
 
 abbrev pub make_program_procedure : ℕ → Option Procedure
-make_program_procedure number =
-    if number == 0 then Some Null else (if number == 1 then Some Make
-    else (if number == 2 then Some MakeNamed else None))
+make_program_procedure number = if number == 0 then Some Null
+    else (if number == 1 then Some Make else (if number == 2 then Some MakeNamed else None))
 
 -- the programs with their versions
 abbrev pub programs : Path → ProgramTable Procedure

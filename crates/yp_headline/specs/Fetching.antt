@@ -40,8 +40,7 @@ RowsAre [] left = Reads Boolean false left ⊎ Reads (Sequence Boolean stat) (tr
 RowsAre (row ∷ rows) left = (next : Remaining)
     × (reading (Sequence Boolean key_val) left ≡ Ok ((true, (pos 1, (row.1, row.0))), next)) × RowsAre rows next
 
--- What replies to the calls from a number on say: all rows and then the order, over a stream; or each row, that none is
--- behind it, and the order.
+-- What replies to the calls from a number on say: all rows, and the order; or each row, the end, and the order.
 abbrev pub SayRows : Path → (xid order : ℕ) → List Row → (replies : List (List ℕ)) → Type 0
 SayRows Stream xid order rows (all ∷ again ∷ []) =
     Says xid (RowsAre rows) all × Says (xid + 1) (Reads resp_order (pos 1, order)) again
@@ -53,8 +52,7 @@ SayRows _ _ _ _ _ = ⊥
 
 -- A datagram begins as the reply to the call with a number.
 abbrev pub IsAwaited : ℕ → List ℕ → Type 0
-IsAwaited xid mail =
-    (length mail ≤ datagram_max) × Reads (Sequence U32 U32) (xid, 1) (record { at = 0; bytes = mail })
+IsAwaited xid mail = (length mail ≤ datagram_max) × Reads (Sequence U32 U32) (xid, 1) (record { at = 0; bytes = mail })
 
 -- These replies to the calls from a number on came in turn: whole records at the front of a stream, or datagrams, each
 -- the first that begins so behind the one before.

@@ -8,7 +8,7 @@ use Rattle.yp_headline.specs.World.{World}
 use Rattle.yp_headline.specs.Serving.{IsServed, AreServed}
 use Rattle.yp_headline.specs.Publishing.{IsAmong, IsPublishedLog, OfFile, StandsBy, AreLeft}
 use Rattle.yp_headline.specs.Sources.{Succeeded}
-use Rattle.yp_headline.specs.Calling.{IsCalledBack}
+use Rattle.yp_headline.specs.Calling.{IsCalledBack, IsAskedFor}
 use Rattle.yp_headline.specs.Storing.{stood_for}
 
 -- Replies. There is one log of published versions, in which the orders of each map rise. Each connection was answered
@@ -38,3 +38,7 @@ pub record Crashes (world : World) (begun log : Log) : Type 0 where
 pub record Transfers (world : World) (begun log : Log) : Type 0 where
   pub done : (number : ℕ) → IsAmong world.done number → Succeeded world log number
   pub called_back : world.posted ≢ [] → IsCalledBack world begun log
+
+-- Call backs. Each letter that was posted calls back a transfer that a call took, which came in a stream or a datagram.
+abbrev pub CallBacks : World → (begun log : Log) → Type 0
+CallBacks world begun log = AllByRecursion (IsAskedFor world begun log) world.posted

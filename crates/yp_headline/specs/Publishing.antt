@@ -81,8 +81,7 @@ OfFile number stores P = IfSome (slice_get stores number) (OfStore P)
 
 -- These bytes stand for what a log shows of a map, or for a version that is new behind it.
 abbrev pub StandsBy : World → ℕ → Log → List ℕ → Type 0
-StandsBy world number log image =
-    (stood_for image ≡ Some (shown number log))
+StandsBy world number log image = (stood_for image ≡ Some (shown number log))
     ⊎ ((version : MapVersion) × IsNew world number log version × (stood_for image ≡ Some (Some version)))
 
 -- Of these moments of a map's file, the last one first: each has a front of the log, which is a front of that of the
@@ -90,7 +89,6 @@ StandsBy world number log image =
 -- or nothing was published yet, and it might have been left at first.
 abbrev pub AreLeft : World → ℕ → (first : DiskState) → List DiskState → (begun log : Log) → Type 0
 AreLeft world number first [] begun log = IsFront begun log
-AreLeft world number first (moment ∷ earlier) begun log = Between begun log (λ front.
-    ((image : List ℕ) → IsImage moment image
-    → (IsImage first image × (front ≡ begun)) ⊎ StandsBy world number front image)
+AreLeft world number first (moment ∷ earlier) begun log = Between begun log (λ front. ((image : List ℕ)
+    → IsImage moment image → (IsImage first image × (front ≡ begun)) ⊎ StandsBy world number front image)
     × AreLeft world number first earlier begun front)

@@ -26,8 +26,7 @@ pub record Exchange : Type 0 where
   pub call : List ℕ
   pub reply : Option (List ℕ)
 
--- A version of a map was published, and a log shows it; its order is over that of the one that was shown at a moment
--- between.
+-- A version of a map was published, and a log shows it; its order is over that of one that was shown in between.
 pub record IsPublished (map : ℕ) (front next : Log) : Type 0 where
   pub version : MapVersion
   pub before : Log
@@ -46,9 +45,8 @@ IsReply (Open xid job) replied front next =
 -- Calls were answered one after the other, each on a front of the log that begins with the one before.
 abbrev pub AnswersInTurn : Catalogue → Path → List Exchange → (known log : Log) → Type 0
 AnswersInTurn catalogue path [] known log = IsFront known log
-AnswersInTurn catalogue path (one ∷ more) known log =
-    (front : Log) × (next : Log) × IsFront known front × IsFront front next
-    × IsReply (answer path (maps_on catalogue front) one.caller one.call) one.reply front next
+AnswersInTurn catalogue path (one ∷ more) known log = (front : Log) × (next : Log) × IsFront known front
+    × IsFront front next × IsReply (answer path (maps_on catalogue front) one.caller one.call) one.reply front next
     × AnswersInTurn catalogue path more next log
 
 -- ---- a connection
@@ -56,16 +54,14 @@ AnswersInTurn catalogue path (one ∷ more) known log =
 -- bytes begin with these calls, each a record in fragments, and the rest is behind them
 abbrev pub BeginsWith : List ℕ → List Exchange → List ℕ → Type 0
 BeginsWith bytes [] rest = bytes ≡ rest
-BeginsWith bytes (one ∷ more) rest =
-    (first : List ℕ) × (others : List ℕ) × Fragments record_max one.call first × (bytes ≡ first ++ others)
-    × BeginsWith others more rest
+BeginsWith bytes (one ∷ more) rest = (first : List ℕ) × (others : List ℕ) × Fragments record_max one.call first
+    × (bytes ≡ first ++ others) × BeginsWith others more rest
 
 abbrev pub sent_over : List Exchange → List ℕ
 sent_over exchanges = flat_map (λ one. sent_reply one.reply) exchanges
 
 -- A connection was served: the calls at the front of what came were answered in turn, and the replies were sent, or a
--- front of them. Where it wasn't cut short all of both is so: no whole record is behind the calls, and no reply is
--- missing.
+-- front of them. Where it wasn't cut short that is all: no whole record is behind the calls, and no reply is missing.
 pub record IsServed (catalogue : Catalogue) (known log : Log) (connection : Connection) : Type 0 where
   pub exchanges : List Exchange
   pub callers : AllByRecursion (λ one. one.caller ≡ connection.peer) exchanges
@@ -81,9 +77,8 @@ pub record IsServed (catalogue : Catalogue) (known log : Log) (connection : Conn
 -- The replies to datagrams were sent, one each, but for those that were lost.
 abbrev pub AreSent : List Datagram → List Exchange → Type 0
 AreSent [] [] = ⊤
-AreSent (mail ∷ mails) (one ∷ more) =
-    (one.caller ≡ mail.peer) × (one.call ≡ mail.came) × (mail.sent ≡ (if mail.lost then None else one.reply))
-    × AreSent mails more
+AreSent (mail ∷ mails) (one ∷ more) = (one.caller ≡ mail.peer) × (one.call ≡ mail.came)
+    × (mail.sent ≡ (if mail.lost then None else one.reply)) × AreSent mails more
 AreSent _ _ = ⊥
 
 -- Datagrams were answered in turn.

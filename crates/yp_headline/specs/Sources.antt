@@ -49,8 +49,7 @@ Answers catalogue path caller (call ∷ calls) (reply ∷ replies) known last = 
 Answers _ _ _ _ _ _ _ = ⊥
 
 -- a source of what a server gave: a log that rises, each of whose versions some file stands for, on whose fronts the
--- calls were answered, from a first one to a last one, and these were the replies; the names that the calls have are
--- within their limits
+-- calls, with names within their limits, were answered, from a first one to a last one, and these were the replies
 pub record Source (name : Name) {server : Dialed} {version : MapVersion} (gives : Gives server version) : Type 0 where
   pub names : (length name.0 ≤ name_max) × (length name.1 ≤ name_max)
   pub catalogue : Catalogue
@@ -71,9 +70,8 @@ pub record Source (name : Name) {server : Dialed} {version : MapVersion} (gives 
 -- to the last, but for the mark.
 abbrev pub IsOfSource : {server : Dialed} {version : MapVersion} → World → ℕ → Gives server version
     → (stored : MapVersion) → Type 0
-IsOfSource world number gives stored =
-    (name : Name) → slice_get world.catalogue.maps number ≡ Some name → (source : Source name gives)
-    → (origin : MapVersion) × IsMarked origin stored
+IsOfSource world number gives stored = (name : Name) → slice_get world.catalogue.maps number ≡ Some name
+    → (source : Source name gives) → (origin : MapVersion) × IsMarked origin stored
     × ((front : Log) → IsFront source.first front → IsFront front source.last
     → map_check (maps_on source.catalogue front) name.0 name.1 ≡ Ok origin)
 

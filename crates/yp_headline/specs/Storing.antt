@@ -42,8 +42,7 @@ are_rising last (row ∷ rows) = is_over last row.0 && are_rising (Some row.0) r
 abbrev pub version_read : Value body_kind → List Row × Remaining → Option MapVersion
 version_read head rows =
     if are_rising None rows.0 && length rows.1.bytes == 0
-    then Some (record { order = head.1.0; master = head.1.1.0; secure = head.0 == 2; rows = rows.0 })
-    else None
+    then Some (record { order = head.1.0; master = head.1.1.0; secure = head.0 == 2; rows = rows.0 }) else None
 
 abbrev pub body_version : List ℕ → Option MapVersion
 body_version bytes = with_read (reading body_kind (record { at = 0; bytes = bytes })) (λ head.
@@ -72,9 +71,8 @@ body_in place len file =
 
 abbrev pub version_in : ℕ → List ℕ → Option (Option MapVersion)
 version_in cell file =
-    if is_none (first_nonzero (take 7 (drop (cell + 1) file)))
-    then option_map (λ version. Some version) (body_in (number_in (cell + 16) file) (number_in (cell + 24) file) file)
-    else None
+    if is_none (first_nonzero (take 7 (drop (cell + 1) file))) then option_map (λ version. Some version)
+    (body_in (number_in (cell + 16) file) (number_in (cell + 24) file) file) else None
 
 -- of two cells that count the one with the greater generation
 abbrev pub greater_in : (first second : ℕ) → List ℕ → Option (Option MapVersion)
@@ -84,7 +82,6 @@ greater_in first second file =
 -- what a file stands for: a version, or none; nothing is said of one that is damaged
 abbrev pub stood_for : List ℕ → Option (Option MapVersion)
 stood_for file =
-    if nat_lt most_bytes (length file) then None else (if nat_lt (length file) 64 then Some None
-    else (if counts 0 file
+    if nat_lt most_bytes (length file) then None else (if nat_lt (length file) 64 then Some None else (if counts 0 file
     then (if counts 32 file then greater_in (number_in 8 file) (number_in 40 file) file else version_in 0 file)
     else (if counts 32 file then version_in 32 file else Some None)))

@@ -5,8 +5,7 @@ use Rattle.yp_texts.specs.declared.reading.Reading.{Reading}
 use Rattle.yp_texts.specs.Lines.{lines, goes_on, before_last_byte}
 use Rattle.yp_texts.specs.Rows.{rows_of_line, goes_over_lines}
 
--- A line before others. Where it goes on, it is one line with the first of them, in which the backslash and the line
--- feed are one space.
+-- A line before others. Where it goes on it is one with the first of them, with a space for backslash and line feed.
 abbrev pub line_before : List ℕ → List (List ℕ) → List (List ℕ)
 line_before line [] = line ∷ []
 line_before line (next ∷ more) =

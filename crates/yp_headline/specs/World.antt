@@ -50,14 +50,20 @@ pub record Dialed : Type 0 where
   pub path : Path
   pub came : Came path
 
+-- a stream that was to come to a listener: its caller, and its bytes
+pub record Incoming : Type 0 where
+  pub peer : Peer
+  pub came : List ℕ
+
 -- the own name with the names of the maps, and the store of each; the texts by their names, where they are told, and
--- how that of a map is read; the connections that were served, and inbox by inbox the datagrams; the servers that were
--- asked for maps; the datagrams that were posted; and the maps whose transfer was told as done
+-- how that of a map is read; the streams that were to come, the connections that were served, and inbox by inbox the
+-- datagrams; the servers that were asked for maps; what was posted; and the maps whose transfer was told as done
 pub record World : Type 0 where
   pub catalogue : Catalogue
   pub stores : List Store
   pub text : List ℕ → Option (List ℕ)
   pub reading : List ℕ → Reading
+  pub coming : List Incoming
   pub connections : List Connection
   pub datagrams : List (List Datagram)
   pub dialed : List Dialed

@@ -58,11 +58,15 @@ pub fn revnet_holds<S: Source, K: Sink, D: Disk, C: Clock, A: Dial, I: Inbox, T:
     ensures { RevnetHolds (seeing S.Source K.Sink D.Disk C.Clock A.Dial I.Inbox T.Texts) }
 {}
 
-/// What `serve` does with its connections, its datagrams and its files is what the headline says of replies and of
-/// crashes.
+/// What `serve` does with its connections, its datagrams, its files and its call backs is what the headline says of
+/// replies, of crashes and of call backs.
 pub fn serve_holds<S: Source, K: Sink, D: Disk, C: Clock, A: Dial, I: Inbox, T: Texts>()
     ensures { ServeHolds (seeing S.Source K.Sink D.Disk C.Clock A.Dial I.Inbox T.Texts) }
-{}
+{
+    read_is_body();
+    fetched_is_shown();
+    shown_between();
+}
 
 /// What `run` ensures of a command, in its clause `does`, is what the headline says.
 pub fn run_holds<S: Source, K: Sink, D: Disk, C: Clock, A: Dial, I: Inbox, T: Texts>()

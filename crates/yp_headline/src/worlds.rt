@@ -23,7 +23,7 @@ pub fn crashes_are_false()
     first_is_one();
 }
 
-/// Worlds of transfers of which it is false.
+/// Worlds of transfers, and of call backs, of which it is false.
 pub fn transfers_are_false()
     ensures { TransfersAreFalse }
 {

@@ -11,3 +11,6 @@ mod Aging
 mod Using
 pub mod Stating
 pub mod Noting
+mod Knowing
+mod Queues
+pub mod Telling

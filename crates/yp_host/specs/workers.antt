@@ -5,3 +5,5 @@ pub mod Workers
 pub mod Charges
 pub mod Wires
 pub mod Uses
+pub mod CallBacks
+pub mod Statuses

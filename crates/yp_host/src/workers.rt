@@ -13,7 +13,12 @@
 //! makes ended in SUCC is at most how many built versions were shown. Each is charged under the lock where it came
 //! about, and that stands on [`Account::into_parts`], on [`SharedDesk::close`] and on
 //! [`Locked::close`](yp_publisher::sharing::Locked::close).
+//!
+//! Whom the shared dial told what: a host that carried a transfer out leaves its caller and its status in a queue, and
+//! whoever has the desk next tells all that wait. That each status is the one that the transfer came to stands on the
+//! relation `carried`, too, and that what was told is what hosts left, each as often, on [`SharedDesk::close`].
 
+mod call_backs;
 mod carrying;
 mod charges;
 mod desk;
@@ -23,7 +28,8 @@ mod making;
 mod outcome;
 mod setting;
 
-pub use charges::{Account, Charges};
+pub use call_backs::{CallBack, CallBackPass, PendingCallBacks};
+pub use charges::{Account, Charges, Counted};
 pub use desk::{FailedSources, ReachedOrders, SharedDesk, Supplies, UnreadTexts};
 pub use host::WorkerHost;
 pub use journal::{Event, Events, Journal};

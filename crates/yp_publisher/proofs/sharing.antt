@@ -5,5 +5,3 @@ mod Telling
 mod Leading
 mod Sourcing
 mod Tracing
-pub mod Fronts
-pub mod Adding

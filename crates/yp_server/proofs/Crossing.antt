@@ -9,13 +9,29 @@ use Rattle.std.proofs.sync.ledger.Book.TheSendSync.{the_send as book_send}
 use Rattle.atomic_table.proofs.shared.Shared.TheSendSync.{the_sync as table_sync}
 use Rattle.atomic_table.proofs.shared.Seat.TheSendSync.{the_send as seat_send}
 use Rattle.atomic_table.proofs.send_lease.SendLease.TheSendSync.{the_sync as lease_sync}
+use Rattle.logbook.proofs.tokens.Seen.TheSendSync.{the_send as seen_send}
+use Rattle.logbook.proofs.tokens.Pen.TheSendSync.{the_send as pen_send}
+use Rattle.logbook.proofs.word.Word.TheSendSync.{the_send as word_send}
 use Rattle.std.specs.declared.sync.ledger.Ledger as ledger
+use Rattle.yp_io.specs.declared.clock.Clock as clock
+use Rattle.yp_io.specs.declared.dial.Dial as dial
+use Rattle.yp_io.specs.declared.disk.Disk as disk
 use Rattle.yp_io.specs.declared.hall.Hall as hall
 use Rattle.yp_io.specs.declared.hall.Watch as watch
 use Rattle.yp_io.specs.declared.ready.TrySource as try_source
 use Rattle.yp_io.specs.declared.ready.TrySink as try_sink
+use Rattle.yp_io.specs.declared.stream.Sink as sink
+use Rattle.yp_io.specs.declared.stream.Source as source
+use Rattle.yp_io.specs.declared.texts.Texts as texts
+use Rattle.yp_board.specs.declared.history.Naming as naming
+use Rattle.yp_board.specs.declared.view.Show as show
+use Rattle.yp_board.specs.declared.view.Tell as tell
 use Rattle.yp_board.specs.declared.view.View as view
+use Rattle.yp_board.specs.contracts.history.Front as HistoryFront
+use Rattle.yp_board.specs.contracts.history.History as History
+use Rattle.yp_publisher.specs.declared.sharing.locked.Accounts as accounts
 use Rattle.yp_publisher.specs.declared.sharing.locked.Site as site
+use Rattle.yp_publisher.specs.contracts.sharing.locked.Locked as Locked
 use Rattle.yp_answer.specs.declared.session.host.Host as host
 use Rattle.yp_answer.specs.contracts.session.conversation.Conversation as Conversation
 use Rattle.yp_worker.specs.declared.catch_up.CatchUp as catch_up
@@ -31,6 +47,14 @@ use Rattle.yp_worker.specs.contracts.datagrams.pending.PendingTransfers as Pendi
 use Rattle.yp_worker.specs.contracts.datagrams.pending.TransferPass as TransferPass
 use Rattle.yp_worker.specs.contracts.datagrams.server.MailServer as MailServer
 use Rattle.yp_worker.specs.contracts.datagrams.carrier.TransferCarrier as TransferCarrier
+use Rattle.yp_host.specs.contracts.workers.call_backs.PendingCallBacks as PendingCallBacks
+use Rattle.yp_host.specs.contracts.workers.call_backs.CallBackPass as CallBackPass
+use Rattle.yp_host.specs.declared.workers.desk.Supplies as supplies
+use Rattle.yp_host.specs.contracts.workers.charges.Account as Account
+use Rattle.yp_host.specs.contracts.workers.charges.Charges as Charges
+use Rattle.yp_host.specs.contracts.workers.desk.SharedDesk as SharedDesk
+use Rattle.yp_host.specs.contracts.workers.host.WorkerHost as WorkerHost
+use Rattle.yp_host.specs.contracts.workers.journal.Journal as Journal
 use Rattle.yp_server.specs.contracts.datagrams.DatagramWorker as DatagramWorker
 use Rattle.yp_server.specs.contracts.workers.ConnectionWorker as ConnectionWorker
 use Rattle.yp_server.specs.contracts.workers.ServerWorker as ServerWorker
@@ -73,6 +97,12 @@ transfer_pass_send = search (sendable, crosses, seat_send) depth 60 fits 50000
 
 pending_sync : (I : RattleType) (sites : site.Ghosts I.Denot) → IsSync (PendingTransfers.the_row I sites)
 pending_sync I sites = search (sendable, crosses, table_sync, lease_sync) depth 60 fits 50000
+
+call_back_pass_send : IsSend CallBackPass.the_row
+call_back_pass_send = search (sendable, crosses, seat_send) depth 60 fits 50000
+
+call_backs_sync : IsSync PendingCallBacks.the_row
+call_backs_sync = search (sendable, crosses, table_sync, lease_sync) depth 60 fits 50000
 
 mail_server_send : (a : NamedLft) (I H R Count : RattleType) (sites : site.Ghosts I.Denot) (learners : catch_up.Ghosts H.Denot Count.Denot)
     (hosts : host.Ghosts H.Denot) (views : view.Ghosts H.Denot) → IsSend H → IsSync R
@@ -125,3 +155,49 @@ pub lent_sync : (a : NamedLft) (I E H G L R Sum Front Count In Out Closer Waker 
 lent_sync a I E H G L R Sum Front Count In Out Closer Waker Watch receptions sites out ended sums learners hosts views halls source sink watches j e l gate sum
     front in' out' waker rt =
     search (sendable, crosses, listening_send) depth 60 fits 50000
+
+front_send : (I E : RattleType) (names : naming.Ghosts I.Denot) → IsSend I → IsSend (HistoryFront.the_row I E names)
+front_send I E names j = search (sendable, crosses, seen_send) depth 60 fits 50000
+
+history_send : (I E : RattleType) (names : naming.Ghosts I.Denot) → IsSend I → IsSend (History.the_row I E names)
+history_send I E names j = search (sendable, crosses, front_send, pen_send, word_send) depth 60 fits 50000
+
+charges_send : (I : RattleType) (site : accounts.Ghosts I.Denot) (supplied : supplies.Ghosts I.Denot) → IsSend I
+    → IsSend (Charges.the_row I site supplied)
+charges_send I site supplied j =
+    search (sendable, crosses, share_send, front_send, call_back_pass_send) depth 60 fits 50000
+
+pub account_send : (I B Reader Front Knowledge : RattleType) (accounted : accounts.Ghosts I.Denot)
+    (supplied : supplies.Ghosts I.Denot) (tells : tell.Ghosts B.Denot Reader.Denot Front.Denot Knowledge.Denot)
+    (shows : show.Ghosts B.Denot) (views : view.Ghosts Reader.Denot) → IsSend I → IsSend Front
+    → IsSend (Account.the_row I B Reader Front Knowledge accounted supplied tells shows views)
+account_send I B Reader Front Knowledge accounted supplied tells shows views j front =
+    search (sendable, crosses, charges_send) depth 60 fits 50000
+
+desk_send : (I A T C In Out : RattleType) (sites : site.Ghosts I.Denot) (accounted : accounts.Ghosts I.Denot)
+    (supplied : supplies.Ghosts I.Denot) (dials : dial.Ghosts A.Denot In.Denot Out.Denot) (sources : source.Ghosts In.Denot)
+    (sinks : sink.Ghosts Out.Denot) (reads : texts.Ghosts T.Denot) (clocks : clock.Ghosts C.Denot) → IsSend I → IsSend A → IsSend T
+    → IsSend C → IsSend (SharedDesk.the_row I A T C In Out sites accounted supplied dials sources sinks reads clocks)
+desk_send I A T C In Out sites accounted supplied dials sources sinks reads clocks j a t c =
+    search (sendable, crosses, book_send, history_send, call_back_pass_send) depth 60 fits 50000
+
+locked_send : (I D B : RattleType) (sites : site.Ghosts I.Denot) (accounted : accounts.Ghosts I.Denot)
+    (disks : disk.Ghosts D.Denot) (shows : show.Ghosts B.Denot) → IsSend I → IsSend D → IsSend B
+    → IsSend (Locked.the_row I D B sites accounted disks shows)
+locked_send I D B sites accounted disks shows j d b =
+    search (sendable, crosses, share_send, book_send, front_send) depth 60 fits 50000
+
+journal_send : IsSend Journal.the_row
+journal_send = search (sendable, crosses) depth 60 fits 50000
+
+pub host_send : (a : NamedLft) (I D B A T C R Reader Front Knowledge In Out : RattleType) (sites : site.Ghosts I.Denot)
+    (accounted : accounts.Ghosts I.Denot) (supplied : supplies.Ghosts I.Denot) (disks : disk.Ghosts D.Denot)
+    (tells : tell.Ghosts B.Denot Reader.Denot Front.Denot Knowledge.Denot) (shows : show.Ghosts B.Denot)
+    (views : view.Ghosts Reader.Denot) (dials : dial.Ghosts A.Denot In.Denot Out.Denot) (sources : source.Ghosts In.Denot)
+    (sinks : sink.Ghosts Out.Denot) (reads : texts.Ghosts T.Denot) (clocks : clock.Ghosts C.Denot) → IsSend I → IsSend D → IsSend B
+    → IsSend A → IsSend T → IsSend C → IsSend R → IsSend Reader
+    → IsSend (WorkerHost.the_row a I D B A T C R Reader Front Knowledge In Out sites accounted supplied disks tells shows views
+    dials sources sinks reads clocks)
+host_send a I D B A T C R Reader Front Knowledge In Out sites accounted supplied disks tells shows views dials sources sinks reads clocks
+    j d b h t c r reader =
+    search (sendable, crosses, locked_send, desk_send, call_backs_sync, journal_send, charges_send) depth 60 fits 50000

@@ -1,7 +1,7 @@
 -- Workers at their places, and what work leaves of them.
 use Rattle.std.proofs.Common.{◌≡◌, ℕ, zero, suc, ◌+◌, ◌<◌, get_or, List, [], ◌∷◌, ◌++◌, length, map, reverse, refl, sym, ap, ◌∙◌, subst, append_assoc, arith}
 use Rattle.std.specs.List.{AllZip}
-use Rattle.std.proofs.lemmas.List.{append-nil, map-append, replicate_more, reverse-append, same_from_push}
+use Rattle.std.proofs.lemmas.List.{append-nil, length-append, length-replicate, map-append, replicate_more, reverse-append, same_from_push}
 use Rattle.yp_worker.specs.inside.Receptions.{Passed}
 use Rattle.yp_server.specs.declared.datagrams.DatagramWorker.{DatagramWorker}
 use Rattle.yp_server.specs.declared.workers.ServerWorker.{ServerWorker}
@@ -41,6 +41,16 @@ module _ {J E H G I R M F N : Type 0} where
       → old ≡ workers_of datagram_workers 0 held → new ≡ old ++ connections_of others held → new ≡ workers_of datagram_workers others held
   others_behind datagram_workers others held old new was is =
       is ∙ ap (λ (l : List (ServerWorker J E H G I R M F N)). l ++ connections_of others held) (was ∙ append-nil (map (λ m. Datagrams m) datagram_workers))
+
+  -- so many more are there
+  pub connections_more : (others : ℕ) (held : Passed) (old new : List (ServerWorker J E H G I R M F N))
+      → new ≡ old ++ connections_of others held → length new ≡ length old + others
+  connections_more others held old new is =
+      let more : List (ServerWorker J E H G I R M F N) = connections_of others held in
+      let long = ap length is ∙ length-append old more in
+      let one : ServerWorker J E H G I R M F N = Connections held in
+      let count = length-replicate others one in
+      omega (arith, long, count)
 
   -- the last of workers is one of connections
   pub last_connection : (datagram_workers : List (DatagramWorker I J H R N)) (others : ℕ) (held : Passed) (all front : List (ServerWorker J E H G I R M F N))

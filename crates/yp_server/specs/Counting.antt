@@ -1,8 +1,10 @@
 -- What the workers of a server counted together, and what covers it.
-use Rattle.std.specs.Prelude.{◌≡◌, ◌+◌, ◌<◌, ◌≤◌, ◌||◌, ℕ, Bool, false, List, [], ◌∷◌, ◌++◌, fold, Option, IsSome}
+use Rattle.std.specs.Prelude.{◌≡◌, ◌+◌, ◌<◌, ◌≤◌, ◌||◌, ℕ, Bool, false, List, [], ◌∷◌, ◌++◌, fold, Contains, Option}
+use Rattle.std.specs.Prelude.{IsSome, IfSome}
 use Rattle.std.specs.List.{All}
 use Rattle.yp_io.specs.Counts.{last_count}
 use Rattle.yp_io.specs.Disk.{History}
+use Rattle.yp_io.specs.Dials.{DialTells}
 use Rattle.yp_map_file.specs.Commits.{generation_max}
 use Rattle.yp_map_file.specs.Slots.{HasGeneration}
 use Rattle.yp_board.specs.Catalogues.{Catalogue}
@@ -16,12 +18,18 @@ use Rattle.yp_worker.specs.datagrams.Queues.{WeighTheSame}
 use Rattle.yp_worker.specs.Summing.{Counting, SumsUp, counting_of}
 use Rattle.yp_host.specs.declared.workers.outcome.Totals.{Totals}
 use Rattle.yp_host.specs.workers.Workers.{WorkerState}
-use Rattle.yp_host.specs.workers.Charges.{no_totals, totals_plus, totals_of}
+use Rattle.yp_host.specs.declared.workers.charges.Counted.{Counted}
+use Rattle.yp_host.specs.declared.workers.call_backs.CallBack.{CallBack}
+use Rattle.yp_host.specs.workers.CallBacks.{version_in}
+use Rattle.yp_host.specs.workers.Wires.{CameByWire}
+use Rattle.yp_host.specs.workers.Uses.{IsUsedForTransfers}
+use Rattle.yp_host.specs.workers.Charges.{nothing_counted, counted_plus, counted_of}
+use Rattle.yp_transfer.specs.HostTable.{HostList}
 use Rattle.yp_server.specs.Serving.{ServesDatagrams, CarriesBeside}
 
 -- how the hosts of workers count
-abbrev pub count_totals : {V : Type 0} → Counting (WorkerState V) Totals
-count_totals = counting_of totals_of no_totals totals_plus
+abbrev pub count_told : {V : Type 0} → Counting (WorkerState V) Counted
+count_told = counting_of counted_of nothing_counted counted_plus
 
 -- Datagrams were served by a host that had counted nothing yet, and has counted this then.
 pub record CountsDatagrams {H T : Type 0} (conduct : Conduct H) (counting : Counting H T) (catalogue : Catalogue)
@@ -78,6 +86,21 @@ pub record CountsAll {H T : Type 0} (conduct : Conduct H) (counting : Counting H
   pub of_datagrams : CountsInboxes conduct counting terms.catalogue terms.starts log turns fault before after transfers
       datagrams
   pub all_is : all ≡ fold counting.plus connections (transfers ∷ datagrams)
+
+-- What all hosts did and counted, in these totals, and what a dial was used for meanwhile: transfers of these maps
+-- alone. Each caller was told what a host left it, and each that a host left something was told it, as often as it was
+-- left; and each version that was shown by a transfer whose caller was told so came by a wire.
+pub record CountsAndTells {V : Type 0} (conduct : Conduct (WorkerState V)) (terms : Terms) (door door' : ListenTells)
+    (calls : ℕ) (log : Log) (turns : ℕ) (fault : Bool) (before after : List InboxTells) (totals : Totals)
+    (hosts : HostList) (dial dial' : DialTells) : Type 0 where
+  pub told : List CallBack
+  pub counted : CountsAll conduct count_told terms door door' calls log turns fault before after
+      (record { totals = totals; told = told })
+  pub posted : List CallBack
+  pub used : IsUsedForTransfers hosts terms.catalogue.maps posted dial dial'
+  pub same : WeighTheSame posted told
+  pub came : (call_back : CallBack) → Contains told call_back
+      → IfSome (version_in call_back) (CameByWire dial.past dial'.past)
 
 -- A disk tells what a crash may leave, its count of faults doesn't stand at its last value, and the last generation of
 -- its file isn't reached.

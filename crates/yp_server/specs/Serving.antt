@@ -24,7 +24,7 @@ abbrev pub conduct_at : {V : Type 0} → (V → Seen) → (V → V → Type 0) �
 conduct_at seen stepped text hosts =
     conduct_of (λ host. seen host.reader) (λ host. texts_alone text) counts_of (Stepped stepped)
     (WorkerMakesMap seen text)
-    (λ taken peer. WorkerTransfersMap seen hosts taken)
+    (WorkerTransfersMap seen hosts)
 
 -- A reader of these maps knows what was shown at the start.
 pub record IsAtStart (catalogue : Catalogue) (starts : Log) (seen : Seen) : Type 0 where

@@ -1,6 +1,6 @@
 //! The datagrams of inboxes, answered beside the connections.
 
-ghost use Rattle.std.specs.Prelude.{◌≡◌, ◌≤◌, ◌<◌, ◌||◌, ◌∷◌, ◌++◌, [], false, map, reverse, length};
+ghost use Rattle.std.specs.Prelude.{◌≡◌, ◌≤◌, ◌<◌, ◌+◌, ◌||◌, ◌∷◌, ◌++◌, [], false, map, reverse, length};
 ghost use Rattle.std.specs.Prelude.{vec_len, vec_capacity};
 ghost use Rattle.std.specs.List.{AllByRecursion, list_any};
 ghost use Rattle.yp_board.specs.Views.{IsFront};
@@ -10,6 +10,7 @@ ghost use Rattle.yp_worker.specs.Summing.{counting_of};
 ghost use Rattle.yp_server.specs.inside.Workers.{AnswersDatagrams};
 ghost use Rattle.yp_server.specs.inside.Handing.{HandsOverMail, HandsOverMails};
 
+use crate::hosts::RetiredHost;
 use std::sync::Wait;
 use yp_io::Inbox;
 use yp_publisher::sharing::Site;
@@ -90,8 +91,8 @@ impl<'a, I: Inbox, J: Site, H: CatchUp, R: Wait> DatagramWorker<'a, I, J, H, R> 
         }
     }
 
-    /// Answers datagrams until all turns are taken or the inbox has failed, and tells the carrier then. It takes no lock
-    /// of a listener.
+    /// Answers datagrams until all turns are taken or the inbox has failed, and tells the carrier then. It takes no
+    /// lock of a listener.
     pub(crate) fn work(&mut self)
         ensures { AnswersDatagrams (conduct_by H.Host) H.counted (box_by I.Inbox) I.faults self.old self.new }
     {
@@ -108,12 +109,13 @@ impl<'a, I: Inbox, J: Site, H: CatchUp, R: Wait> DatagramWorker<'a, I, J, H, R> 
 
 impl<'a, I, J: Site, H: HandsOver + Drop, R: Wait> DatagramWorker<'a, I, J, H, R> {
     /// Takes in what workers that have handed over held of the queue of transfers, carries out what still waits there,
-    /// adds what its host has counted to a sum, and hands back what came of the inbox, and what all these held.
+    /// adds what its host has counted to a sum, and hands back what came of the inbox, what all these held, and the
+    /// host.
     pub(crate) fn hand_over(
         self,
         others: TransferPass,
         sum: &mut H::Sum,
-    ) -> (EndedInbox<I>, TransferPass)
+    ) -> (EndedInbox<I>, TransferPass, RetiredHost<H>)
         requires queue { others.queue ≡ self.server.holding.queue }
         ensures mailed { (result.0.inbox ≡ self.entry.inbox) × (result.0.fault ≡ self.entry.fault) }
         ensures handed { HandsOverMail (conduct_by H.Host) (counting_of H.counted H.none H.plus) H.summed H.reached
@@ -130,35 +132,39 @@ impl<'a, I, J: Site, H: HandsOver + Drop, R: Wait> DatagramWorker<'a, I, J, H, R
         server.carry_rest();
         let (mut host, pass) = server.into_parts();
         host.hand_over(sum);
-        (EndedInbox { inbox, fault }, pass)
+        (EndedInbox { inbox, fault }, pass, RetiredHost::new(host))
     }
 }
 
-/// Adds what the host of a carrier has counted to a sum, and hands back what it held of the queue of transfers.
+/// Adds what the host of a carrier has counted to a sum, and hands back what it held of the queue of transfers, and the
+/// host.
 pub(crate) fn hand_over_carrier<J: Site, H: HandsOver + Drop, R: Wait>(
     carrier: TransferCarrier<'_, J, H, R>,
     sum: &mut H::Sum,
-) -> TransferPass
-    ensures pass { result ≡ carrier.entry.holding }
+) -> (TransferPass, RetiredHost<H>)
+    ensures pass { result.0 ≡ carrier.entry.holding }
     ensures added { H.summed sum.new ≡ H.plus (H.summed sum.old) (H.counted carrier.entry.host) }
     ensures covered { IsFront (H.seen carrier.entry.host).known (H.reached sum.new) }
     ensures kept { IsFront (H.reached sum.old) (H.reached sum.new) }
 {
     let (mut host, pass) = carrier.into_parts();
     host.hand_over(sum);
-    pass
+    (pass, RetiredHost::new(host))
 }
 
 /// Adds what the hosts of all workers of datagrams have counted to a sum, the last one's first, and hands back what
-/// came of their inboxes, which have room here. All transfers that they left for each other are carried out then.
+/// came of their inboxes, and their hosts, which have room here. All transfers that they left for each other are
+/// carried out then.
 pub(crate) fn hand_over_all<I: Drop, J: Site, H: HandsOver + Drop, R: Wait>(
     mut datagram_workers: Vec<DatagramWorker<'_, I, J, H, R>>,
     others: TransferPass,
     sum: &mut H::Sum,
+    hosts: &mut Vec<RetiredHost<H>>,
     inboxes: Vec<I>,
 ) -> (EndedInboxes<I>, TransferPass)
     requires none { inboxes.items ≡ [] }
     requires room { length datagram_workers.items ≤ vec_capacity inboxes }
+    requires hosts { length hosts.old.items + length datagram_workers.items ≤ vec_capacity hosts.old }
     requires queue { AllByRecursion (λ datagram_worker. datagram_worker.server.holding.queue ≡ others.queue)
         datagram_workers.items }
     ensures inboxes { result.0.inboxes.items
@@ -168,6 +174,7 @@ pub(crate) fn hand_over_all<I: Drop, J: Site, H: HandsOver + Drop, R: Wait>(
     ensures handed { HandsOverMails (conduct_by H.Host) (counting_of H.counted H.none H.plus) H.summed H.reached
         (map (λ datagram_worker. datagram_worker.server) (reverse datagram_workers.entry.items)) others result.1
         sum.old sum.new }
+    ensures hosts { length hosts.new.items ≡ length hosts.old.items + length datagram_workers.entry.items }
 {
     let mut ended = EndedInboxes {
         inboxes,
@@ -175,9 +182,10 @@ pub(crate) fn hand_over_all<I: Drop, J: Site, H: HandsOver + Drop, R: Wait>(
     };
     let mut pass = others;
     while let Some(datagram_worker) = datagram_workers.pop() {
-        let (one, held) = datagram_worker.hand_over(pass, sum);
+        let (one, held, host) = datagram_worker.hand_over(pass, sum);
         pass = held;
         ended.add(one);
+        hosts.push_reserved(host);
     }
     (ended, pass)
 }

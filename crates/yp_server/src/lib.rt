@@ -9,6 +9,7 @@
 #![tactic(auto)]
 
 mod datagrams;
+mod hosts;
 mod locks;
 mod preparing;
 mod resources;

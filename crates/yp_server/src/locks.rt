@@ -1,6 +1,7 @@
 //! The two locks under which workers share what they are lent.
 
 ghost use Rattle.std.specs.Prelude.{◌≡◌, ◌+◌, ◌-◌, ◌^◌, ◌<◌, ◌≤◌, [], map};
+ghost use Rattle.yp_worker.specs.inside.Queues.{all_parts};
 ghost use Rattle.std.specs.List.{All};
 ghost use Rattle.yp_io.specs.Counts.{last_count};
 ghost use Rattle.yp_board.specs.Views.{IsFront};
@@ -13,19 +14,21 @@ ghost use Rattle.yp_host.specs.inside.workers.Charges.{free_of_charge};
 ghost use Rattle.yp_host.specs.inside.workers.Desks.{IsSupplied};
 ghost use Rattle.yp_host.specs.workers.Wires.{CoversOrders, CoversSources};
 ghost use Rattle.yp_transfer.specs.inside.Dials.{dial_by};
-ghost use Rattle.yp_host.specs.workers.Uses.{IsUsedForTransfers};
+ghost use Rattle.yp_host.specs.inside.workers.CallBacks.{holds_none, holds_more};
+ghost use Rattle.yp_host.specs.inside.workers.Uses.{TellsAllLeft};
 ghost use Rattle.yp_host.specs.inside.workers.Uses.{dial_told};
 ghost use Rattle.yp_server.specs.Counting.{DiskTellsFaults};
 ghost use Rattle.yp_server.specs.Origins.{ComesFrom, EachComesFrom};
 ghost use Rattle.yp_server.specs.Serving.{DisksStand};
 
 use crate::resources::take_apart;
-use std::sync::Mutex;
 use std::sync::ledger::{Blank, Book, Share};
+use std::sync::{Mutex, Wait};
 use yp_board::Tell;
 use yp_host::Desk;
 use yp_host::workers::{
-    Account, Charges, FailedSources, ReachedOrders, SharedDesk, Supplies, Totals, UnreadTexts,
+    Account, CallBackPass, Charges, FailedSources, PendingCallBacks, ReachedOrders, SharedDesk,
+    Supplies, Totals, UnreadTexts,
 };
 use yp_io::{Clock, Dial, Disk, Texts};
 use yp_publisher::Publisher;
@@ -107,12 +110,41 @@ impl ChargeBlanks {
     }
 }
 
+/// The parts of a queue of call backs: those of a desk, where callers are told, and those of the workers, who leave
+/// them there.
+#[derive(Drop)]
+pub(crate) struct CallBackParts {
+    pub(crate) desk: CallBackPass,
+    pub(crate) workers: CallBackPass,
+}
+
+impl CallBackParts {
+    /// As many parts for workers as the shares of a site have, and all others for its desk.
+    pub(crate) fn split<S: Accounts>(
+        call_backs: &PendingCallBacks,
+        mut pass: CallBackPass,
+    ) -> CallBackParts
+        requires all { pass ≡ holds_none call_backs.now all_parts }
+        requires some { (0 < S.shares) × (S.shares < all_parts) }
+        ensures desk { result.desk ≡ holds_none call_backs.now result.desk.parts }
+        ensures parts { result.desk.parts + S.shares ≡ all_parts }
+        ensures workers { result.workers ≡ holds_none call_backs.now S.shares }
+    {
+        let workers = call_backs.split_shares::<S>(&mut pass);
+        CallBackParts {
+            desk: pass,
+            workers,
+        }
+    }
+}
+
 /// The locks of the publisher and of the desk, and what all workers are charged by.
 pub(crate) fn lock_up<S, D, B, A, T, C>(
     publisher: Publisher<D, B>,
     desk: Desk<A, T, C>,
     blanks: ChargeBlanks,
     fetches: Fetches<S>,
+    call_backs: CallBackParts,
 ) -> (
     Mutex<Locked<S, D, B>>,
     Mutex<SharedDesk<S, A, T, C>>,
@@ -140,6 +172,9 @@ where
     requires made { (blanks.made.name ≡ S.made) × (blanks.made.parts ≡ S.shares) }
     requires versions { (blanks.versions.name ≡ S.versions) × (blanks.versions.parts ≡ S.shares + 1) }
     requires fetches { fetches ≡ [] }
+    requires tells { (call_backs.desk ≡ holds_none S.call_backs call_backs.desk.parts)
+        × (call_backs.desk.parts + S.shares ≡ all_parts) }
+    requires leaves { call_backs.workers ≡ holds_none S.call_backs S.shares }
     requires some { 0 < S.shares }
     ensures charges { result.2 ≡ free_of_charge S.shares }
 {
@@ -161,6 +196,7 @@ where
         fetched,
         fetches,
         debits,
+        call_backs,
     );
     (publisher, desk, charges)
 }
@@ -204,6 +240,7 @@ fn lock_desk<S: Site + Accounts + Supplies, A: Dial, T: Texts, C: Clock>(
     fetched: Book<FetchedVersions<S>>,
     fetches: Fetches<S>,
     debits: Debits<S>,
+    call_backs: CallBackParts,
 ) -> (Mutex<SharedDesk<S, A, T, C>>, Charges<S>)
     requires supplied { IsSupplied T.Texts S.text S.hosts desk }
     requires texts { T.faults desk.texts ≡ S.text_faults }
@@ -214,27 +251,38 @@ fn lock_desk<S: Site + Accounts + Supplies, A: Dial, T: Texts, C: Clock>(
     requires sources { (sources.name ≡ S.sources) × (sources.parts ≡ S.shares) }
     requires fetched { (fetched.total ≡ 0) × (fetches ≡ []) }
     requires debits { debits ≡ no_debit S.shares }
+    requires tells { (call_backs.desk ≡ holds_none S.call_backs call_backs.desk.parts)
+        × (call_backs.desk.parts + S.shares ≡ all_parts) }
+    requires leaves { call_backs.workers ≡ holds_none S.call_backs S.shares }
     requires some { 0 < S.shares }
     ensures { result.1 ≡ free_of_charge S.shares }
 {
     let (unread, own_unread) = unread.open::<UnreadTexts<S>>();
     let (orders, own_orders) = orders.open::<ReachedOrders<S>>();
     let (sources, own_sources) = sources.open::<FailedSources<S>>();
-    let shared = SharedDesk::new(desk, unread, orders, sources, fetched, fetches);
+    let CallBackParts {
+        desk: tells,
+        workers: leaves,
+    } = call_backs;
+    let shared = SharedDesk::new(desk, unread, orders, sources, fetched, fetches, tells);
     (
         Mutex::new(shared),
-        Charges::new(own_unread, own_orders, own_sources, debits),
+        Charges::new(own_unread, own_orders, own_sources, debits, leaves),
     )
 }
 
 /// The disks, the writer, the desk and what was counted, once nobody works under the locks any more. What was counted
 /// is covered: FILEs by the faults of texts and disks, orders and failed sources by the wires and faults of the dial,
 /// and what was shown by the makes and by the wires that gave a version. Each version that was shown, or that a crash
-/// leaves at some moment, was built, or came by a wire.
-pub(crate) fn unlock<S, D, B, A, T, C>(
+/// leaves at some moment, was built, or came by a wire. All callers that still wait are told, so what callers were told
+/// is what was left to be told.
+pub(crate) fn unlock<S, D, B, A, T, C, R: Wait>(
+    rt: &R,
     publisher: Mutex<Locked<S, D, B>>,
     desk: Mutex<SharedDesk<S, A, T, C>>,
+    call_backs: &PendingCallBacks,
     account: Account<S, B>,
+    others: Charges<S>,
 ) -> (Vec<D>, B, Desk<A, T, C>, Totals)
 where
     S: Site + Accounts + Supplies,
@@ -243,6 +291,8 @@ where
     A: Dial,
     T: Texts,
     C: Clock,
+    requires queue { call_backs.now ≡ S.call_backs }
+    requires others { (others.parts + 2 ≡ S.shares) × (others.left ≡ []) }
     ensures totals { result.3 ≡ account.totals }
     ensures stand { DisksStand D.history S.catalogue (B.log result.1) result.0.items }
     ensures grown { IsFront account.reached (B.log result.1) }
@@ -258,17 +308,23 @@ where
         S.catalogue (B.log result.1) result.0.items result.3.made S.wires (A.past result.2.dial) }
     ensures traced { IsStart S.first → EachComesFrom D.history S.built S.catalogue S.first.log (B.log result.1)
         S.histories result.0.items S.wires (A.past result.2.dial) }
-    ensures dialed { IsUsedForTransfers S.hosts S.catalogue.maps (dial_told S.wires S.letters S.dial_faults)
-        (dial_by A.Dial result.2.dial) }
+    ensures told { TellsAllLeft S.hosts S.catalogue.maps S.shares
+        (holds_more (holds_none S.call_backs S.shares) account.told [])
+        (dial_told S.wires S.letters S.dial_faults) (dial_by A.Dial result.2.dial) }
 {
-    let (totals, charges, front) = account.into_parts();
-    let (mut unread, mut reached, mut failed, mut debits) = charges.into_shares();
+    let (totals, mut charges, front) = account.into_parts();
+    charges.merge(call_backs, others);
+    let (mut unread, mut reached, mut failed, mut debits, left, known) = charges.into_shares();
     let (disks, writer, mut versions, fetches) = take_apart(
         publisher.into_inner(),
         &front,
         &mut debits,
     );
     let desk = desk.into_inner().close(
+        rt,
+        call_backs,
+        left,
+        known.as_ref(),
         &mut unread,
         &mut reached,
         &mut failed,

@@ -11,9 +11,10 @@ ghost use Rattle.yp_worker.specs.datagrams.Mailing.{nothing_held};
 ghost use Rattle.yp_worker.specs.inside.Mailing.{resting};
 ghost use Rattle.yp_worker.specs.inside.Queues.{all_parts};
 ghost use Rattle.yp_host.specs.inside.workers.Makings.{SiteBuilds};
-ghost use Rattle.yp_host.specs.workers.Charges.{no_totals, totals_of};
+ghost use Rattle.yp_host.specs.workers.Charges.{counted_of, nothing_counted};
+ghost use Rattle.yp_host.specs.inside.workers.Charges.{counted_by, free_of_charge};
 ghost use Rattle.yp_host.specs.workers.Workers.{WorkerState};
-ghost use Rattle.yp_host.specs.declared.workers.outcome.Totals.{Totals};
+ghost use Rattle.yp_host.specs.declared.workers.charges.Counted.{Counted};
 ghost use Rattle.yp_rpc.specs.inside.Turns.{box_by};
 ghost use Rattle.yp_server.specs.Serving.{conduct_at, IsAtStart, SomeHasRisen};
 ghost use Rattle.yp_server.specs.declared.datagrams.DatagramWorker.{DatagramWorker};
@@ -21,9 +22,10 @@ ghost use Rattle.yp_server.specs.inside.Counting.{BeginsMail};
 ghost use Rattle.yp_server.specs.inside.Serving.{before_work, fresh_worker};
 ghost use Rattle.yp_server.specs.inside.Shares.{SharesFor};
 ghost use Rattle.yp_server.specs.inside.Workers.{workers_of, connections_of, datagram_worker_of};
-ghost use Rattle.yp_server.specs.Counting.{CountsAll, count_totals};
+ghost use Rattle.yp_server.specs.Counting.{CountsAll, count_told};
 
 use crate::datagrams::{DatagramResources, DatagramWorker, EndedInboxes};
+use crate::hosts::charges_of;
 use crate::locks::ListenerBlanks;
 use crate::resources::WorkerMemory;
 use crate::workers::{ConnectionWorker, ServerWorker, Staff, run_workers};
@@ -35,7 +37,7 @@ use std::thread::Threads;
 use yp_answer::session::{Buffers, CALLS_MAX};
 use yp_board::Tell;
 use yp_host::workers::{
-    Account, Charges, Journal, SharedDesk, Supplies, WorkerHost, WorkerSetting,
+    Account, Charges, Journal, PendingCallBacks, SharedDesk, Supplies, WorkerHost, WorkerSetting,
 };
 use yp_io::{Clock, Dial, Disk, Hall, Inbox, Texts};
 use yp_publisher::sharing::{Accounts, Locked};
@@ -64,7 +66,8 @@ pub(crate) struct WorkerShares<J: Reception + Accounts + Supplies, E: Ledger> {
 }
 
 /// What each worker is lent: the locks of the publisher and of the desk, the queue of transfers that datagrams took,
-/// the journal, where there is one, the gate, and the most records of a connection.
+/// that of those who are to be told what transfers came to, the journal, where there is one, the gate, and the most
+/// records of a connection.
 #[derive(Drop)]
 pub(crate) struct WorkerMaker<
     'a,
@@ -82,6 +85,7 @@ pub(crate) struct WorkerMaker<
     pub(crate) publisher: &'a Mutex<Locked<J, D, B>>,
     pub(crate) desk: &'a Mutex<SharedDesk<J, A, T, C>>,
     pub(crate) pending: &'a PendingTransfers<J>,
+    pub(crate) call_backs: &'a PendingCallBacks,
     pub(crate) journal: Option<&'a Mutex<Journal>>,
     pub(crate) gate: &'a G,
     pub(crate) most: u64,
@@ -99,12 +103,15 @@ impl<
     R: RandomSource + Wait,
 > WorkerMaker<'a, J, D, B, A, T, C, G, R> {
     /// What each worker has.
-    fn setting(&self) -> WorkerSetting<'a, J, D, B, A, T, C, &'a R> {
+    fn setting(&self) -> WorkerSetting<'a, J, D, B, A, T, C, &'a R>
+        ensures { result.call_backs.now ≡ self.now.call_backs.now }
+    {
         WorkerSetting {
             alloc: self.alloc,
             rt: self.rt,
             publisher: self.publisher,
             desk: self.desk,
+            call_backs: self.call_backs,
             journal: self.journal,
         }
     }
@@ -121,9 +128,11 @@ impl<
         requires most { (self.now.most ≡ J.most) × (self.now.most ≤ CALLS_MAX) }
         requires knows { IsAtStart J.catalogue J.starts (B.Reader.seen reader) }
         requires builds { SiteBuilds J.text J.catalogue J.built }
+        requires queue { self.now.call_backs.now ≡ J.call_backs }
+        requires charges { charges ≡ free_of_charge 1 }
         ensures under { IsUnder (conduct_at B.Reader.seen B.Reader.stepped J.text J.hosts)
             (terms_by J.Reception) result }
-        ensures none { totals_of result.host ≡ no_totals }
+        ensures none { counted_of result.host ≡ nothing_counted }
     {
         let host = WorkerHost::new(self.setting(), reader, charges);
         Worker::new(host, buffers, self.gate, self.most, carries)
@@ -140,16 +149,19 @@ impl<
         requires most { (self.now.most ≡ J.most) × (self.now.most ≤ CALLS_MAX) }
         requires knows { IsAtStart J.catalogue J.starts (B.Reader.seen reader) }
         requires builds { SiteBuilds J.text J.catalogue J.built }
+        requires queue { self.now.call_backs.now ≡ J.call_backs }
         requires out { (1 < shares.old.out.parts) × (shares.old.out.amount ≡ 0) }
         requires ended { (1 < shares.old.ended.parts) × (shares.old.ended.amount ≡ 0) }
         requires charges { 1 < shares.old.charges.parts }
         ensures connection_worker { result ≡ before_work }
         ensures out { (shares.new.out.parts + 1 ≡ shares.old.out.parts) × (shares.new.out.amount ≡ 0) }
         ensures ended { (shares.new.ended.parts + 1 ≡ shares.old.ended.parts) × (shares.new.ended.amount ≡ 0) }
-        ensures charges { shares.new.charges.parts + 1 ≡ shares.old.charges.parts }
+        ensures charges { (shares.new.charges.parts + 1 ≡ shares.old.charges.parts)
+            × (shares.new.charges.left ≡ shares.old.charges.left) }
         ensures transfers { shares.new.transfers ≡ shares.old.transfers }
     {
-        let worker = self.worker(reader, buffers, shares.charges.split_off(), carries);
+        let charges = shares.charges.split_off(self.call_backs);
+        let worker = self.worker(reader, buffers, charges, carries);
         ConnectionWorker::new(
             worker,
             Pass::new(shares.out.split_off(1, 0), shares.ended.split_off(1, 0)),
@@ -164,6 +176,8 @@ impl<
     ) -> DatagramWorker<'a, I, J, WorkerHost<'a, J, D, B, A, T, C, &'a R>, R>
         requires knows { IsAtStart J.catalogue J.starts (B.Reader.seen datagram_resources.reader) }
         requires builds { SiteBuilds J.text J.catalogue J.built }
+        requires queue { self.now.call_backs.now ≡ J.call_backs }
+        requires charges { charges ≡ free_of_charge 1 }
         requires transfers { datagram_resources.transfers ≡ nothing_held self.now.pending.now 1 }
         ensures { result ≡ datagram_worker_of self.now.pending.now datagram_resources }
     {
@@ -188,6 +202,8 @@ impl<
     ) -> TransferCarrier<'a, J, WorkerHost<'a, J, D, B, A, T, C, &'a R>, R>
         requires knows { IsAtStart J.catalogue J.starts (B.Reader.seen reader) }
         requires builds { SiteBuilds J.text J.catalogue J.built }
+        requires queue { self.now.call_backs.now ≡ J.call_backs }
+        requires charges { charges ≡ free_of_charge 1 }
         requires transfers { transfers.queue ≡ self.now.pending.now }
         ensures { result ≡ resting (fresh_worker reader) transfers }
     {
@@ -216,18 +232,20 @@ impl<
         requires readers { length inboxes.items ≤ length readers.old.items }
         requires knows { All (λ reader. IsAtStart J.catalogue J.starts (B.Reader.seen reader)) readers.old.items }
         requires builds { SiteBuilds J.text J.catalogue J.built }
+        requires queue { self.now.call_backs.now ≡ J.call_backs }
         requires charges { length inboxes.items < charges.old.parts }
         requires transfers { (transfers.old ≡ nothing_held self.now.pending.now transfers.old.parts)
             × (length inboxes.items < transfers.old.parts) }
-        ensures workers { (datagram_workers : List (DatagramWorker I J (WorkerState B.Reader) R Totals))
+        ensures workers { (datagram_workers : List (DatagramWorker I J (WorkerState B.Reader) R Counted))
             × (all_workers.new.items ≡ workers_of datagram_workers 0 before_work)
-            × AllZip (BeginsMail (conduct_at B.Reader.seen B.Reader.stepped J.text J.hosts) count_totals J.catalogue
+            × AllZip (BeginsMail (conduct_at B.Reader.seen B.Reader.stepped J.text J.hosts) count_told J.catalogue
             J.starts self.now.pending.now turns) inboxes.items datagram_workers }
         ensures count { length all_workers.new.items ≡ length inboxes.items }
         ensures room { vec_capacity all_workers.new ≡ vec_capacity all_workers.old }
         ensures readers { length readers.new.items + length inboxes.items ≡ length readers.old.items }
         ensures knows { All (λ reader. IsAtStart J.catalogue J.starts (B.Reader.seen reader)) readers.new.items }
-        ensures charges { charges.new.parts + length inboxes.items ≡ charges.old.parts }
+        ensures charges { (charges.new.parts + length inboxes.items ≡ charges.old.parts)
+            × (charges.new.left ≡ charges.old.left) }
         ensures transfers { (transfers.new ≡ nothing_held self.now.pending.now transfers.new.parts)
             × (transfers.new.parts + length inboxes.items ≡ transfers.old.parts) }
     {
@@ -246,7 +264,8 @@ impl<
                 room,
                 transfers: self.pending.split_off(transfers),
             };
-            let datagram_worker = self.datagram_worker(datagram_resources, charges.split_off());
+            let charges = charges.split_off(self.call_backs);
+            let datagram_worker = self.datagram_worker(datagram_resources, charges);
             all_workers.push_reserved(ServerWorker::Datagrams(datagram_worker));
         }
     }
@@ -268,6 +287,7 @@ impl<
         requires readers { length readers.items ≡ length all_buffers.items }
         requires knows { All (λ reader. IsAtStart J.catalogue J.starts (B.Reader.seen reader)) readers.items }
         requires builds { SiteBuilds J.text J.catalogue J.built }
+        requires queue { self.now.call_backs.now ≡ J.call_backs }
         requires room { length all_workers.old.items + length all_buffers.items ≤ vec_capacity all_workers.old }
         requires shares { SharesFor (length all_buffers.items) 0 shares.old }
         ensures all_workers { all_workers.new.items
@@ -303,6 +323,7 @@ impl<
         requires knows { All (λ reader. IsAtStart J.catalogue J.starts (B.Reader.seen reader))
             worker_resources.readers.items }
         requires builds { SiteBuilds J.text J.catalogue J.built }
+        requires queue { self.now.call_backs.now ≡ J.call_backs }
         requires none { all_workers.old.items ≡ [] }
         requires room { length worker_resources.memory.all_buffers.items + length worker_resources.inboxes.items
             ≤ vec_capacity all_workers.old }
@@ -310,11 +331,13 @@ impl<
             (length worker_resources.inboxes.items) shares.old }
         requires transfers { (shares.old.transfers ≡ nothing_held self.now.pending.now shares.old.transfers.parts)
             × (length worker_resources.inboxes.items < shares.old.transfers.parts) }
-        ensures workers { (datagram_workers : List (DatagramWorker I J (WorkerState B.Reader) R Totals))
+        ensures workers { (datagram_workers : List (DatagramWorker I J (WorkerState B.Reader) R Counted))
             × (all_workers.new.items ≡ workers_of datagram_workers
             (length worker_resources.memory.all_buffers.items) before_work)
-            × AllZip (BeginsMail (conduct_at B.Reader.seen B.Reader.stepped J.text J.hosts) count_totals J.catalogue
+            × AllZip (BeginsMail (conduct_at B.Reader.seen B.Reader.stepped J.text J.hosts) count_told J.catalogue
             J.starts self.now.pending.now worker_resources.turns) worker_resources.inboxes.items datagram_workers }
+        ensures count { length all_workers.new.items
+            ≡ length worker_resources.memory.all_buffers.items + length worker_resources.inboxes.items }
         ensures shares { SharesFor 0 0 shares.new }
         ensures transfers { (shares.new.transfers ≡ nothing_held self.now.pending.now shares.new.transfers.parts)
             × (shares.new.transfers.parts + length worker_resources.inboxes.items ≡ shares.old.transfers.parts) }
@@ -360,7 +383,7 @@ impl<
         blanks: ListenerBlanks,
         charges: Charges<J>,
         transfers: TransferPass,
-    ) -> (L, Tally, EndedInboxes<I>, Account<J, B>)
+    ) -> (L, Tally, EndedInboxes<I>, Account<J, B>, Charges<J>)
     where
         B::Reader: Send + Drop,
         B::Front: Send,
@@ -379,33 +402,38 @@ impl<
         requires knows { All (λ reader. IsAtStart J.catalogue J.starts (B.Reader.seen reader))
             worker_resources.readers.items }
         requires builds { SiteBuilds J.text J.catalogue J.built }
+        requires queue { self.now.call_backs.now ≡ J.call_backs }
         requires none { (staff.all_workers.items ≡ []) × (staff.datagram_workers.items ≡ [])
-            × (staff.inboxes.items ≡ []) }
+            × (staff.inboxes.items ≡ []) × (staff.hosts.items ≡ []) }
         requires some { (0 < length worker_resources.memory.all_buffers.items)
             × (length worker_resources.memory.all_buffers.items ≤ workers_max + 1) }
         requires room { (length worker_resources.memory.all_buffers.items + length worker_resources.inboxes.items
             ≤ vec_capacity staff.all_workers)
             × (length worker_resources.inboxes.items ≤ vec_capacity staff.datagram_workers)
-            × (length worker_resources.inboxes.items ≤ vec_capacity staff.inboxes) }
+            × (length worker_resources.inboxes.items ≤ vec_capacity staff.inboxes)
+            × (length worker_resources.memory.all_buffers.items + length worker_resources.inboxes.items + 1
+            ≤ vec_capacity staff.hosts) }
         requires opening { opening_by L.Hall listen ≡ J.opening }
         requires out { (blanks.out.name ≡ J.name) × (blanks.out.parts ≡ J.parts)
             × (blanks.out.parts ≡ length worker_resources.memory.all_buffers.items + 2) }
         requires ended { (blanks.ended.name ≡ E.name) × (blanks.ended.parts ≡ E.parts)
             × (blanks.ended.parts ≡ length worker_resources.memory.all_buffers.items + 1) }
-        requires charges { charges.parts ≡ length worker_resources.memory.all_buffers.items
-            + length worker_resources.inboxes.items + 3 }
+        requires charges { (charges.parts ≡ length worker_resources.memory.all_buffers.items
+            + length worker_resources.inboxes.items + 3) × (charges.left ≡ []) }
         requires transfers { transfers ≡ nothing_held self.now.pending.now all_parts }
         requires inboxes { (0 < length worker_resources.inboxes.items)
             × (length worker_resources.inboxes.items < 2 ^ 32) }
         ensures kept { IsListenerState J.opening (opening_by L.Hall result.0) result.1.connections
             result.1.listen_fault 0 1 }
         ensures counted { (log : Log) → IsFront result.3.reached log
-            → CountsAll (conduct_at B.Reader.seen B.Reader.stepped J.text J.hosts) count_totals
+            → CountsAll (conduct_at B.Reader.seen B.Reader.stepped J.text J.hosts) count_told
             (terms_by J.Reception) J.opening (opening_by L.Hall result.0) result.1.calls log
             worker_resources.turns result.2.fault (map (box_by I.Inbox) worker_resources.inboxes.items)
-            (map (box_by I.Inbox) result.2.inboxes.items) result.3.totals }
+            (map (box_by I.Inbox) result.2.inboxes.items) (counted_by result.3) }
         ensures cause { result.2.fault ≡ true
             → SomeHasRisen (map I.faults worker_resources.inboxes.items) (map I.faults result.2.inboxes.items) }
+        ensures others { (result.4.parts ≡ length worker_resources.memory.all_buffers.items
+            + length worker_resources.inboxes.items + 1) × (result.4.left ≡ []) }
     {
         let (book, out) = blanks.out.open::<J>();
         let (ends, ended) = blanks.ended.open::<E>();
@@ -428,9 +456,17 @@ impl<
             transfers,
         } = shares;
         let held = out.split_off(1, 0);
-        let carrier = self.carrier(reader, charges.split_off(), transfers);
+        let carrier = self.carrier(reader, charges.split_off(self.call_backs), transfers);
         let account = Account::new(charges, front);
         let listening = Listening::new(self.alloc, listen, book, ends, account, held, workers);
-        run_workers(self.rt, listening, staff, Pass::new(out, ended), carrier)
+        let (listen, tally, mailed, account, hosts) = run_workers(
+            self.rt,
+            listening,
+            staff,
+            Pass::new(out, ended),
+            carrier,
+        );
+        let others = charges_of(self.call_backs, hosts);
+        (listen, tally, mailed, account, others)
     }
 }

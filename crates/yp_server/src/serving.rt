@@ -6,6 +6,7 @@ ghost use Rattle.yp_board.specs.Views.{IsFront};
 ghost use Rattle.yp_board.specs.readers.Boards.{workers_max};
 ghost use Rattle.yp_host.specs.inside.workers.Desks.{IsSupplied};
 ghost use Rattle.yp_worker.specs.Receptions.{IsListenerState, opening_by, terms_of};
+ghost use Rattle.yp_worker.specs.inside.Queues.{all_parts};
 ghost use Rattle.yp_worker.specs.inside.Receptions.{terms_by};
 ghost use Rattle.yp_rpc.specs.inside.Turns.{box_by};
 ghost use Rattle.yp_publisher.specs.Grown.{AreTold};
@@ -13,17 +14,17 @@ ghost use Rattle.yp_publisher.specs.Rising.{publisher_state, IsRisingLog};
 ghost use Rattle.yp_publisher.specs.inside.Rising.{IsStart};
 ghost use Rattle.yp_publisher.specs.sharing.Failures.{disks_of, faults_over};
 ghost use Rattle.yp_server.specs.Serving.{conduct_at, IsAtStart, DisksStand, ServesInboxes, SomeHasRisen};
-ghost use Rattle.yp_host.specs.workers.Charges.{totals_of};
+ghost use Rattle.yp_host.specs.inside.workers.CallBacks.{holds_none};
+ghost use Rattle.yp_host.specs.workers.Charges.{counted_of};
 ghost use Rattle.yp_host.specs.workers.Makings.{IsBuiltAsNamed};
 ghost use Rattle.yp_host.specs.inside.workers.Makings.{SiteBuilds};
 ghost use Rattle.yp_host.specs.workers.Wires.{CoversOrders, CoversSources};
 ghost use Rattle.yp_transfer.specs.inside.Dials.{dial_by};
-ghost use Rattle.yp_host.specs.workers.Uses.{IsUsedForTransfers};
 ghost use Rattle.yp_host.specs.inside.workers.Uses.{dial_told};
-ghost use Rattle.yp_server.specs.Counting.{count_totals, CountsAll, FilesAreCovered};
+ghost use Rattle.yp_server.specs.Counting.{CountsAndTells, FilesAreCovered};
 ghost use Rattle.yp_server.specs.Origins.{ComesFrom, EachComesFrom};
 
-use crate::locks::{Blanks, lock_up, unlock};
+use crate::locks::{Blanks, CallBackParts, lock_up, unlock};
 use crate::preparing::{WorkerMaker, WorkerResources};
 use crate::resources::{WorkerMemory, refuse};
 use crate::spec::{ServeRefused, ServeSpec, Served, ServerResources};
@@ -36,7 +37,7 @@ use std::sync::{Mutex, Wait};
 use std::thread::Threads;
 use yp_answer::session::CALLS_MAX;
 use yp_board::Tell;
-use yp_host::workers::{Journal, Supplies};
+use yp_host::workers::{CallBackPass, Journal, PendingCallBacks, Supplies};
 use yp_io::{Clock, Dial, Disk, Hall, Inbox, Texts};
 use yp_publisher::sharing::Accounts;
 use yp_worker::datagrams::PendingTransfers;
@@ -95,7 +96,7 @@ where
 
     // What was sent of each inbox for what came, on what a worker knew that began with the start.
     ensures datagrams { IfOk result (λ served. ServesInboxes
-        (conduct_at B.Reader.seen B.Reader.stepped (T.text resources.desk.texts) resources.desk.hosts) totals_of
+        (conduct_at B.Reader.seen B.Reader.stepped (T.text resources.desk.texts) resources.desk.hosts) counted_of
         resources.publisher.catalogue (B.log resources.publisher.board) (B.log served.writer)
         spec.now.turns served.inbox_fault
         (map (box_by I.Inbox) resources.inboxes.items) (map (box_by I.Inbox) served.inboxes.items)) }
@@ -112,15 +113,19 @@ where
         served.desk) }
 
     // What each worker did, step by step, and how each of its connections stood as it was closed; each datagram; what
-    // all workers counted; and what bounds it: FILEs are at most as many as the faults of the texts and of the disks,
-    // orders that were reached as the wires that begin with one, and failed sources as the faults of the dial and the
-    // wires that give no version.
-    ensures counted { IfOk result (λ served. CountsAll
-        (conduct_at B.Reader.seen B.Reader.stepped (T.text resources.desk.texts) resources.desk.hosts) count_totals
+    // all workers counted; and whom they left what to be told. The dial was used for transfers of the maps alone, and
+    // each caller was told what was left it, as often as it was left.
+    ensures counted { IfOk result (λ served. CountsAndTells
+        (conduct_at B.Reader.seen B.Reader.stepped (T.text resources.desk.texts) resources.desk.hosts)
         (terms_of resources.publisher.catalogue (B.log resources.publisher.board) spec.now.most)
         (opening_by L.Hall resources.listen) (opening_by L.Hall served.listen)
         served.tally.calls (B.log served.writer) spec.now.turns served.inbox_fault
-        (map (box_by I.Inbox) resources.inboxes.items) (map (box_by I.Inbox) served.inboxes.items) served.totals) }
+        (map (box_by I.Inbox) resources.inboxes.items) (map (box_by I.Inbox) served.inboxes.items) served.totals
+        resources.desk.hosts (dial_by A.Dial resources.desk.dial) (dial_by A.Dial served.desk.dial)) }
+
+    // What bounds what was counted: FILEs are at most as many as the faults of the texts and of the disks, orders that
+    // were reached as the wires that begin with one, and failed sources as the faults of the dial and the wires that
+    // give no version.
     ensures files { IfOk result (λ served. FilesAreCovered D.history D.faults
         (T.faults resources.desk.texts) (T.faults served.desk.texts)
         (disks_of resources.publisher.maps) served.disks.items served.totals) }
@@ -146,10 +151,6 @@ where
         (map D.history (disks_of resources.publisher.maps)) served.disks.items
         (A.past resources.desk.dial) (A.past served.desk.dial)) }
 
-    // Whom the dial asked, what for, and whom it told what: it was used for transfers of the maps alone.
-    ensures dialed { IfOk result (λ served. IsUsedForTransfers resources.desk.hosts resources.publisher.catalogue.maps
-        (dial_by A.Dial resources.desk.dial) (dial_by A.Dial served.desk.dial)) }
-
     // Want of memory, before a connection was accepted or a turn was taken. Nothing has changed.
     ensures refused { IfErr result (λ refused. (refused.desk ≡ resources.desk) × (refused.listen ≡ resources.listen)
         × (refused.inboxes ≡ resources.inboxes)) }
@@ -168,7 +169,12 @@ where
         gate,
     };
     let blanks = Blanks::new(workers as u64, inboxes as u64);
-    under_locks::<Brand, Brand, D, B, A, T, C, L, I, G, R>(setting, resources, memory, blanks)
+    let Ok((call_backs, pass)) = PendingCallBacks::new(alloc) else {
+        return Err(refuse(resources));
+    };
+    under_locks::<Brand, Brand, D, B, A, T, C, L, I, G, R>(
+        setting, resources, memory, blanks, call_backs, pass,
+    )
 }
 
 /// What a server has all the time that it serves: what it is to do, the journal, where there is one, and the gate.
@@ -187,6 +193,8 @@ fn under_locks<J, E, D, B, A, T, C, L, I, G, R>(
     resources: ServerResources<D, B, A, T, C, L, I>,
     memory: WorkerMemory,
     blanks: Blanks,
+    call_backs: PendingCallBacks,
+    pass: CallBackPass,
 ) -> Result<Served<D, B, A, T, C, L, I>, ServeRefused<D, A, T, C, L, I>>
 where
     J: Reception + Accounts + Supplies + Send + Sync,
@@ -241,10 +249,11 @@ where
     requires first { publisher_state B.log resources.publisher ≡ J.first }
     requires histories { map D.history (disks_of resources.publisher.maps) ≡ J.histories }
     requires fetches { blanks.fetches ≡ J.fetched }
+    requires call_backs { (call_backs ≡ J.call_backs) × (pass ≡ holds_none J.call_backs all_parts) }
     ensures gone { IfOk result (λ served. IsListenerState J.opening (opening_by L.Hall served.listen)
         served.tally.connections served.tally.listen_fault 0 1) }
     ensures datagrams { IfOk result (λ served. ServesInboxes
-        (conduct_at B.Reader.seen B.Reader.stepped J.text J.hosts) totals_of
+        (conduct_at B.Reader.seen B.Reader.stepped J.text J.hosts) counted_of
         J.catalogue J.starts (B.log served.writer) setting.entry.spec.turns served.inbox_fault
         (map (box_by I.Inbox) resources.inboxes.items) (map (box_by I.Inbox) served.inboxes.items)) }
     ensures inbox_fault { IfOk result (λ served. served.inbox_fault ≡ true
@@ -254,11 +263,12 @@ where
     ensures rises { IfOk result (λ served. IsStart J.first → AreTold D.history served.disks.items
         → IsRisingLog (B.log served.writer)) }
     ensures desk { IfOk result (λ served. IsSupplied T.Texts J.text J.hosts served.desk) }
-    ensures counted { IfOk result (λ served. CountsAll
-        (conduct_at B.Reader.seen B.Reader.stepped J.text J.hosts) count_totals (terms_by J.Reception) J.opening
+    ensures counted { IfOk result (λ served. CountsAndTells
+        (conduct_at B.Reader.seen B.Reader.stepped J.text J.hosts) (terms_by J.Reception) J.opening
         (opening_by L.Hall served.listen) served.tally.calls (B.log served.writer)
         setting.entry.spec.turns served.inbox_fault
-        (map (box_by I.Inbox) resources.inboxes.items) (map (box_by I.Inbox) served.inboxes.items) served.totals) }
+        (map (box_by I.Inbox) resources.inboxes.items) (map (box_by I.Inbox) served.inboxes.items) served.totals
+        J.hosts (dial_told J.wires J.letters J.dial_faults) (dial_by A.Dial served.desk.dial)) }
     ensures files { IfOk result (λ served. FilesAreCovered D.history D.faults
         (T.faults resources.desk.texts) (T.faults served.desk.texts)
         (disks_of resources.publisher.maps) served.disks.items served.totals) }
@@ -271,8 +281,6 @@ where
         served.totals.made J.wires (A.past served.desk.dial)) }
     ensures traced { IfOk result (λ served. IsStart J.first → EachComesFrom D.history J.built J.catalogue J.first.log
         (B.log served.writer) J.histories served.disks.items J.wires (A.past served.desk.dial)) }
-    ensures dialed { IfOk result (λ served. IsUsedForTransfers J.hosts J.catalogue.maps
-        (dial_told J.wires J.letters J.dial_faults) (dial_by A.Dial served.desk.dial)) }
     ensures refused { IfErr result (λ refused. (refused.desk ≡ resources.desk) × (refused.listen ≡ resources.listen)
         × (refused.inboxes ≡ resources.inboxes)) }
     ensures disks { IfErr result (λ refused. refused.disks.items ≡ disks_of resources.publisher.maps) }
@@ -299,13 +307,17 @@ where
         listen,
         inboxes,
     } = resources;
-    let (publisher, desk, charges) = lock_up::<J, D, B, A, T, C>(publisher, desk, charges, fetches);
+    let parts = CallBackParts::split::<J>(&call_backs, pass);
+    let (publisher, desk, charges) = lock_up::<J, D, B, A, T, C>(
+        publisher, desk, charges, fetches, parts,
+    );
     let place = WorkerMaker {
         alloc: setting.alloc,
         rt: setting.rt,
         publisher: &publisher,
         desk: &desk,
         pending: &pending,
+        call_backs: &call_backs,
         journal: setting.journal,
         gate: setting.gate,
         most: setting.spec.most,
@@ -316,7 +328,7 @@ where
         inboxes,
         turns: setting.spec.turns,
     };
-    let (listen, tally, mailed, account) = place.serve::<E, L, I>(
+    let (listen, tally, mailed, account, others) = place.serve::<E, L, I>(
         staff,
         worker_resources,
         listen,
@@ -324,7 +336,14 @@ where
         charges,
         transfers,
     );
-    let (disks, writer, desk, totals) = unlock(publisher, desk, account);
+    let (disks, writer, desk, totals) = unlock(
+        setting.rt,
+        publisher,
+        desk,
+        &call_backs,
+        account,
+        others,
+    );
     Ok(Served {
         disks,
         desk,

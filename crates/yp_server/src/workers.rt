@@ -20,6 +20,7 @@ ghost use Rattle.yp_server.specs.inside.Workers.{AnswersDatagrams, Works, AllWor
 ghost use Rattle.yp_server.specs.inside.Workers.{mails_in, held_in};
 
 use crate::datagrams::{DatagramWorker, EndedInboxes, hand_over_all, hand_over_carrier};
+use crate::hosts::RetiredHost;
 use std::alloc::Global;
 use std::marker::Model;
 use std::sync::ledger::Ledger;
@@ -98,12 +99,12 @@ impl<J: Reception, E: Ledger, H: HandsOver + Drop, G: Gate + Copy + Drop> Connec
         unreachable!()
     }
 
-    /// What it holds of its listener.
-    fn into_pass(self) -> Pass<J, E>
-        ensures { result ≡ self }
+    /// What it holds of its listener, and its host.
+    fn into_parts(self) -> (Pass<J, E>, RetiredHost<H>)
+        ensures { result.0 ≡ self }
     {
-        let ConnectionWorker { worker: _, pass } = self;
-        pass
+        let ConnectionWorker { worker, pass } = self;
+        (pass, RetiredHost::new(worker.into_host()))
     }
 }
 
@@ -114,12 +115,14 @@ pub(crate) enum ServerWorker<'a, J: Reception, E: Ledger, H: HandsOver, G: Gate 
     Datagrams(DatagramWorker<'a, I, J, H, R>),
 }
 
-/// The workers of a server, with room for all of them, and room for what comes back of those of datagrams.
+/// The workers of a server, with room for all of them, for what comes back of those of datagrams, and for the hosts of
+/// all and of a carrier.
 #[derive(Drop)]
 pub(crate) struct Staff<'a, J: Reception, E: Ledger, H: HandsOver, G: Gate + Copy, I, R> {
     pub(crate) all_workers: Vec<ServerWorker<'a, J, E, H, G, I, R>>,
     pub(crate) datagram_workers: Vec<DatagramWorker<'a, I, J, H, R>>,
     pub(crate) inboxes: Vec<I>,
+    pub(crate) hosts: Vec<RetiredHost<H>>,
 }
 
 impl<
@@ -137,17 +140,19 @@ impl<
         workers: usize,
         inboxes: usize,
     ) -> Result<Staff<'a, J, E, H, G, I, R>, NoMemory>
-        requires { workers + inboxes < 2 ^ 64 }
+        requires { workers + inboxes + 1 < 2 ^ 64 }
         ensures none { IfOk result (λ staff. (staff.all_workers.items ≡ []) × (staff.datagram_workers.items ≡ [])
-            × (staff.inboxes.items ≡ [])) }
+            × (staff.inboxes.items ≡ []) × (staff.hosts.items ≡ [])) }
         ensures all_workers { IfOk result (λ staff. workers + inboxes ≤ vec_capacity staff.all_workers) }
         ensures datagram_workers { IfOk result (λ staff. inboxes ≤ vec_capacity staff.datagram_workers) }
         ensures inboxes { IfOk result (λ staff. inboxes ≤ vec_capacity staff.inboxes) }
+        ensures hosts { IfOk result (λ staff. workers + inboxes + 1 ≤ vec_capacity staff.hosts) }
     {
         Ok(Staff {
             all_workers: room_for(alloc, workers + inboxes)?,
             datagram_workers: room_for(alloc, inboxes)?,
             inboxes: room_for(alloc, inboxes)?,
+            hosts: room_for(alloc, workers + inboxes + 1)?,
         })
     }
 }
@@ -220,15 +225,15 @@ impl<
 
 /// Serves the datagrams of inboxes at the first workers, one for each inbox, and the connections of a listener at all
 /// others, side by side, until all have ended. The last one does for the others what takes long, and a carrier beside
-/// them the transfers that datagrams ask for. What came of the connections and of the datagrams, and the sum of what was
-/// counted.
+/// them the transfers that datagrams ask for. What came of the connections and of the datagrams, the sum of what was
+/// counted, and the hosts of all.
 pub(crate) fn run_workers<J, E, H, G, L, I, R: Threads + Wait + Sync>(
     rt: &R,
     listening: Listening<J, E, H, L, G>,
     staff: Staff<'_, J, E, H, G, I, R>,
     mut pass: Pass<J, E>,
     mut carrier: TransferCarrier<'_, J, H, R>,
-) -> (L, Tally, EndedInboxes<I>, H::Sum)
+) -> (L, Tally, EndedInboxes<I>, H::Sum, Vec<RetiredHost<H>>)
 where
     J: Reception + Send + Sync,
     E: Ledger + Send + Sync,
@@ -254,7 +259,8 @@ where
         carrier }
     requires transfers { (0 < length (mails_in staff.all_workers.items))
         × (carrier.holding.parts + length (mails_in staff.all_workers.items) ≡ all_parts) }
-    requires none { (staff.datagram_workers.items ≡ []) × (staff.inboxes.items ≡ []) }
+    requires none { (staff.datagram_workers.items ≡ []) × (staff.inboxes.items ≡ []) × (staff.hosts.items ≡ []) }
+    requires hosts { length staff.all_workers.items + 1 ≤ vec_capacity staff.hosts }
     requires pass { pass ≡ before_work }
     ensures kept { IsListenerState J.opening (opening_by L.Hall result.0) result.1.connections result.1.listen_fault
         0 1 }
@@ -271,23 +277,28 @@ where
         → AllZip (BeginsMail (conduct_by H.Host) (counting_of H.counted H.none H.plus) J.catalogue J.starts
         carrier.entry.holding.queue turns) inboxes datagram_workers
         → result.2.fault ≡ true → SomeHasRisen (map I.faults inboxes) (map I.faults result.2.inboxes.items) }
+    ensures hosts { length result.4.items ≡ length staff.entry.all_workers.items + 1 }
 {
     let Staff {
         mut all_workers,
         datagram_workers,
         inboxes,
+        mut hosts,
     } = staff;
     let listening = Mutex::new(listening);
     work_beside(rt, &listening, &mut all_workers, &mut carrier);
     let mut maker = last_of(&mut all_workers);
     let listening = maker.drain(rt, listening.into_inner());
-    pass.merge(maker.into_pass());
-    let datagram_workers = gather(&mut pass, all_workers, datagram_workers);
+    let (held, host) = maker.into_parts();
+    pass.merge(held);
+    hosts.push_reserved(host);
+    let datagram_workers = gather(&mut pass, &mut hosts, all_workers, datagram_workers);
     let (listen, tally, mut sum) = listening.close(&mut pass);
-    let transfers = hand_over_carrier(carrier, &mut sum);
-    let (mailed, _) = hand_over_all(datagram_workers, transfers, &mut sum, inboxes);
+    let (transfers, host) = hand_over_carrier(carrier, &mut sum);
+    hosts.push_reserved(host);
+    let (mailed, _) = hand_over_all(datagram_workers, transfers, &mut sum, &mut hosts, inboxes);
     sums_reach_further::<H>();
-    (listen, tally, mailed, sum)
+    (listen, tally, mailed, sum, hosts)
 }
 
 /// Works at all places of a server side by side, and carries out beside them what is left of transfers, until all have
@@ -362,6 +373,7 @@ where
     ensures others { (datagram_workers : List (DatagramWorker I J H R H.Count)) → (others : ℕ)
         → all_workers.old.items ≡ workers_of datagram_workers (others + 1) after_work
         → all_workers.new.items ≡ workers_of datagram_workers others after_work }
+    ensures count { length all_workers.new.items + 1 ≡ length all_workers.old.items }
 {
     let Some(server_worker) = all_workers.pop() else {
         unreachable!()
@@ -372,10 +384,11 @@ where
     last
 }
 
-/// Takes in what each worker of connections holds, and answers the workers of datagrams, which have room here, the last
-/// one first, once all have ended.
+/// Takes in what each worker of connections holds, and its host, which has room here, and answers the workers of
+/// datagrams, which have room here, the last one first, once all have ended.
 fn gather<'a, J, E, H, G, I, R: Wait>(
     pass: &mut Pass<J, E>,
+    hosts: &mut Vec<RetiredHost<H>>,
     mut all_workers: Vec<ServerWorker<'a, J, E, H, G, I, R>>,
     mut datagram_workers: Vec<DatagramWorker<'a, I, J, H, R>>,
 ) -> Vec<DatagramWorker<'a, I, J, H, R>>
@@ -387,20 +400,25 @@ where
     I: Drop,
     requires none { datagram_workers.items ≡ [] }
     requires room { length (mails_in all_workers.items) ≤ vec_capacity datagram_workers }
+    requires hosts { length hosts.old.items + length all_workers.items ≤ vec_capacity hosts.old }
     ensures datagram_workers { reverse result.items ≡ mails_in all_workers.entry.items }
     ensures parts { pass.new.parts ≡ pass.old.parts + (held_in all_workers.entry.items).parts }
     ensures out { pass.new.out ≡ pass.old.out + (held_in all_workers.entry.items).out }
     ensures ended { pass.new.ended ≡ pass.old.ended + (held_in all_workers.entry.items).ended }
+    ensures hosts { length hosts.new.items + length result.items
+        ≡ length hosts.old.items + length all_workers.entry.items }
+    ensures hosts_room { vec_capacity hosts.new ≡ vec_capacity hosts.old }
 {
     while let Some(server_worker) = all_workers.pop() {
-        take_in(pass, &mut datagram_workers, server_worker);
+        take_in(pass, hosts, &mut datagram_workers, server_worker);
     }
     datagram_workers
 }
 
-/// Takes in what a worker of connections holds, or keeps one of datagrams, which has room here.
+/// Takes in what a worker of connections holds, and its host, or keeps one of datagrams, which have room here.
 fn take_in<'a, J, E, H, G, I, R: Wait>(
     pass: &mut Pass<J, E>,
+    hosts: &mut Vec<RetiredHost<H>>,
     datagram_workers: &mut Vec<DatagramWorker<'a, I, J, H, R>>,
     server_worker: ServerWorker<'a, J, E, H, G, I, R>,
 )
@@ -412,15 +430,23 @@ where
     I: Drop,
     requires room { length datagram_workers.old.items + length (mails_in (server_worker ∷ []))
         ≤ vec_capacity datagram_workers.old }
+    requires hosts { length hosts.old.items < vec_capacity hosts.old }
     ensures datagram_workers { datagram_workers.new.items
         ≡ datagram_workers.old.items ++ mails_in (server_worker.entry ∷ []) }
     ensures capacity { vec_capacity datagram_workers.new ≡ vec_capacity datagram_workers.old }
     ensures parts { pass.new.parts ≡ pass.old.parts + (held_in (server_worker.entry ∷ [])).parts }
     ensures out { pass.new.out ≡ pass.old.out + (held_in (server_worker.entry ∷ [])).out }
     ensures ended { pass.new.ended ≡ pass.old.ended + (held_in (server_worker.entry ∷ [])).ended }
+    ensures hosts { length hosts.new.items + length (mails_in (server_worker.entry ∷ []))
+        ≡ length hosts.old.items + 1 }
+    ensures hosts_room { vec_capacity hosts.new ≡ vec_capacity hosts.old }
 {
     match server_worker {
-        ServerWorker::Connections(connection_worker) => pass.merge(connection_worker.into_pass()),
+        ServerWorker::Connections(connection_worker) => {
+            let (held, host) = connection_worker.into_parts();
+            pass.merge(held);
+            hosts.push_reserved(host);
+        }
         ServerWorker::Datagrams(datagram_worker) => datagram_workers.push_reserved(datagram_worker),
     }
 }

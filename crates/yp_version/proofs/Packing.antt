@@ -1,11 +1,14 @@
 -- Rows that are spelled behind one another are read again at their places.
-use Rattle.std.proofs.Common.{◌≡◌, ℕ, ◌+◌, ◌^◌, ◌<◌, ◌≤◌, List, [], ◌∷◌, ◌++◌, length, take, drop, map, replicate, get_or, All, Vec, Global, Result, Ok, Err, IfOk, refl, sym, ap, ◌∙◌, subst, append_assoc, arith}
+use Rattle.std.proofs.Common.{◌≡◌, ℕ, zero, suc, ◌+◌, ◌^◌, ◌<◌, ◌≤◌, List, [], ◌∷◌, ◌++◌, length, take}
+use Rattle.std.proofs.Common.{drop, map, replicate, get_or, All, Vec, Global, Result, Ok, Err, IfOk, refl, sym, ap, ◌∙◌}
+use Rattle.std.proofs.Common.{subst, append_assoc, arith, add-one}
 use Rattle.std.specs.List.{flat_map, AllByRecursion}
 use Rattle.std.proofs.Math.ListN.{drop_of_length-le}
 use Rattle.std.proofs.Math.Seq.{drop-append_seam, take-append_seam}
 use Rattle.std.proofs.lemmas.List.Sums.{sum_by-cons}
 use Rattle.std.proofs.lemmas.Nat.{from_be_bytes-to_be_bytes_4}
-use Rattle.std.proofs.lemmas.List.{length-append, length-drop, length-take, length-replicate, append-nil, drop-append-le, drop-drop, take-append-drop, flat_map_more}
+use Rattle.std.proofs.lemmas.List.{get_or-map, length-append, length-map, length-drop, length-take, length-replicate}
+use Rattle.std.proofs.lemmas.List.{append-nil, drop-append-le, drop-drop, take-append-drop, flat_map_more}
 use Rattle.std.proofs.lemmas.List.Elements.{recursion_from_All, All-from_recursion, All-push}
 use Rattle.yp_xdr.specs.Kind.{U32, Opaque}
 use Rattle.yp_xdr.specs.Spelling.{spelling, opaque, fixed, padding}
@@ -192,6 +195,41 @@ row_within bytes place at =
     let taken = length-take (row_len row) (drop place bytes) in
     let left = length-drop place bytes in
     omega arith
+
+-- the place behind a row is that of the next one, or the end of all
+next_place : (at : ℕ) (rows : List Row) (i d : ℕ) (none : Row) → i < length rows
+    → get_or (places_from at rows) (suc i) (at + rows_len rows)
+    ≡ get_or (places_from at rows) i d + row_len (get_or rows i none)
+next_place at [] i d none lt = absurd (omega arith)
+next_place at (row ∷ []) zero d none lt =
+    let c = sum_by-cons row_len row [] in let e : at + rows_len (row ∷ []) ≡ at + row_len row = omega arith in e
+next_place at (row ∷ other ∷ rows) zero d none lt = refl
+next_place at (row ∷ rows) (suc i) d none lt =
+    let c = sum_by-cons row_len row rows in
+    let e : at + rows_len (row ∷ rows) ≡ at + row_len row + rows_len rows = omega arith in
+    ap (λ (n : ℕ). get_or (places_from (at + row_len row) rows) (suc i) n) e
+    ∙ next_place (at + row_len row) rows i d none (omega arith)
+
+-- the next place, or the end of all bytes, is behind the row with a number
+pub row_ends : (inside : Inside) → IsPacked inside → (i place : ℕ) → i < length inside.places.items
+    → place ≡ get_or inside.places.items i place
+    → get_or inside.places.items (i + 1) (length inside.bytes.items)
+    ≡ place + row_len (row_from inside.bytes.items place)
+row_ends inside kept i place within is =
+    let head = (packed_of inside).head in
+    let rows = (packed_of inside).rows in
+    let places = kept.lies.places in
+    let count : length rows ≡ length inside.places.items =
+    length-map inside.places.items (row_from inside.bytes.items) in
+    let size : length inside.bytes.items ≡ length head + rows_len rows =
+    omega (arith, ap length kept.lies.bytes, length-append head (flat_map row_bytes rows), length_rows rows) in
+    let row_is : get_or rows i (row_from inside.bytes.items place) ≡ row_from inside.bytes.items place =
+    get_or-map (row_from inside.bytes.items) inside.places.items i place
+    (row_from inside.bytes.items place) within ∙ ap (row_from inside.bytes.items) (sym is) in
+    let step : i + 1 ≡ suc i = add-one i in
+    (λ j. get_or (places j) (step j) (size j))
+    ∙ next_place (length head) rows i place (row_from inside.bytes.items place) (omega (arith, count))
+    ∙ (λ j. (sym (is ∙ ap (λ (l : List ℕ). get_or l i place) places)) j + row_len (row_is j))
 
 -- the fields hold these rows behind this head
 pub packed_view : (inside : Inside) (head : List ℕ) (rows : List Row) → KeepsLimits rows

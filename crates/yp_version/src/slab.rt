@@ -1,8 +1,8 @@
 //! Bytes that stand before rows, and behind them the rows, each spelled as in the body of a version.
 
-ghost use Rattle.std.specs.Prelude.{◌≡◌, ◌+◌, ◌<◌, ◌≤◌, ◌^◌, [], ◌∷◌, ◌++◌, length, replicate, drop, map, slice_get};
+ghost use Rattle.std.specs.Prelude.{◌≡◌, ◌+◌, ◌<◌, ◌≤◌, ◌^◌, [], ◌∷◌, ◌++◌, length, replicate, drop, map};
 ghost use Rattle.std.specs.Prelude.{ℕ, Some, true, false, option_map, MatchOption, IfSome, IfOk, OnOk, OnErr, IsTrue};
-ghost use Rattle.std.specs.Prelude.{All, IsPermutation};
+ghost use Rattle.std.specs.Prelude.{slice_get, slice_index_or, All, IsPermutation};
 ghost use Rattle.std.specs.List.{flat_map};
 ghost use Rattle.yp_xdr.specs.Kind.{U32};
 ghost use Rattle.yp_xdr.specs.Spelling.{spelling};
@@ -136,8 +136,9 @@ impl Slab {
         ensures key_len { IfSome result (λ row. length row.0.now ≤ 4 + key_max) }
         ensures value_len { IfSome result (λ row. length row.1.now ≤ 4 + value_max) }
     {
-        let place = self.places.get(i)?;
-        Some(spelled_from(&self.bytes, *place))
+        let place = *self.places.get(i)?;
+        let end = place_behind(&self.places, i, self.bytes.len());
+        Some(spelled_from(&self.bytes, place, end))
     }
 
     /// The number of the row with this key among rising rows, by halving.
@@ -346,16 +347,26 @@ fn row_from(bytes: &[u8], place: u32) -> (&[u8], &[u8])
     (key, opaque_from(bytes, behind))
 }
 
-// The row that stands at a place, as it is spelled there.
-fn spelled_from(bytes: &[u8], place: u32) -> (&[u8], &[u8])
-    requires { IsRowAt bytes.now place }
+// The place behind the row with this number: that of the next row, or the end of all bytes.
+fn place_behind(places: &[u32], i: usize, end: usize) -> usize
+    requires { i < length places.now }
+    ensures { result ≡ slice_index_or places.now (i + 1) end }
+{
+    match places.get(i + 1) {
+        Some(next) => *next as usize,
+        None => end,
+    }
+}
+
+// The row that stands from a place up to another one, as it is spelled there. The length of its value isn't looked at.
+fn spelled_from(bytes: &[u8], place: u32, end: usize) -> (&[u8], &[u8])
+    requires there { IsRowAt bytes.now place }
+    requires end { end ≡ place + row_len (row_from bytes.now place) }
     ensures row { (result.0.now, result.1.now) ≡ spelled_row (row_from bytes.now place) }
     ensures key_len { length result.0.now ≤ 4 + key_max }
     ensures value_len { length result.1.now ≤ 4 + value_max }
 {
-    let (key, value) = row_from(bytes, place);
     let start = place as usize;
-    let behind = start + (WORD + padded(key.len()));
-    let end = behind + (WORD + padded(value.len()));
+    let behind = start + (WORD + padded(key_from(bytes, place).len()));
     (&bytes[start..behind], &bytes[behind..end])
 }

@@ -2,9 +2,9 @@
 //!
 //! A [`MailServer`] is a handler of an inbox. Before a datagram is answered its host learns what others showed. A map
 //! that the datagram asks for is made before the reply. A transfer that it asks for is left behind the reply in
-//! [`PendingTransfers`], and a [`TransferCarrier`] in a thread of its own carries out what is there, while servers go on
-//! with their turns. What goes out for what comes in stands on [`serve_mail`], and that each transfer that was left was
-//! carried out on [`MailServer::carry_rest`].
+//! [`PendingTransfers`], and a [`TransferCarrier`] in a thread of its own carries out what is there, while servers go
+//! on with their turns. What goes out for what comes in stands on [`serve_mail`], and that each transfer that was left
+//! was carried out on [`MailServer::carry_rest`].
 
 mod arrivals;
 mod carrier;

@@ -13,6 +13,6 @@ mod put;
 pub use cursor::Cursor;
 pub use fault::{NoRoom, XdrFault};
 pub use put::{
-    fixed_len, opaque_len, put_bool, put_fixed, put_i32, put_opaque, put_u32, set_bool, set_fixed,
-    set_i32, set_opaque, set_u32,
+    fixed_len, opaque_len, put_bool, put_fixed, put_i32, put_opaque, put_u32, set_bool, set_bytes,
+    set_fixed, set_i32, set_opaque, set_u32,
 };

@@ -94,14 +94,20 @@ pub fn set_opaque(buf: &mut [u8], at: usize, bytes: &[u8]) -> usize
     set_fixed(buf, content, bytes)
 }
 
-/// Writes bytes padded with zeros at `at`, and answers the place after them.
+/// Writes bytes padded with zeros at `at`, and answers the place after them. A whole word of zeros is written first and
+/// the bytes over it, since to write only as many as the padding has would cost more.
 #[tactic(auto, unfolding(crate::specs::Spelling::fixed))]
 pub fn set_fixed(buf: &mut [u8], at: usize, bytes: &[u8]) -> usize
     requires { at + length (spelling (Fixed (length bytes.now)) bytes.now) ≤ length buf.old }
     ensures { Sets (spelling (Fixed (length bytes.now)) bytes.now) at result buf.old buf.new }
 {
-    let padding = set_bytes(buf, at, bytes);
-    set_bytes(buf, padding, &[0; WORD][..padding_of(bytes.len())])
+    if bytes.is_empty() {
+        return at;
+    }
+    let end = at + fixed_len(bytes);
+    set_bytes(buf, end - WORD, &[0; WORD]);
+    set_bytes(buf, at, bytes);
+    end
 }
 
 /// How many bytes [`put_opaque`] writes for these bytes.
@@ -123,11 +129,37 @@ pub fn fixed_len(bytes: &[u8]) -> usize
 }
 
 /// Writes bytes as they are at `at`, and answers the place after them.
-fn set_bytes(buf: &mut [u8], at: usize, bytes: &[u8]) -> usize
+pub fn set_bytes(buf: &mut [u8], at: usize, bytes: &[u8]) -> usize
     requires { at + length bytes.now ≤ length buf.old }
     ensures { Sets bytes.now at result buf.old buf.new }
 {
     let end = at + bytes.len();
-    buf[at..end].copy_from_slice(bytes);
+    copy(&mut buf[at..end], bytes);
     end
+}
+
+// Copies bytes. Few of them are copied as two parts of a fixed length, which may overlap: most values of messages are
+// so short that a copy of a length that is known only then would cost more.
+fn copy(to: &mut [u8], bytes: &[u8])
+    requires { length to.old ≡ length bytes.now }
+    ensures { to.new ≡ bytes.now }
+{
+    match bytes.len() {
+        8..=15 => copy_ends::<8>(to, bytes),
+        16..=31 => copy_ends::<16>(to, bytes),
+        32..=64 => copy_ends::<32>(to, bytes),
+        _ => to.copy_from_slice(bytes),
+    }
+}
+
+// Copies the first `N` bytes and the last ones, which together are all.
+fn copy_ends<const N: usize>(to: &mut [u8], bytes: &[u8])
+    requires room { length to.old ≡ length bytes.now }
+    requires first { N ≤ length bytes.now }
+    requires all { length bytes.now ≤ N + N }
+    ensures { to.new ≡ bytes.now }
+{
+    let last = bytes.len() - N;
+    to[..N].copy_from_slice(&bytes[..N]);
+    to[last..].copy_from_slice(&bytes[last..]);
 }

@@ -1,3 +1,2 @@
-pub mod Histories
 pub mod Tables
 pub mod Boards

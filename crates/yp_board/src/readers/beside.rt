@@ -3,7 +3,7 @@
 ghost use Rattle.std.specs.Prelude.{◌≡◌};
 ghost use Rattle.yp_board.specs.Views.{Refreshes};
 
-use crate::readers::history::Naming;
+use crate::readers::Naming;
 use crate::readers::reader::Reader;
 use crate::readers::writer::Writer;
 use crate::{Show, View};

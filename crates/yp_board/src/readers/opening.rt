@@ -6,10 +6,10 @@ ghost use Rattle.std.specs.Arc.{arc_value};
 ghost use Rattle.yp_board.specs.Logs.{starts};
 
 use crate::Catalog;
-use crate::readers::history::{History, Naming, Opened};
 use crate::readers::reader::Reader;
 use crate::readers::slots::Slots;
 use crate::readers::writer::Writer;
+use crate::readers::{History, Naming, Opened, Shown};
 use std::alloc::Global;
 use std::sync::{Arc, Wait};
 use yp_io::NoMemory;
@@ -99,7 +99,7 @@ fn begin<J: Naming>(
     ensures { OnOk result (history.new ≡ history.old ++ starts map (option_map arc_value version.now ∷ [])) }
 {
     match version {
-        Some(version) if !history.push(map, version) => Err(NoMemory),
+        Some(version) if !history.push(&Shown::new(map, version)) => Err(NoMemory),
         _ => Ok(()),
     }
 }

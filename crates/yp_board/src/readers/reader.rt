@@ -4,8 +4,8 @@ ghost use Rattle.std.specs.Prelude.{◌≡◌, ◌⊎◌, IfOk, IfSome, OnOk, On
 ghost use Rattle.std.specs.Arc.{arc_value};
 ghost use Rattle.yp_board.specs.Views.{IsFront, Refreshes};
 
-use crate::readers::history::{Front, Naming};
 use crate::readers::table::{Note, Table};
+use crate::readers::{Front, Naming};
 use crate::{Catalog, View};
 use left_right::ReadHandle;
 use std::marker::Model;

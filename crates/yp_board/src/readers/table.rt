@@ -6,8 +6,8 @@ ghost use Rattle.yp_board.specs.Logs.{shown};
 ghost use Rattle.yp_board.specs.Views.{IsFront};
 ghost use Rattle.yp_board.specs.inside.readers.Tables.{TableHolds};
 
-use crate::readers::history::{Front, Naming, Shown};
 use crate::readers::slots::Slots;
+use crate::readers::{Front, Naming, Shown};
 use left_right::Absorb;
 use std::alloc::AllocError;
 use std::marker::Model;

@@ -4,10 +4,10 @@ ghost use Rattle.std.specs.Prelude.{◌≡◌, ◌<◌, [], ◌∷◌, ◌++◌,
 ghost use Rattle.std.specs.Arc.{arc_value};
 ghost use Rattle.yp_board.specs.inside.readers.Tables.{TableHolds};
 
-use crate::readers::history::{Front, History, Naming, Shown};
 use crate::readers::reader::Reader;
 use crate::readers::slots::Slots;
 use crate::readers::table::{Note, Table};
+use crate::readers::{Front, History, Naming, Shown};
 use crate::{Catalog, Show, ShowRefused, Tell};
 use left_right::{Absorb, WriteHandle};
 use std::alloc::Global;
@@ -134,7 +134,7 @@ where
         let Ok(slots) = Arc::new(self.alloc, slots) else {
             return Err(ShowRefused { version });
         };
-        if !self.history.push(map, &version) {
+        if !self.history.push(&Shown::new(map, &version)) {
             return Err(ShowRefused { version });
         }
         self.slots = slots;
@@ -153,7 +153,7 @@ where
 
     ghost kept = { λ front. front };
 
-    #[tactic(auto, using(crate::proofs::readers::Fronts::both_fronts))]
+    #[tactic(auto, using(crate::proofs::Fronts::both_fronts))]
     fn tell_to(&mut self, reader: &mut Reader<J>) -> Result<(), NoMemory> {
         self.history.covers(reader.front());
         reader.meet(self.tell())

@@ -1,6 +1,6 @@
 //! Text that goes out through a buffer.
 
-ghost use Rattle.std.specs.Prelude.{◌≡◌, ◌+◌, ◌≤◌, [], ◌∷◌, ◌++◌, length, IsTrue, IfOk, OnOk, OnErr};
+ghost use Rattle.std.specs.Prelude.{◌≡◌, ◌+◌, ◌<◌, ◌≤◌, [], ◌∷◌, ◌++◌, length, IsTrue, IfOk, OnOk, OnErr};
 ghost use Rattle.std.specs.Io.KnownBytes.{Appends};
 ghost use Rattle.yp_io.specs.Counts.{CountsFaults};
 ghost use Rattle.yp_client.specs.query.Lines.{line};
@@ -64,8 +64,25 @@ impl TextBuffer {
         ensures puts { Puts (line text.now) result self.old self.new (K.output sink.old) (K.output sink.new) }
         ensures cause { CountsFaults (K.faults sink.old) (K.faults sink.new) result }
     {
+        if self.bytes.len() + text.len() < BUFFER_LEN {
+            self.keep_line(text);
+            return Ok(());
+        }
         self.put(sink, text)?;
         self.put(sink, b"\n")
+    }
+
+    /// Keeps a line behind what waits, where there is room for it.
+    fn keep_line(&mut self, text: &[u8])
+        requires { length self.old + length text.now < 65536 }
+        ensures { self.new ≡ self.old ++ line text.now }
+    {
+        let Ok(()) = self.bytes.extend_from_slice(text) else {
+            unreachable!()
+        };
+        let Ok(()) = self.bytes.push(b'\n') else {
+            unreachable!()
+        };
     }
 
     /// Puts a line of two texts, with a space between.

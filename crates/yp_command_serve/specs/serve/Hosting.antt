@@ -18,13 +18,12 @@ use Rattle.yp_answer.specs.declared.session.session.TheConstants.{CALLS_MAX}
 use Rattle.yp_rpc.specs.Turns.{InboxTells, inbox_tells}
 use Rattle.yp_publisher.specs.sharing.Failures.{disks_of}
 use Rattle.yp_host.specs.workers.Workers.{WorkerState}
-use Rattle.yp_host.specs.workers.Charges.{totals_of}
+use Rattle.yp_host.specs.workers.Charges.{counted_of}
 use Rattle.yp_host.specs.workers.Makings.{IsBuiltAsNamed}
 use Rattle.yp_host.specs.workers.Wires.{CoversOrders, CoversSources}
-use Rattle.yp_host.specs.workers.Uses.{IsUsedForTransfers}
 use Rattle.yp_worker.specs.Receptions.{ListenTells, IsListenerState, opening_by, terms_of}
 use Rattle.yp_server.specs.Serving.{conduct_at, ServesInboxes, DisksStand}
-use Rattle.yp_server.specs.Counting.{count_totals, CountsAll, FilesAreCovered}
+use Rattle.yp_server.specs.Counting.{CountsAndTells, FilesAreCovered}
 use Rattle.yp_server.specs.Origins.{ComesFrom, EachComesFrom}
 use Rattle.yp_command_serve.specs.declared.serve.serve.Doors.{Doors}
 use Rattle.yp_command_serve.specs.declared.serve.tally.Hosted.{Hosted}
@@ -94,13 +93,14 @@ first_of maps = record { log = starts 0 (versions maps); standings = map (λ kep
 -- give a version. Each version that was shown was new behind the log before it: it was built so, or a wire gave it. At
 -- each moment a crash leaves of each map what it might have left once it was loaded, or bytes that stand for what was
 -- shown of it or for a version that was new. The dial was used for transfers of the maps alone: to fetch one from a
--- host of the table, and to tell a caller.
+-- host of the table, and to tell a caller what a host left it.
 pub record IsAccounted {D : Type 0} (history : D → Option History) (faults : D → ℕ) (setup : ServeSetup)
     (first : PublisherState)
     (maps : List (StoredMap D)) (most : ℕ) (hosted : Hosted) (old new : ServerTells) (log : Log)
     (disks : List D) : Type 0 where
-  pub counted : CountsAll (conduct setup) count_totals (terms_of setup.catalogue first.log most)
+  pub counted : CountsAndTells (conduct setup) (terms_of setup.catalogue first.log most)
       old.listen new.listen hosted.tally.calls log setup.turns hosted.inbox_fault old.boxes new.boxes hosted.totals
+      setup.hosts old.supply.dial new.supply.dial
   pub files : FilesAreCovered history faults old.supply.texts new.supply.texts (disks_of maps) disks hosted.totals
   pub orders : CoversOrders old.supply.dial.past new.supply.dial.past hosted.totals.outcomes.reached
   pub sources : CoversSources old.supply.dial.past new.supply.dial.past old.supply.dial.faults new.supply.dial.faults
@@ -109,7 +109,6 @@ pub record IsAccounted {D : Type 0} (history : D → Option History) (faults : D
       setup.catalogue log disks hosted.totals.made old.supply.dial.past new.supply.dial.past
   pub traced : EachComesFrom history (IsBuiltAsNamed setup.text setup.catalogue) setup.catalogue first.log log
       (map history (disks_of maps)) disks old.supply.dial.past new.supply.dial.past
-  pub dialed : IsUsedForTransfers setup.hosts setup.catalogue.maps old.supply.dial new.supply.dial
 
 -- Maps that were loaded were served, and what their files stood for was shown before the first caller came. What was
 -- shown since stands behind that in one log. So many connections came, and all were closed. Each datagram had its turn,
@@ -122,7 +121,7 @@ pub record IsServed {D : Type 0} (history : D → Option History) (faults : D �
   pub log : Log
   pub grown : IsFront (starts 0 (versions maps)) log
   pub connections : IsListenerState old.listen new.listen hosted.tally.connections hosted.tally.listen_fault 0 1
-  pub datagrams : ServesInboxes (conduct setup) totals_of setup.catalogue (starts 0 (versions maps)) log setup.turns
+  pub datagrams : ServesInboxes (conduct setup) counted_of setup.catalogue (starts 0 (versions maps)) log setup.turns
       hosted.inbox_fault old.boxes new.boxes
   pub leaves : DisksStand history setup.catalogue log disks
   pub rises : AreTold history disks → IsRisingLog log

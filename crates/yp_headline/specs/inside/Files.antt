@@ -14,7 +14,7 @@ use Rattle.yp_answer.specs.declared.procedure.Path.TheVariants.{Stream, Datagram
 use Rattle.yp_answer.specs.declared.session.session.End.{End}
 use Rattle.yp_answer.specs.declared.session.session.End.TheVariants.{Clean, Torn, TooLong}
 use Rattle.yp_answer.specs.declared.session.session.End.TheVariants.{ReadFault, WriteFault, Enough}
-use Rattle.yp_headline.specs.World.{World, Letter, Store, Given, Filed, Dialed}
+use Rattle.yp_headline.specs.World.{World, Incoming, Letter, Store, Given, Filed, Dialed}
 
 -- whether a session that ended so was cut short
 abbrev pub is_cut : End → Bool
@@ -47,6 +47,10 @@ streamed peer came = record { peer = peer; path = Stream; came = came }
 -- one that was asked in datagrams, and those that came of it
 abbrev pub mailed : Peer → List (List ℕ) → Dialed
 mailed peer came = record { peer = peer; path = Mail; came = came }
+
+-- a wire that is to come to a listener
+abbrev pub incoming_of : Connected → Incoming
+incoming_of wire = record { peer = wire.peer; came = unwrap_or wire.input [] }
 
 -- a wire that came of a dial
 abbrev pub dialed_of : Connected → Dialed
@@ -92,6 +96,7 @@ file_world own name text reading dialed stored old new = record {
   stores = filed (Some old) (Some new) ∷ [];
   text = text;
   reading = reading;
+  coming = [];
   connections = [];
   datagrams = [];
   dialed = dialed;

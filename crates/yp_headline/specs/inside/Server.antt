@@ -17,8 +17,8 @@ use Rattle.yp_command_serve.specs.serve.Hosting.{DoorTells}
 use Rattle.yp_command_serve.specs.serve.Serve.{Job, catalogue_of, place, ServeDoes}
 use Rattle.yp_headline.specs.World.{World, Connection, Datagram}
 use Rattle.yp_headline.specs.Publishing.{IsAmong}
-use Rattle.yp_headline.specs.Headline.{Replies, Crashes}
-use Rattle.yp_headline.specs.inside.Files.{dialed_of, posted_between, stores_between}
+use Rattle.yp_headline.specs.Headline.{Replies, Crashes, CallBacks}
+use Rattle.yp_headline.specs.inside.Files.{incoming_of, dialed_of, posted_between, stores_between}
 
 -- ---- connections
 
@@ -76,14 +76,15 @@ may_lose status = false
 
 -- ---- the whole
 
--- what is told of a server: of its disks all that they were at each moment, of each connection that was closed its
--- bytes, what its inboxes told, and the wires that came of its dial, with their bytes
+-- what is told of a server: of its disks all that they were at each moment, the streams that were to come, of each
+-- connection that was closed its bytes, what its inboxes told, and the wires that came of its dial, with their bytes
 pub record AllTell {S K D C A I T : Type 0} (seen : Seeing S K D C A I T) (old new : Office S K D C A I T)
     (door door' : DoorTells) (closed : List ClosedConnection) (inboxes : List Heard) (wires : List Connected)
     : Type 0 where
   pub disks : AreTold seen.disk.history (disks_of old.disks.items)
   pub disks_at_last : AreTold seen.disk.history (disks_of new.disks.items)
   pub calls : ListenerHistory
+  pub coming : (wire : Connected) → IsAmong calls.coming wire → (stream : List ℕ) × (wire.input ≡ Some stream)
   pub calls_at_last : ListenerHistory
   pub more_closed : List (List ClosedConnection)
   pub listens : door.listen.past ≡ Some calls
@@ -102,14 +103,16 @@ pub record AllTell {S K D C A I T : Type 0} (seen : Seeing S K D C A I T) (old n
   pub wires_are : dialed_at_last.came ≡ dialed.came ++ wires
   pub inputs : (wire : Connected) → IsAmong wires wire → (stream : List ℕ) × (wire.input ≡ Some stream)
 
--- a server of stored maps, which served these connections and these datagrams, while these wires came of its dial
+-- a server of stored maps, to which these streams were to come, and which served these connections and these datagrams,
+-- while these wires came of its dial
 abbrev pub serve_world : {S K D C A I T : Type 0} → Seeing S K D C A I T → Job → (old new : Office S K D C A I T)
-    → List Connection → List (List Datagram) → List Connected → World
-serve_world seen job old new connections datagrams wires = record {
+    → (coming wires : List Connected) → List Connection → List (List Datagram) → World
+serve_world seen job old new coming wires connections datagrams = record {
   catalogue = catalogue_of job;
   stores = stores_between seen.disk.history (disks_of old.disks.items) (disks_of new.disks.items);
   text = seen.texts.text old.texts;
   reading = reading_of;
+  coming = map incoming_of coming;
   connections = connections;
   datagrams = datagrams;
   dialed = map dialed_of wires;
@@ -118,7 +121,7 @@ serve_world seen job old new connections datagrams wires = record {
 }
 
 -- The connections that were closed, and the datagrams that inboxes told, are those of a world, and on one log of it the
--- headline holds of replies and of crashes.
+-- headline holds of replies, of crashes and of call backs.
 pub record ServerHolds (world : List Connection → List (List Datagram) → World) (loses : Bool)
     (closed : List ClosedConnection) (inboxes : List Heard) : Type 0 where
   pub connections : List Connection
@@ -129,6 +132,7 @@ pub record ServerHolds (world : List Connection → List (List Datagram) → Wor
   pub log : Log
   pub replies : Replies (world connections datagrams) begun log
   pub crashes : Crashes (world connections datagrams) begun log
+  pub called_back : CallBacks (world connections datagrams) begun log
 
 -- whether `serve` served its maps, by its status
 abbrev pub was_hosted : Status → Bool
@@ -144,6 +148,5 @@ ServeHolds {S} {K} {D} {C} {A} {I} {T} seen =
     (job : Job) (status : Status) (old new : Office S K D C A I T) (door door' : DoorTells) (logged : List ℕ)
     → ServeDoes seen job status old new door door' logged → was_hosted status ≡ true
     → (closed : List ClosedConnection) (inboxes : List Heard) (wires : List Connected)
-    → AllTell seen old new door door' closed inboxes wires
-    → ServerHolds (λ connections datagrams. serve_world seen job old new connections datagrams wires) (may_lose status)
-    closed inboxes
+    → (tell : AllTell seen old new door door' closed inboxes wires)
+    → ServerHolds (serve_world seen job old new tell.calls.coming wires) (may_lose status) closed inboxes

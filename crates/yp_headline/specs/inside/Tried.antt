@@ -18,7 +18,7 @@ use Rattle.yp_answer.specs.Transfer.{Taken}
 use Rattle.yp_answer.specs.Reply.{make_reply, xfr_reply}
 use Rattle.yp_headline.specs.World.{World, Datagram, Letter, Given, Filed, Dialed}
 use Rattle.yp_headline.specs.inside.Files.{streamed}
-use Rattle.yp_headline.specs.Headline.{Replies, Crashes, Transfers}
+use Rattle.yp_headline.specs.Headline.{Replies, Crashes, Transfers, CallBacks}
 
 -- a call of the procedure 0, and its reply
 abbrev pub null_call : ℕ → List ℕ
@@ -40,6 +40,7 @@ one_connection came sent cut = record {
   stores = [];
   text = λ name. None;
   reading = reading_of;
+  coming = [];
   connections = record { peer = somebody; came = came; sent = sent; cut = cut } ∷ [];
   datagrams = [];
   dialed = [];
@@ -57,6 +58,7 @@ datagram_world mail = record {
   stores = [];
   text = λ name. None;
   reading = reading_of;
+  coming = [];
   connections = [];
   datagrams = (mail ∷ []) ∷ [];
   dialed = [];
@@ -123,6 +125,7 @@ one_file first middle last done dialed = record {
   }) ∷ [];
   text = λ name. None;
   reading = reading_of;
+  coming = [];
   connections = [];
   datagrams = [];
   dialed = dialed;
@@ -156,6 +159,7 @@ one_match sent_back = record {
   stores = Given (version_with 7 118) ∷ [];
   text = λ name. None;
   reading = reading_of;
+  coming = [];
   connections = record { peer = somebody; came = sent match_call; sent = sent_back; cut = false } ∷ [];
   datagrams = [];
   dialed = [];
@@ -188,6 +192,7 @@ make_world = record {
   stores = Given (version_with 7 118) ∷ [];
   text = λ name. Some text;
   reading = λ name. Rows;
+  coming = [];
   connections = record {
     peer = own_caller;
     came = sent make_call ++ sent match_call;
@@ -216,6 +221,7 @@ mails_world mails = record {
   stores = Given (version_with 7 118) ∷ [];
   text = λ name. Some text;
   reading = λ name. Rows;
+  coming = [];
   connections = [];
   datagrams = mails;
   dialed = [];
@@ -237,6 +243,7 @@ skewed_world came = record {
   }) ∷ [];
   text = λ name. None;
   reading = λ name. Rows;
+  coming = [];
   connections = [];
   datagrams = [];
   dialed = streamed own_caller came ∷ [];
@@ -255,6 +262,7 @@ installing = record {
   }) ∷ [];
   text = λ name. Some text;
   reading = λ name. Rows;
+  coming = [];
   connections = [];
   datagrams = [];
   dialed = [];
@@ -308,6 +316,7 @@ transfer_world = record {
   stores = Given (version_with 7 118) ∷ [];
   text = λ name. None;
   reading = reading_of;
+  coming = record { peer = somebody; came = sent xfr_call ++ sent match_call } ∷ [];
   connections = record {
     peer = somebody;
     came = sent xfr_call ++ sent match_call;
@@ -318,6 +327,14 @@ transfer_world = record {
   dialed = streamed somebody fetched_bytes ∷ [];
   posted = success_letter ∷ [];
   done = [];
+}
+
+-- the same transfer, which is asked for in a datagram
+abbrev pub mailed_transfer : World
+mailed_transfer = record transfer_world {
+  coming = [];
+  connections = [];
+  datagrams = (record { peer = somebody; came = xfr_call; sent = Some (xfr_reply 7 5 Succ); lost = false } ∷ []) ∷ [];
 }
 
 -- a server of one map, which is made of the text in one connection, and asked for in both and at two inboxes, and whose
@@ -332,6 +349,7 @@ served_world middle last = record {
   }) ∷ [];
   text = λ name. Some text;
   reading = λ name. Rows;
+  coming = [];
   connections = make_world.connections
       ++ record { peer = somebody; came = sent match_call; sent = sent (match_reply 118); cut = false } ∷ [];
   datagrams = (matched_mail 118 ∷ matched_mail 119 ∷ []) ∷ (matched_mail 118 ∷ []) ∷ [];
@@ -367,15 +385,17 @@ pub record RepliesAreFalse : Type 0 where
 
 -- ---- the table of the right ones
 
--- One MATCH; a map that is made, and then asked for; one that is fetched and called back, and then asked for; datagrams
--- at two inboxes, of which the second is behind the first; three installs; a source that changes between its replies,
--- of which nothing is stored; and a server of all these at once, whose file stands at the end for the version that was
--- given, though that isn't shown.
+-- One MATCH; a map that is made, and then asked for; one that is fetched and called back, and then asked for, of one
+-- caller, or of several; one that is fetched and called back for a datagram; datagrams at two inboxes, of which the
+-- second is behind the first; three installs; a source that changes between its replies, of which nothing is stored;
+-- and a server of all these at once, whose file stands at the end for the version that was given, though that isn't
+-- shown.
 pub record HoldsOfRows : Type 0 where
   pub first_match : Replies (one_match (sent (match_reply 118))) first_log first_log
   pub make_then_match : Replies make_world first_log made_log
   pub session_transfer : Replies transfer_world first_log fetched_log
-      × Transfers transfer_world first_log fetched_log
+      × Transfers transfer_world first_log fetched_log × CallBacks transfer_world first_log fetched_log
+  pub mail_transfer : CallBacks mailed_transfer first_log fetched_log
   pub two_inboxes : Replies (mails_world
       ((matched_mail 118 ∷ matched_mail 119 ∷ []) ∷ (matched_mail 118 ∷ []) ∷ [])) first_log made_log
   pub three_installs : Crashes installing first_log all_log

@@ -1,20 +1,22 @@
 -- Worlds of files, and of transfers, of which the headline is false.
-use Rattle.std.specs.Prelude.{ℕ, true, List, [], ◌∷◌, ◌++◌, Some, None, take}
+use Rattle.std.specs.Prelude.{ℕ, pos, true, List, [], ◌∷◌, ◌++◌, Some, None, take}
 use Rattle.yp_io.specs.Disk.{DiskState}
 use Rattle.yp_rpc.specs.Records.{sent}
+use Rattle.yp_rpc.specs.Called.{call_of}
 use Rattle.yp_rpc.specs.Reply.{words, reply_head}
 use Rattle.yp_rpc.specs.declared.reply.ReplyHead.TheVariants.{Success}
+use Rattle.yp_messages.specs.Transfers.{resp_xfr}
 use Rattle.yp_board.specs.Logs.{Log}
 use Rattle.yp_texts.specs.declared.reading.Reading.TheVariants.{Rows}
 use Rattle.yp_texts.specs.Readings.{reading_of}
-use Rattle.yp_headline.specs.World.{World, Filed, Dialed}
+use Rattle.yp_headline.specs.World.{World, Letter, Filed, Dialed}
 use Rattle.yp_headline.specs.inside.Files.{streamed}
-use Rattle.yp_headline.specs.Headline.{Crashes, Transfers}
+use Rattle.yp_headline.specs.Headline.{Crashes, Transfers, CallBacks}
 use Rattle.yp_headline.specs.inside.Tried.{cell_of, shut_cell, version_with, whole_file, torn_file}
-use Rattle.yp_headline.specs.inside.Tried.{synced, one_file, own_map, text, somebody}
+use Rattle.yp_headline.specs.inside.Tried.{synced, one_file, own_map, text, somebody, low_caller}
 use Rattle.yp_headline.specs.inside.Tried.{order_reply, master_reply, all_reply}
 use Rattle.yp_headline.specs.inside.Tried.{fetched_bytes, success_call, success_letter, xfr_call, first_log}
-use Rattle.yp_headline.specs.inside.Tried.{fetched_log, transfer_world}
+use Rattle.yp_headline.specs.inside.Tried.{fetched_log, transfer_world, mailed_transfer}
 use Rattle.yp_headline.specs.inside.Tried.{IsTornWorld, IsWrongTransfer, served_world}
 
 -- ---- files
@@ -30,6 +32,7 @@ text_world first last done = record {
   stores = Filed (record { first = synced first; moments = last ∷ synced first ∷ []; last = last }) ∷ [];
   text = λ name. Some text;
   reading = λ name. Rows;
+  coming = [];
   connections = [];
   datagrams = [];
   dialed = [];
@@ -49,6 +52,7 @@ two_files last = record {
       ∷ Filed (record { first = synced []; moments = synced last ∷ synced [] ∷ []; last = synced last }) ∷ [];
   text = λ name. None;
   reading = reading_of;
+  coming = [];
   connections = [];
   datagrams = [];
   dialed = [];
@@ -129,11 +133,32 @@ called_unasked = record (one_file [] [] [] [] []) { posted = success_letter ∷ 
 abbrev pub called_of : List Dialed → World
 called_of dialed = record transfer_world { dialed = dialed }
 
--- one that is called back at another host
+-- one that is called back by these letters
+abbrev pub called_by : List Letter → World
+called_by letters = record transfer_world { posted = letters }
+
+-- at another host, at another port, and by the right letter and one more, of the number 6
+abbrev pub far_letter : Letter
+far_letter = record { peer = record { addr = 10 ∷ 0 ∷ 0 ∷ 8 ∷ []; port = 700 }; bytes = success_call }
+
 abbrev pub called_elsewhere : World
-called_elsewhere = record transfer_world {
-  posted = record { peer = record { addr = 10 ∷ 0 ∷ 0 ∷ 8 ∷ []; port = 700 }; bytes = success_call } ∷ [];
-}
+called_elsewhere = called_by (far_letter ∷ [])
+
+abbrev pub port_letter : Letter
+port_letter = record { peer = record { addr = 10 ∷ 0 ∷ 0 ∷ 7 ∷ []; port = 701 }; bytes = success_call }
+
+abbrev pub called_at_another_port : World
+called_at_another_port = called_by (port_letter ∷ [])
+
+abbrev pub sixth_letter : Letter
+sixth_letter = record { peer = low_caller; bytes = call_of resp_xfr 6 1073741824 1 1 (6, pos 1) }
+
+abbrev pub called_once_more : World
+called_once_more = called_by (success_letter ∷ sixth_letter ∷ [])
+
+-- one that is asked for in a datagram, and called back at another host
+abbrev pub mailed_elsewhere : World
+mailed_elsewhere = record mailed_transfer { posted = far_letter ∷ [] }
 
 -- the replies of a source that went from the order 9 to the order 10 between them
 abbrev pub skewed_bytes : List ℕ
@@ -146,12 +171,19 @@ called_two came = record transfer_world {
   posted = success_letter ∷ success_letter ∷ [];
 }
 
+-- The headline is false of its call backs.
+abbrev pub IsWrongCallBack : World → Type 0
+IsWrongCallBack world = (begun log : Log) → CallBacks world begun log → ⊥
+
 -- Transfers that are told as done: of no server; of one that gave nothing, its order alone, no rows, or another order
 -- at last; of one that told that it has no such map, or that answered another call; and of one that gave a version,
 -- where the file stands for nothing, for another row, for another order, for no rows, or for a row more. And transfers
 -- that are called back as done: for which nobody asked, of no server, of one that gave its order alone, of a source
--- that showed no version throughout, and of one that gave a version that the log hasn't; one that is called back at another host than that of its caller; one that is
--- called back twice; and two of which the second was taken when the one version of the server had been entered.
+-- that showed no version throughout, and of one that gave a version that the log hasn't; one that is called back at
+-- another host than that of its caller; one that is called back twice; and two of which the second was taken when the
+-- one version of the server had been entered. Of many callers: one for which nobody asked, one of no server, one of a
+-- server that gave a version that the log hasn't, or had when the first call came; one at another host, or port; one
+-- more, of another number; and one that was asked for in a datagram, at another host.
 pub record TransfersAreFalse : Type 0 where
   pub of_no_server : IsWrongTransfer (one_file [] [] (whole_file 7 118) (0 ∷ []) [])
   pub gave_nothing : IsWrongTransfer (transfer_of [])
@@ -173,6 +205,14 @@ pub record TransfersAreFalse : Type 0 where
   pub of_another_host : IsWrongTransfer called_elsewhere
   pub called_twice : IsWrongTransfer (called_two (sent xfr_call))
   pub entered_before : (begun : Log) → Transfers (called_two (sent xfr_call ++ sent xfr_call)) begun fetched_log → ⊥
+  pub asked_by_nobody : IsWrongCallBack called_unasked
+  pub asked_of_no_server : IsWrongCallBack (called_of [])
+  pub asked_unshown : (begun : Log) → CallBacks transfer_world begun first_log → ⊥
+  pub asked_when_shown : CallBacks transfer_world fetched_log fetched_log → ⊥
+  pub asked_elsewhere : IsWrongCallBack called_elsewhere
+  pub asked_at_another_port : IsWrongCallBack called_at_another_port
+  pub asked_once_more : IsWrongCallBack called_once_more
+  pub mail_elsewhere : IsWrongCallBack mailed_elsewhere
 
 -- ---- a right one
 

@@ -32,6 +32,7 @@ once_world store rows status came sent = record {
   stores = Given (once_version rows) ∷ [];
   text = λ name. None;
   reading = reading_of;
+  coming = [];
   connections = connection_of nobody status came sent ∷ [];
   datagrams = [];
   dialed = [];
@@ -50,6 +51,7 @@ session_world service cut old new came sent wires = record {
   stores = stores_between service.keeping.history old.disks new.disks;
   text = (service.telling.told old.desk).text;
   reading = reading_of;
+  coming = record { peer = service.peer; came = came } ∷ [];
   connections = record { peer = service.peer; came = came; sent = sent; cut = cut } ∷ [];
   datagrams = [];
   dialed = map dialed_of wires;

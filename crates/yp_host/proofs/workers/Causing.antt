@@ -28,12 +28,12 @@ use Rattle.yp_host.specs.Anew.{IsUnbuilt}
 use Rattle.yp_publisher.specs.declared.sharing.locked.ShareFault.{ShareFault}
 use Rattle.yp_publisher.specs.declared.sharing.locked.ShareFault.TheVariants.{Shut, Unfit, Untold}
 use Rattle.yp_publisher.specs.sharing.Shares.{offer_behind, IsShownBehind}
-use Rattle.yp_publisher.specs.inside.sharing.Shares.{IsReason}
+use Rattle.yp_publisher.specs.sharing.Shares.{IsReason}
 use Rattle.yp_publisher.specs.sharing.Sources.{Building}
 use Rattle.yp_publisher.specs.inside.sharing.Sources.{marked_behind, IsBuiltThere}
 use Rattle.yp_host.specs.workers.Desks.{texts_alone}
 use Rattle.yp_host.specs.inside.workers.Desks.{telling_texts}
-use Rattle.yp_host.specs.inside.workers.Outcomes.{shared_stat}
+use Rattle.yp_host.specs.workers.Outcomes.{shared_stat}
 use Rattle.yp_host.specs.workers.Makings.{IsShownLast, IsMadeSo}
 use Rattle.yp_host.specs.inside.workers.Makings.{SiteBuilds, height, IsOvertaken}
 use Rattle.yp_host.proofs.Reversing.{row_is_bad, none_shown, made_behind}

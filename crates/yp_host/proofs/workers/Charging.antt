@@ -1,5 +1,5 @@
 -- What is charged.
-use Rattle.std.proofs.Common.{◌≡◌, ℕ, ◌+◌, refl, ap, ◌∙◌, arith}
+use Rattle.std.proofs.Common.{◌≡◌, ℕ, ◌+◌, List, refl, ap, ◌∙◌, arith}
 use Rattle.yp_messages.specs.declared.transfer.XfrStat.{XfrStat}
 use Rattle.yp_map_file.specs.declared.fault.SlotFault.TheVariants as slot
 use Rattle.yp_publisher.specs.declared.install.InstallFault.TheVariants as fault
@@ -7,7 +7,8 @@ use Rattle.yp_publisher.specs.declared.sharing.locked.ShareFault.{ShareFault}
 use Rattle.yp_publisher.specs.declared.sharing.locked.ShareFault.TheVariants.{Shut, Unfit, Untold}
 use Rattle.yp_publisher.specs.inside.sharing.Failures.{failures_in}
 use Rattle.yp_publisher.specs.inside.sharing.Debits.{Debit, DebitIsCharged}
-use Rattle.yp_host.specs.inside.workers.Outcomes.{shared_stat}
+use Rattle.yp_host.specs.declared.workers.call_backs.CallBack.{CallBack}
+use Rattle.yp_host.specs.workers.Outcomes.{shared_stat}
 use Rattle.yp_host.specs.inside.workers.Charges.{Charged, ChargesMore, cost_of_make, files_in, made_in}
 
 -- ---- a status
@@ -40,8 +41,8 @@ none_made (Unfit fault.DiskFault) = refl
 -- ---- an install
 
 -- what stands beside what is charged by it
-abbrev pub with_debit : (parts unread orders sources : ℕ) → Debit → Charged
-with_debit parts unread orders sources debit = record {
+abbrev pub with_debit : (parts unread orders sources : ℕ) → List CallBack → Debit → Charged
+with_debit parts unread orders sources left debit = record {
   parts = parts;
   unread = unread;
   failures = debit.failures;
@@ -49,14 +50,15 @@ with_debit parts unread orders sources debit = record {
   sources = sources;
   made = debit.made;
   versions = debit.versions;
+  left = left;
 }
 
 -- of a version that was built, and then isn't installed
 pub charged_so : (why : ShareFault) (stat : XfrStat) (old : Charged) (parts unread orders sources made versions : ℕ)
-    (debit debit' : Debit) → with_debit parts unread orders sources debit ≡ record old { unread = old.unread + 0 }
+    (left : List CallBack) (debit debit' : Debit) → with_debit parts unread orders sources left debit ≡ record old { unread = old.unread + 0 }
     → DebitIsCharged (failures_in why) made versions debit debit' → stat ≡ shared_stat why
-    → ChargesMore (cost_of_make stat) old (with_debit parts unread orders sources debit')
-charged_so why stat old parts unread orders sources made versions debit debit' inside more is =
+    → ChargesMore (cost_of_make stat) old (with_debit parts unread orders sources left debit')
+charged_so why stat old parts unread orders sources made versions left debit debit' inside more is =
     let files : files_in stat ≡ failures_in why = ap files_in is ∙ files_are_failures why in
     let none : made_in stat ≡ 0 = ap made_in is ∙ none_made why in
     let failures_are = more.failures_are in

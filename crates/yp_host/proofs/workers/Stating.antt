@@ -13,7 +13,7 @@ use Rattle.yp_publisher.specs.declared.sharing.locked.ShareFault.TheVariants.{Un
 use Rattle.yp_transfer.specs.Dialing.{FetchesFrom}
 use Rattle.yp_transfer.specs.Fetching.{wanted_of, FetchOutcome}
 use Rattle.yp_transfer.specs.HostTable.{HostList, find}
-use Rattle.yp_host.specs.inside.workers.Statuses.{IsInstalledAs, InstallsAs, HasStatus}
+use Rattle.yp_host.specs.workers.Statuses.{IsInstalledAs, InstallsAs, HasStatus}
 
 -- a map by this name was fetched behind the order that is shown of it, and what came of it was installed
 pub fetched_as : (served : Catalogue) (hosts : HostList) (taken : Taken) (name : Name) (behind : Option ℕ)

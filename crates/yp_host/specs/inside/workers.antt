@@ -6,4 +6,5 @@ pub mod Wires
 pub mod Uses
 pub mod Journal
 pub mod Events
-pub mod Statuses
+pub mod Queues
+pub mod CallBacks

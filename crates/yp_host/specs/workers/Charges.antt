@@ -1,6 +1,7 @@
 -- What workers count, and what they are charged with for it.
-use Rattle.std.specs.Prelude.{ℕ, ◌+◌, min}
+use Rattle.std.specs.Prelude.{ℕ, ◌+◌, min, [], ◌++◌}
 use Rattle.yp_io.specs.Counts.{last_count}
+use Rattle.yp_host.specs.declared.workers.charges.Counted.{Counted}
 use Rattle.yp_host.specs.declared.workers.outcome.Outcomes.{Outcomes}
 use Rattle.yp_host.specs.declared.workers.outcome.Totals.{Totals}
 use Rattle.yp_host.specs.workers.Workers.{WorkerState}
@@ -42,3 +43,13 @@ totals_of worker = record {
   transfers = worker.transfers;
   outcomes = worker.outcomes;
 }
+
+-- what hosts have counted, and whom they left what to be told, each in its order
+abbrev pub nothing_counted : Counted
+nothing_counted = record { totals = no_totals; told = [] }
+
+abbrev pub counted_plus : Counted → Counted → Counted
+counted_plus one other = record { totals = totals_plus one.totals other.totals; told = one.told ++ other.told }
+
+abbrev pub counted_of : {V : Type 0} → WorkerState V → Counted
+counted_of worker = record { totals = totals_of worker; told = worker.told }

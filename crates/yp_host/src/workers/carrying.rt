@@ -1,19 +1,25 @@
 //! A transfer that a worker carries out.
 
-ghost use Rattle.std.specs.Prelude.{◌≡◌, ◌≢◌, ◌<◌, ◌≤◌, length, option_map, Ok, Err, IsSome};
+ghost use Rattle.std.specs.Prelude.{◌≡◌, ◌≢◌, ◌<◌, ◌≤◌, [], ◌∷◌, ◌++◌, Contains, length, option_map, None, Ok, Err};
+ghost use Rattle.std.specs.Prelude.{IsSome, IfSome};
 ghost use Rattle.yp_answer.specs.inside.Transfer.{taken_view};
 ghost use Rattle.yp_publisher.specs.sharing.Shares.{Learns};
-ghost use Rattle.yp_host.specs.workers.Workers.{IsCarriedTo, IsInstalledTo};
+ghost use Rattle.yp_host.specs.workers.Statuses.{HasStatus, IsInstalledAs};
+ghost use Rattle.yp_host.specs.workers.Workers.{IsCarriedTo, IsInstalledTo, ShowsFetched, TellsOf};
+ghost use Rattle.yp_host.specs.declared.workers.call_backs.CallBack.{CallBack};
+ghost use Rattle.yp_host.specs.workers.CallBacks.{version_in};
+ghost use Rattle.yp_host.specs.inside.workers.CallBacks.{IsKnownIn};
 ghost use Rattle.yp_host.specs.inside.workers.Charges.{ChargesMore, cost_of_install, cost_of_transfer};
 ghost use Rattle.yp_host.specs.inside.workers.Charges.{files_at, orders_at, sources_at};
-ghost use Rattle.yp_host.specs.inside.workers.Statuses.{HasStatus, IsInstalledAs};
 ghost use Rattle.yp_host.specs.inside.workers.Wires.{orders_in, sources_in, IsAgedBy, IsNoted};
 
+use crate::workers::call_backs::CallBack;
 use crate::workers::charges::Charges;
 use crate::workers::desk::{FetchTask, Supplies};
 use crate::workers::outcome::{Group, group_of, shared_stat};
 use crate::workers::setting::WorkerSetting;
 use std::random::RandomSource;
+use std::snapshot::Snapshot;
 use std::sync::Wait;
 use yp_answer::TransferJob;
 use yp_board::{Tell, View};
@@ -25,8 +31,8 @@ use yp_transfer::{Asker, XfrFault};
 use yp_version::{Order, Version};
 
 /// Fetches the map of a transfer job and installs it, and tells the caller at `peer` what came of it, where it wants to
-/// be told: what that came to, and its status. The desk's lock is held while it is fetched, and again while the caller
-/// is told, which may wait for its port mapper; no look-up takes that lock.
+/// be told: what that came to, and its status. The desk's lock is held while it is fetched, and again while all callers
+/// that wait are told, which may wait for their port mappers; no look-up takes that lock.
 pub(crate) fn carry_out<S, D, B, A, T, C, R>(
     setting: &WorkerSetting<'_, S, D, B, A, T, C, R>,
     reader: &mut B::Reader,
@@ -45,14 +51,18 @@ where
     requires map { job.now.map < length S.catalogue.maps }
     requires named { 0 < length job.now.source.now }
     requires catalogue { (B.Reader.seen reader.old).catalogue ≡ S.catalogue }
+    requires queue { setting.now.call_backs.now ≡ S.call_backs }
     ensures outcome { IsCarriedTo S.catalogue.own S.hosts (taken_view job.now) result.0
         (B.Reader.seen reader.old).known (B.Reader.seen reader.new).known }
     ensures status { HasStatus S.catalogue S.hosts (taken_view job.now) result.1
         (B.Reader.seen reader.old).known (B.Reader.seen reader.new).known }
     ensures learned { Learns (B.Reader.seen reader.old) (B.Reader.seen reader.new) }
     ensures charged { ChargesMore (cost_of_transfer result.0) charges.old charges.new }
+    ensures told { (call_back : CallBack) × (charges.new.left ≡ charges.old.left ++ call_back ∷ [])
+        × (call_back.stat ≡ result.1) × TellsOf S.catalogue.own (taken_view job.now) peer call_back
+        (B.Reader.seen reader.old).known (B.Reader.seen reader.new).known }
 {
-    let (group, stat) = fetch_and_install(setting, reader, charges, job);
+    let Carried { group, stat, shown } = fetch_and_install(setting, reader, charges, job);
     let addr = peer.addr;
     let asker = Asker {
         addr,
@@ -60,8 +70,102 @@ where
         port: job.port,
         transid: job.transid,
     };
-    setting.desk.lock(&setting.rt).tell_back(&asker, stat);
+    leave(setting, charges, asker, stat, shown);
+    setting
+        .desk
+        .lock(&setting.rt)
+        .post_all(&setting.rt, setting.call_backs);
     (group, stat)
+}
+
+/// Leaves a call back in the queue, with the version that was shown, where one was.
+fn leave<S, D, B, A, T, C, R>(
+    setting: &WorkerSetting<'_, S, D, B, A, T, C, R>,
+    charges: &mut Charges<S>,
+    asker: Asker,
+    stat: XfrStat,
+    shown: Option<FetchedVersion<S>>,
+)
+where
+    S: Site + Accounts + Supplies,
+    D: Disk,
+    B: Tell,
+    A: Dial,
+    T: Texts,
+    C: Clock,
+    R: RandomSource + Wait,
+    requires queue { setting.now.call_backs.now ≡ S.call_backs }
+    requires known { IfSome shown (λ one. Contains one.known one.version.value) }
+    ensures left { (call_back : CallBack) × (charges.new ≡ record charges.old {
+      left = charges.old.left ++ call_back ∷ [];
+    }) × (call_back.asker ≡ asker) × (call_back.stat ≡ stat)
+        × (version_in call_back ≡ option_map (λ one. one.version.value) shown) }
+{
+    let (known, shown) = match shown {
+        Some(FetchedVersion { version, known }) => (Some(known), Some(version)),
+        None => (None, None),
+    };
+    let call_back = CallBack { asker, stat, shown };
+    leave_call_back(setting, charges, call_back, known.as_ref());
+}
+
+/// Leaves a call back in the queue. While there is no room it tells all callers that wait.
+fn leave_call_back<S, D, B, A, T, C, R>(
+    setting: &WorkerSetting<'_, S, D, B, A, T, C, R>,
+    charges: &mut Charges<S>,
+    call_back: CallBack,
+    known: Option<&FetchesFront<S>>,
+)
+where
+    S: Site + Accounts + Supplies,
+    D: Disk,
+    B: Tell,
+    A: Dial,
+    T: Texts,
+    C: Clock,
+    R: RandomSource + Wait,
+    requires queue { setting.now.call_backs.now ≡ S.call_backs }
+    requires known { IfSome (version_in call_back) (IsKnownIn (option_map (λ front. front.now) known)) }
+    ensures left { charges.new ≡ record charges.old { left = charges.old.left ++ call_back ∷ [] } }
+{
+    let mut call_back = call_back;
+    let rt = &setting.rt;
+    for _ in rt.forever() {
+        match charges.leave(rt, setting.call_backs, call_back, known) {
+            Ok(()) => return,
+            Err(back) => call_back = back,
+        }
+        setting.desk.lock(rt).post_all(rt, setting.call_backs);
+    }
+    unreachable!()
+}
+
+/// A version that is known to be fetched, for contracts alone.
+#[derive(Drop)]
+struct FetchedVersion<S: Accounts> {
+    version: Snapshot<Version>,
+    known: FetchesFront<S>,
+}
+
+/// What a transfer came to, the status that its caller is told, and the version that was shown, where one was.
+#[derive(Drop)]
+struct Carried<S: Accounts> {
+    group: Group,
+    stat: XfrStat,
+    shown: Option<FetchedVersion<S>>,
+}
+
+impl<S: Accounts> Carried<S> {
+    /// No version was shown.
+    fn without(group: Group, stat: XfrStat) -> Carried<S>
+        ensures { result ≡ record { group = group; stat = stat; shown = None } }
+    {
+        Carried {
+            group,
+            stat,
+            shown: None,
+        }
+    }
 }
 
 /// Fetches the map of a transfer job and installs it: what that came to, and the status that the caller is told.
@@ -70,7 +174,7 @@ fn fetch_and_install<S, D, B, A, T, C, R>(
     reader: &mut B::Reader,
     charges: &mut Charges<S>,
     job: &TransferJob<'_>,
-) -> (Group, XfrStat)
+) -> Carried<S>
 where
     S: Site + Accounts + Supplies,
     D: Disk,
@@ -82,12 +186,17 @@ where
     requires map { job.now.map < length S.catalogue.maps }
     requires named { 0 < length job.now.source.now }
     requires catalogue { (B.Reader.seen reader.old).catalogue ≡ S.catalogue }
-    ensures outcome { IsCarriedTo S.catalogue.own S.hosts (taken_view job.now) result.0
+    ensures outcome { IsCarriedTo S.catalogue.own S.hosts (taken_view job.now) result.group
         (B.Reader.seen reader.old).known (B.Reader.seen reader.new).known }
-    ensures status { HasStatus S.catalogue S.hosts (taken_view job.now) result.1
+    ensures status { HasStatus S.catalogue S.hosts (taken_view job.now) result.stat
         (B.Reader.seen reader.old).known (B.Reader.seen reader.new).known }
     ensures learned { Learns (B.Reader.seen reader.old) (B.Reader.seen reader.new) }
-    ensures charged { ChargesMore (cost_of_transfer result.0) charges.old charges.new }
+    ensures charged { ChargesMore (cost_of_transfer result.group) charges.old charges.new }
+    ensures left { charges.new.left ≡ charges.old.left }
+    ensures shows { ShowsFetched S.catalogue.own job.now.map result.stat
+        (option_map (λ one. one.version.value) result.shown)
+        (B.Reader.seen reader.old).known (B.Reader.seen reader.new).known }
+    ensures known { IfSome result.shown (λ one. Contains one.known one.version.value) }
 {
     let task = FetchTask {
         source: job.source,
@@ -101,8 +210,8 @@ where
         .fetch(setting.alloc, &setting.rt, &task, &mut known, charges);
     let shown = order_of(reader.held(job.map));
     match fetched {
-        None => (Group::NoAddress, XfrStat::Maddr),
-        Some(Err(fault)) => (failed_group(&fault, shown), fault.stat()),
+        None => Carried::without(Group::NoAddress, XfrStat::Maddr),
+        Some(Err(fault)) => Carried::without(failed_group(&fault, shown), fault.stat()),
         Some(Ok(version)) => { install_for(setting, reader, charges, job.map, version, known) },
     }
 }
@@ -140,7 +249,7 @@ fn install_for<S, D, B, A, T, C, R>(
     map: u32,
     version: Version,
     known: Option<FetchesFront<S>>,
-) -> (Group, XfrStat)
+) -> Carried<S>
 where
     S: Site + Accounts + Supplies,
     D: Disk,
@@ -152,17 +261,26 @@ where
     requires map { map < length S.catalogue.maps }
     requires fetched { 0 < charges.old.versions }
     requires known { IsNoted (Ok version) known }
-    ensures outcome { IsInstalledTo S.catalogue.own map result.0
+    ensures outcome { IsInstalledTo S.catalogue.own map result.group
         (B.Reader.seen reader.old).known (B.Reader.seen reader.new).known }
-    ensures status { IsInstalledAs S.catalogue.own map version result.1
+    ensures status { IsInstalledAs S.catalogue.own map version result.stat
         (B.Reader.seen reader.old).known (B.Reader.seen reader.new).known }
     ensures learned { Learns (B.Reader.seen reader.old) (B.Reader.seen reader.new) }
-    ensures charged { ChargesMore (cost_of_install result.0) charges.old charges.new }
+    ensures charged { ChargesMore (cost_of_install result.group) charges.old charges.new }
+    ensures left { charges.new.left ≡ charges.old.left }
+    ensures shows { ShowsFetched S.catalogue.own map result.stat
+        (option_map (λ one. one.version.value) result.shown)
+        (B.Reader.seen reader.old).known (B.Reader.seen reader.new).known }
+    ensures known { IfSome result.shown (λ one. Contains one.known one.version.value) }
 {
     let Some(known) = known else {
-        return (Group::NoMemory, XfrStat::Rsrc);
+        return Carried::without(Group::NoMemory, XfrStat::Rsrc);
     };
-    let stat = match install_shared(
+    let shown = FetchedVersion {
+        version: Snapshot::of(&version),
+        known: known.again(),
+    };
+    match install_shared(
         setting.alloc,
         &setting.rt,
         setting.publisher,
@@ -173,8 +291,14 @@ where
         Some(known),
         &mut charges.debits,
     ) {
-        Ok(()) => XfrStat::Succ,
-        Err(fault) => shared_stat(&fault),
-    };
-    (group_of(stat), stat)
+        Ok(()) => Carried {
+            group: Group::Reached,
+            stat: XfrStat::Succ,
+            shown: Some(shown),
+        },
+        Err(fault) => {
+            let stat = shared_stat(&fault);
+            Carried::without(group_of(stat), stat)
+        }
+    }
 }

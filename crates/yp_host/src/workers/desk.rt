@@ -1,14 +1,13 @@
 //! A desk that threads share, under one lock.
 
-ghost use Rattle.std.specs.Prelude.{◌≡◌, ◌⊎◌, ℕ, ◌+◌, ◌<◌, ◌≤◌, ◌↔◌, ◌∷◌, ◌++◌, None, length, IfSome, IfOk, IfErr};
-ghost use Rattle.std.specs.Prelude.{IsNone, [], false};
+ghost use Rattle.std.specs.Prelude.{◌≡◌, ◌⊎◌, ℕ, List, ◌+◌, ◌<◌, ◌≤◌, ◌↔◌, ◌∷◌, ◌++◌, None, length, IfSome, IfOk, IfErr};
+ghost use Rattle.std.specs.Prelude.{IsNone, [], false, option_map};
 ghost use Rattle.std.specs.Option.{option_map_or};
 ghost use Rattle.yp_texts.specs.After.{HasLaterOrder};
 ghost use Rattle.yp_answer.specs.Causes.{IsAnew};
 ghost use Rattle.yp_io.specs.Dials.{wires_told};
 ghost use Rattle.yp_transfer.specs.inside.Dials.{dial_by};
 ghost use Rattle.yp_messages.specs.Numbers.{name_max};
-ghost use Rattle.yp_transfer.specs.CallBack.{wants_call, CallsBack};
 ghost use Rattle.yp_transfer.specs.Dialing.{FetchesFrom};
 ghost use Rattle.yp_transfer.specs.Fetching.{wanted_of};
 ghost use Rattle.yp_transfer.specs.HostTable.{find};
@@ -23,28 +22,37 @@ ghost use Rattle.yp_host.specs.workers.Wires.{AllCameByWire, CoversBy, CoversOrd
 ghost use Rattle.yp_host.specs.inside.workers.Wires.{IsAgedBy, IsNoted};
 ghost use Rattle.yp_host.specs.inside.workers.Wires.{orders_in, sources_in, versions_in};
 ghost use Rattle.yp_board.specs.Catalogues.{name_view};
-ghost use Rattle.yp_host.specs.workers.Uses.{IsAmong, IsUsedForTransfers};
+ghost use Rattle.yp_host.specs.workers.Uses.{IsAmong};
+ghost use Rattle.yp_host.specs.inside.workers.Uses.{TellsAllLeft};
+ghost use Rattle.yp_host.specs.declared.workers.call_backs.CallBack.{CallBack};
+ghost use Rattle.yp_host.specs.inside.workers.CallBacks.{holds_none, IsAllTaken};
+ghost use Rattle.yp_host.specs.inside.workers.CallBacks.{AreKnown, TellsInTurn, TellsWaiting};
 ghost use Rattle.yp_host.specs.inside.workers.Uses.{dial_told};
+ghost use Rattle.yp_publisher.specs.inside.sharing.Tracing.{IsBeginning};
+ghost use Rattle.yp_worker.specs.inside.Queues.{all_parts};
 
+use crate::workers::call_backs::{CallBackPass, PendingCallBacks};
 use crate::workers::charges::Charges;
 use crate::{BuildTask, Desk, build_anew};
 use std::alloc::Global;
 use std::marker::{Brand, Model, PhantomData};
 use std::random::RandomSource;
+use std::sync::Wait;
 use std::sync::ledger::{Book, Ledger, Share};
 use yp_board::MapName;
 use yp_io::{Clock, Dial, Texts};
 use yp_messages::XfrStat;
 use yp_publisher::sharing::{Accounts, FetchedVersions, Fetches, FetchesFront, Site};
 use yp_transfer::laws::fetched_is_one;
-use yp_transfer::{Asker, FetchRequest, XfrFault, fetch_from, tell_back};
+use yp_transfer::{FetchRequest, XfrFault, fetch_from, tell_back};
 use yp_version::{Order, Version};
 
 /// What a desk of a site has, whoever uses it: it never changes; how often its texts and its dial had failed before it
-/// was shared, and which wires its dial had and what it had sent; and the ledgers of what is counted since then. Each
-/// call of a program that shares a desk picks it.
+/// was shared, and which wires its dial had and what it had sent; the ledgers of what is counted since then; and the
+/// queue of those who are to be told what their transfers came to. Each call of a program that shares a desk picks it.
 pub trait Supplies {
     ghost use Rattle.std.specs.Prelude.{ℕ, List, Option};
+    ghost use Rattle.atomic_table.specs.Seated.{TableId};
     ghost use Rattle.yp_io.specs.Dials.{Wires, Sending};
     ghost use Rattle.yp_transfer.specs.HostTable.{HostList};
 
@@ -74,6 +82,9 @@ pub trait Supplies {
 
     /// The name of the ledger of sources that failed.
     ghost sources: { ℕ };
+
+    /// The name of the queue of call backs.
+    ghost call_backs: { TableId };
 }
 
 impl Supplies for Brand {
@@ -96,6 +107,16 @@ impl Supplies for Brand {
     ghost orders = { 0 };
 
     ghost sources = { 0 };
+
+    ghost call_backs = { record {
+      words = 0;
+      slots = 0;
+      views_name = 0;
+      atom = 0;
+      block = 0;
+      offset = 0;
+      slot_names = [];
+    } };
 }
 
 /// The ledger of the texts of a site that weren't read.
@@ -145,8 +166,8 @@ pub(crate) struct FetchTask<'a> {
 }
 
 /// A desk of a site, for a lock to keep, with the books of the texts that weren't read, of the orders that were
-/// reached, of the sources that failed and of the versions that were fetched since it is shared, and with the log of
-/// these versions. It is seen as that desk.
+/// reached, of the sources that failed and of the versions that were fetched since it is shared, with the log of
+/// these versions, and with what it took over from the queue of call backs. It is seen as that desk.
 #[derive(Drop)]
 pub struct SharedDesk<S: Site + Accounts + Supplies, A: Dial, T: Texts, C: Clock> {
     desk: Desk<A, T, C>,
@@ -155,9 +176,12 @@ pub struct SharedDesk<S: Site + Accounts + Supplies, A: Dial, T: Texts, C: Clock
     sources: Book<FailedSources<S>>,
     versions: Book<FetchedVersions<S>>,
     fetches: Fetches<S>,
+    call_backs: CallBackPass,
 }
 
 impl<S: Site + Accounts + Supplies, A: Dial, T: Texts, C: Clock> Model for SharedDesk<S, A, T, C> {
+    ghost use Rattle.std.specs.Prelude.{◌≡◌, ◌+◌, []};
+    ghost use Rattle.yp_worker.specs.inside.Queues.{all_parts};
     ghost use Rattle.yp_host.specs.declared.desk.Desk.{Desk};
     ghost use Rattle.yp_host.specs.inside.workers.Desks.{IsSupplied};
     ghost use Rattle.yp_host.specs.inside.workers.Charges.{CoversUnread};
@@ -176,13 +200,15 @@ impl<S: Site + Accounts + Supplies, A: Dial, T: Texts, C: Clock> Model for Share
         × CoversSources S.wires (A.past d.desk.dial) S.dial_faults (A.faults d.desk.dial) d.sources.total
         × CoversBy IsGood S.wires (A.past d.desk.dial) d.versions.total
         × AllCameByWire S.wires (A.past d.desk.dial) d.fetches
-        × IsUsedForTransfers S.hosts S.catalogue.maps (dial_told S.wires S.letters S.dial_faults)
-        (dial_by A.Dial d.desk.dial) };
+        × IsUsedForTransfers S.hosts S.catalogue.maps d.call_backs.took
+        (dial_told S.wires S.letters S.dial_faults) (dial_by A.Dial d.desk.dial)
+        × (d.call_backs.queue ≡ S.call_backs) × (d.call_backs.left ≡ [])
+        × (d.call_backs.parts + S.shares ≡ all_parts) };
 }
 
 impl<S: Site + Accounts + Supplies, A: Dial, T: Texts, C: Clock> SharedDesk<S, A, T, C> {
-    /// A desk that has what its site says, with the books of what is counted from now on, and the log of what is
-    /// fetched.
+    /// A desk that has what its site says, with the books of what is counted from now on, the log of what is fetched,
+    /// and all parts of the queue of call backs but those of the shares.
     pub fn new(
         desk: Desk<A, T, C>,
         unread: Book<UnreadTexts<S>>,
@@ -190,12 +216,15 @@ impl<S: Site + Accounts + Supplies, A: Dial, T: Texts, C: Clock> SharedDesk<S, A
         sources: Book<FailedSources<S>>,
         versions: Book<FetchedVersions<S>>,
         fetches: Fetches<S>,
+        call_backs: CallBackPass,
     ) -> SharedDesk<S, A, T, C>
         requires supplied { IsSupplied T.Texts S.text S.hosts desk }
         requires before { (T.faults desk.texts ≡ S.text_faults) × (A.past desk.dial ≡ S.wires)
             × (A.faults desk.dial ≡ S.dial_faults) × (A.letters desk.dial ≡ S.letters) }
         requires none { (unread.total ≡ 0) × (orders.total ≡ 0) × (sources.total ≡ 0) × (versions.total ≡ 0)
             × (fetches ≡ []) }
+        requires call_backs { (call_backs ≡ holds_none S.call_backs call_backs.parts)
+            × (call_backs.parts + S.shares ≡ all_parts) }
         ensures { result ≡ desk }
     {
         SharedDesk {
@@ -205,22 +234,31 @@ impl<S: Site + Accounts + Supplies, A: Dial, T: Texts, C: Clock> SharedDesk<S, A
             sources,
             versions,
             fetches,
+            call_backs,
         }
     }
 
     /// The desk, once the lock is left. What a caller was charged with is covered by the faults of its texts, and by
     /// the wires and the faults of its dial. No more versions were fetched than wires came that give one, and for each
     /// that is known to be fetched there came one that gives it. Its dial was used for transfers of the maps of its
-    /// site alone.
-    pub fn close(
+    /// site alone. All callers that still wait are told, so what was told is what was left by those who held this,
+    /// where they held all shares.
+    pub fn close<R: Wait>(
         self,
+        rt: &R,
+        call_backs: &PendingCallBacks,
+        others: CallBackPass,
+        told: Option<&FetchesFront<S>>,
         unread: &mut Share<UnreadTexts<S>>,
         orders: &mut Share<ReachedOrders<S>>,
         sources: &mut Share<FailedSources<S>>,
         versions: &mut Share<FetchedVersions<S>>,
         known: &FetchesFront<S>,
     ) -> Desk<A, T, C>
-        ensures desk { result ≡ self }
+        requires queue { (call_backs.now ≡ S.call_backs) × (others.queue ≡ S.call_backs) }
+        requires left { others.took ≡ [] }
+        requires told { AreKnown (option_map (λ front. front.now) told) others.left }
+        ensures desk { result ≡ record self { dial = result.dial } }
         ensures supplied { IsSupplied T.Texts S.text S.hosts result }
         ensures covered { CoversUnread S.text_faults (T.faults result.texts) unread.old.amount }
         ensures orders { (n : ℕ) → n ≤ orders.old.amount → CoversOrders S.wires (A.past result.dial) n }
@@ -228,8 +266,8 @@ impl<S: Site + Accounts + Supplies, A: Dial, T: Texts, C: Clock> SharedDesk<S, A
             → CoversSources S.wires (A.past result.dial) S.dial_faults (A.faults result.dial) n }
         ensures versions { (n : ℕ) → n ≤ versions.old.amount → CoversBy IsGood S.wires (A.past result.dial) n }
         ensures known { AllCameByWire S.wires (A.past result.dial) known.now }
-        ensures dialed { IsUsedForTransfers S.hosts S.catalogue.maps (dial_told S.wires S.letters S.dial_faults)
-            (dial_by A.Dial result.dial) }
+        ensures dialed { TellsAllLeft S.hosts S.catalogue.maps S.shares others
+            (dial_told S.wires S.letters S.dial_faults) (dial_by A.Dial result.dial) }
     {
         let mut shared = self;
         shared.unread.audit(unread);
@@ -237,14 +275,18 @@ impl<S: Site + Accounts + Supplies, A: Dial, T: Texts, C: Clock> SharedDesk<S, A
         shared.sources.audit(sources);
         shared.versions.audit(versions);
         shared.fetches.covers(known);
+        cover_told(&mut shared.fetches, told);
         let SharedDesk {
-            desk,
+            mut desk,
             unread: _,
             orders: _,
             sources: _,
             versions: _,
             fetches: _,
+            call_backs: mut pass,
         } = shared;
+        call_backs.merge(&mut pass, others);
+        tell_waiting(rt, call_backs, &mut pass, &mut desk.dial);
         desk
     }
 
@@ -321,13 +363,62 @@ impl<S: Site + Accounts + Supplies, A: Dial, T: Texts, C: Clock> SharedDesk<S, A
         Some(fetched)
     }
 
-    /// Tells a caller the status of a transfer, where it wants to be told.
-    pub(crate) fn tell_back(&mut self, asker: &Asker, stat: XfrStat)
-        ensures { CallsBack (wants_call asker.now) asker.now stat
-            (dial_by A.Dial self.old.dial) (dial_by A.Dial self.new.dial) }
+    /// Tells all callers that wait, one after the other, until none waits.
+    pub(crate) fn post_all<R: Wait>(&mut self, rt: &R, call_backs: &PendingCallBacks)
+        requires { call_backs.now ≡ S.call_backs }
+        ensures { (told : List CallBack)
+            × TellsInTurn told (dial_by A.Dial self.old.dial) (dial_by A.Dial self.new.dial) }
     {
-        tell_back(&mut self.desk.dial, asker, stat);
+        tell_waiting(rt, call_backs, &mut self.call_backs, &mut self.desk.dial);
     }
+}
+
+/// What is known to be told is a front of the log of fetches, where something is.
+fn cover_told<S: Accounts>(fetches: &mut Fetches<S>, told: Option<&FetchesFront<S>>)
+    ensures front { IfSome (option_map (λ front. front.now) told.entry) (λ front. IsBeginning front fetches.old) }
+    ensures same { fetches.new ≡ fetches.old }
+{
+    if let Some(told) = told {
+        fetches.covers(told);
+    }
+}
+
+/// Tells all callers that wait, one after the other, until none waits.
+fn tell_waiting<A: Dial, R: Wait>(
+    rt: &R,
+    call_backs: &PendingCallBacks,
+    pass: &mut CallBackPass,
+    dial: &mut A,
+)
+    requires { pass.old.queue ≡ call_backs.now }
+    ensures told { TellsWaiting pass.old pass.new (dial_by A.Dial dial.old) (dial_by A.Dial dial.new) }
+    ensures all { pass.old.parts ≡ all_parts → IsAllTaken pass.new.left pass.new.took }
+{
+    for _ in rt.forever() {
+        if !tell_next(rt, call_backs, pass, dial) {
+            return;
+        }
+    }
+    unreachable!()
+}
+
+/// Tells the caller that has waited longest, and answers whether one waited.
+#[tactic(auto, using(crate::proofs::workers::Telling::waiting_none, crate::proofs::workers::Telling::waiting_one))]
+fn tell_next<A: Dial, R: Wait>(
+    rt: &R,
+    call_backs: &PendingCallBacks,
+    pass: &mut CallBackPass,
+    dial: &mut A,
+) -> bool
+    requires { pass.old.queue ≡ call_backs.now }
+    ensures told { TellsWaiting pass.old pass.new (dial_by A.Dial dial.old) (dial_by A.Dial dial.new) }
+    ensures all { result ≡ false → pass.old.parts ≡ all_parts → IsAllTaken pass.new.left pass.new.took }
+{
+    let Some(call_back) = call_backs.take_over(rt, pass) else {
+        return false;
+    };
+    tell_back(dial, &call_back.asker, call_back.stat);
+    true
 }
 
 /// Adds a version to the log of what was fetched, where one was: the log then, if it takes it.

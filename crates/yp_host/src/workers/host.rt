@@ -8,10 +8,11 @@ ghost use Rattle.yp_host.specs.workers.Desks.{texts_alone};
 ghost use Rattle.yp_host.specs.inside.workers.Events.{made_event, fetched_event, replied_event};
 ghost use Rattle.yp_host.specs.inside.workers.Makings.{SiteBuilds};
 ghost use Rattle.yp_host.specs.workers.Workers.{counts_of, Stepped, WorkerMakesMap, WorkerTransfersMap};
-ghost use Rattle.yp_host.specs.workers.Charges.{no_totals, totals_of, totals_plus};
+ghost use Rattle.yp_host.specs.workers.Charges.{nothing_counted, counted_of, counted_plus};
+ghost use Rattle.yp_host.specs.inside.workers.Charges.{counted_by};
 
 use crate::workers::carrying::{carry_out, order_of};
-use crate::workers::charges::{Account, Charges};
+use crate::workers::charges::{Account, Charges, Counted};
 use crate::workers::desk::Supplies;
 use crate::workers::journal::Event;
 use crate::workers::making::make_shared;
@@ -32,7 +33,7 @@ use yp_worker::{CatchUp, HandsOver};
 /// The host of a worker. What it knows is what its reader knows.
 ///
 /// It is seen as its reader, how often it answered FILE and how often SUCC where a map was to be made, how many
-/// transfers it carried out, and what they came to.
+/// transfers it carried out, what they came to, and whom it left what to be told.
 #[derive(Drop)]
 pub struct WorkerHost<
     'a,
@@ -73,10 +74,12 @@ impl<
       made = h.totals.made;
       transfers = h.totals.transfers;
       outcomes = h.totals.outcomes;
+      told = h.charges.left;
     } };
 
     ghost invariant = { λ h. ((B.Reader.seen h.reader).catalogue ≡ S.catalogue) × TotalsAreCharged h.totals h.charges
-        × SiteBuilds S.text S.catalogue S.built };
+        × SiteBuilds S.text S.catalogue S.built × (h.setting.call_backs.now ≡ S.call_backs)
+        × (h.charges.parts ≡ 1) };
 }
 
 impl<
@@ -89,8 +92,8 @@ impl<
     C: Clock,
     R: RandomSource + Wait,
 > WorkerHost<'a, S, D, B, A, T, C, R> {
-    /// A host with this reader of the maps of its site, which is charged by these. What it builds has to be what the
-    /// site says of a built version.
+    /// A host with this reader of the maps of its site, which is charged by these, one part. What it builds has to be
+    /// what the site says of a built version.
     pub fn new(
         setting: WorkerSetting<'a, S, D, B, A, T, C, R>,
         reader: B::Reader,
@@ -98,12 +101,15 @@ impl<
     ) -> WorkerHost<'a, S, D, B, A, T, C, R>
         requires catalogue { (B.Reader.seen reader).catalogue ≡ S.catalogue }
         requires builds { SiteBuilds S.text S.catalogue S.built }
+        requires queue { setting.call_backs.now ≡ S.call_backs }
+        requires one { charges.parts ≡ 1 }
         ensures { result ≡ record {
           reader = reader;
           files = 0;
           made = 0;
           transfers = 0;
           outcomes = record { no_address = 0; no_memory = 0; file = 0; source = 0; reached = 0 };
+          told = charges.left;
         } }
     {
         WorkerHost {
@@ -127,6 +133,23 @@ impl<
             charges: _,
         } = self;
         reader
+    }
+
+    /// What it is charged with, once it works no more: one part, and what it left to be told since it last handed over.
+    pub fn into_charges(self) -> Charges<S>
+    where
+        R: Drop,
+        B::Reader: Drop,
+        ensures one { result.parts ≡ 1 }
+        ensures left { result.left ≡ self.entry.told }
+    {
+        let WorkerHost {
+            reader: _,
+            setting: _,
+            totals: _,
+            charges,
+        } = self;
+        charges
     }
 
     /// What its transfers came to, and how often.
@@ -261,7 +284,7 @@ impl<
         stat
     }
 
-    ghost carried = { λ taken peer. WorkerTransfersMap B.Reader.seen S.hosts taken };
+    ghost carried = { WorkerTransfersMap B.Reader.seen S.hosts };
 
     fn transfer(&mut self, job: &TransferJob<'_>, peer: Peer) {
         let (group, stat) = carry_out(
@@ -300,9 +323,9 @@ impl<
     C: Clock,
     R: RandomSource + Wait,
 > CatchUp for WorkerHost<'a, S, D, B, A, T, C, R> {
-    type Count = Totals;
+    type Count = Counted;
 
-    ghost counted = { totals_of };
+    ghost counted = { counted_of };
 
     // It waits for the publisher's lock.
     fn catch_up(&mut self) -> Result<(), NoMemory> {
@@ -322,20 +345,25 @@ impl<
 > HandsOver for WorkerHost<'a, S, D, B, A, T, C, R> {
     type Sum = Account<S, B>;
 
-    ghost summed = { λ account. account.totals };
+    ghost summed = { counted_by };
 
     ghost reached = { λ account. account.reached };
 
-    ghost none = { no_totals };
+    ghost none = { nothing_counted };
 
-    ghost plus = { totals_plus };
+    ghost plus = { counted_plus };
 
     fn late(&self, peer: Peer) {
         self.tell(Event::Late { peer });
     }
 
     fn hand_over(&mut self, sum: &mut Account<S, B>) {
-        sum.take_in(self.totals, &mut self.charges, &self.reader);
+        sum.take_in(
+            self.setting.call_backs,
+            self.totals,
+            &mut self.charges,
+            &self.reader,
+        );
         self.totals = Totals::none();
     }
 

@@ -51,6 +51,7 @@ where
         (B.Reader.seen reader.old).known (B.Reader.seen reader.new).known }
     ensures learned { Learns (B.Reader.seen reader.old) (B.Reader.seen reader.new) }
     ensures charged { ChargesMore (cost_of_make result) charges.old charges.new }
+    ensures left { charges.new.left ≡ charges.old.left }
 {
     if let Err(NoMemory) = tell_shared(&setting.rt, setting.publisher, reader) {
         return XfrStat::Rsrc;
@@ -89,6 +90,7 @@ where
         (B.Reader.seen reader.old).known (B.Reader.seen reader.new).known }
     ensures learned { Learns (B.Reader.seen reader.old) (B.Reader.seen reader.new) }
     ensures charged { ChargesMore (option_map_or cost_of_make result no_cost) charges.old charges.new }
+    ensures left { charges.new.left ≡ charges.old.left }
 {
     let shown = reader.held(job.map);
     let netgroups = netgroups(reader, job);

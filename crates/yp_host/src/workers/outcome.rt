@@ -1,8 +1,8 @@
 //! What transfers came to, and how often.
 
 ghost use Rattle.std.specs.Prelude.{◌≡◌};
-ghost use Rattle.yp_host.specs.workers.Outcomes.{counted_in};
-ghost use Rattle.yp_host.specs.inside.workers.Outcomes.{group_of, shared_stat};
+ghost use Rattle.yp_host.specs.workers.Outcomes.{counted_in, shared_stat};
+ghost use Rattle.yp_host.specs.inside.workers.Outcomes.{group_of};
 ghost use Rattle.yp_host.specs.workers.Workers.{files_after, made_after};
 ghost use Rattle.yp_host.specs.workers.Charges.{no_outcomes, no_totals, outcomes_plus, totals_plus};
 

@@ -1,5 +1,6 @@
 //! What a worker has for all its work.
 
+use crate::workers::call_backs::PendingCallBacks;
 use crate::workers::desk::{SharedDesk, Supplies};
 use crate::workers::journal::Journal;
 use std::alloc::Global;
@@ -27,6 +28,8 @@ pub struct WorkerSetting<
     pub rt: R,
     pub publisher: &'a Mutex<Locked<S, D, B>>,
     pub desk: &'a Mutex<SharedDesk<S, A, T, C>>,
+    /// Who is to be told what a transfer came to.
+    pub call_backs: &'a PendingCallBacks,
     /// Where it is told what was done, if it is.
     pub journal: Option<&'a Mutex<Journal>>,
 }

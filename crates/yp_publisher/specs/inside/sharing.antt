@@ -4,4 +4,3 @@ pub mod Moments
 pub mod Sources
 pub mod Debits
 pub mod Tracing
-pub mod Fetches

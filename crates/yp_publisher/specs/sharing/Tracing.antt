@@ -23,8 +23,8 @@ IsNewBehind Is fetches number log version =
 
 -- Maps that stand so came of those whose disks told these histories, while this was shown. Each version that was shown
 -- since then was new behind the log before it. Each moment has a front of the log, which is a front of that of the next
--- moment: a crash leaves then of each map bytes that stand for what that front shows of it, or for a version that is new
--- behind it. Maps that are behind are behind a version that is new.
+-- moment: a crash leaves then of each map bytes that stand for what that front shows of it, or for a version that is
+-- new behind it. Maps that are behind are behind a version that is new.
 pub record Traces {D : Type 0} (history : D → Option History) (Is : Making) (first log : Log)
     (histories : List (Option History)) (maps : List (StoredMap D)) : Type 0 where
   pub grown : AreTold history (disks_of maps) → GrowsBy Is first log

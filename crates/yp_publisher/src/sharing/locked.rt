@@ -14,7 +14,7 @@ ghost use Rattle.yp_publisher.specs.Grown.{AreTold};
 ghost use Rattle.yp_publisher.specs.sharing.Shares.{offer_behind};
 ghost use Rattle.yp_publisher.specs.inside.sharing.Shares.{OpensAndInstalls, IsNotInstalled, OfferIsRefused};
 ghost use Rattle.yp_publisher.specs.sharing.Shares.{IsShownBehind, Learns};
-ghost use Rattle.yp_publisher.specs.inside.sharing.Shares.{IsReason};
+ghost use Rattle.yp_publisher.specs.sharing.Shares.{IsReason};
 ghost use Rattle.yp_publisher.specs.sharing.Failures.{faults_over, disks_of};
 ghost use Rattle.yp_publisher.specs.inside.sharing.Failures.{failures_in, failures_of, made_by, Covers};
 ghost use Rattle.yp_publisher.specs.inside.sharing.Debits.{DebitIsCharged};

@@ -2,7 +2,7 @@
 
 ghost use Rattle.std.specs.Prelude.{◌≡◌, ◌+◌, ◌<◌, ◌≤◌, length, OnOk, OnErr, IfErr};
 ghost use Rattle.yp_publisher.specs.sharing.Shares.{IsShownBehind, Learns};
-ghost use Rattle.yp_publisher.specs.inside.sharing.Shares.{IsReason};
+ghost use Rattle.yp_publisher.specs.sharing.Shares.{IsReason};
 ghost use Rattle.yp_publisher.specs.inside.sharing.Failures.{failures_of, made_by};
 ghost use Rattle.yp_publisher.specs.inside.sharing.Debits.{DebitIsCharged};
 ghost use Rattle.yp_publisher.specs.inside.sharing.Sources.{IsBuiltThere, fetched_in};

@@ -1,4 +1,5 @@
 -- What a worker holds before it begins, and once it has ended.
+use Rattle.std.specs.Prelude.{[]}
 use Rattle.yp_host.specs.workers.Workers.{WorkerState}
 use Rattle.yp_worker.specs.inside.Receptions.{Passed}
 
@@ -17,4 +18,5 @@ fresh_worker reader = record {
   made = 0;
   transfers = 0;
   outcomes = record { no_address = 0; no_memory = 0; file = 0; source = 0; reached = 0 };
+  told = [];
 }

@@ -9,7 +9,7 @@ use Rattle.yp_rpc.specs.declared.turns.Ended.{Ended}
 use Rattle.yp_worker.specs.datagrams.Serving.{ServesMail}
 use Rattle.yp_worker.specs.inside.Receptions.{Passed}
 use Rattle.yp_host.specs.workers.Workers.{WorkerState}
-use Rattle.yp_host.specs.declared.workers.outcome.Totals.{Totals}
+use Rattle.yp_host.specs.declared.workers.charges.Counted.{Counted}
 use Rattle.yp_worker.specs.datagrams.Mailing.{QueueName}
 use Rattle.yp_server.specs.declared.datagrams.DatagramResources.{DatagramResources}
 use Rattle.yp_server.specs.declared.datagrams.DatagramWorker.{DatagramWorker}
@@ -20,7 +20,7 @@ use Rattle.yp_server.specs.inside.Serving.{fresh_worker}
 
 -- a worker of datagrams with what is in this datagram_resources, before its first turn
 abbrev pub datagram_worker_of : {I J R V : Type 0} → QueueName → DatagramResources I V
-    → DatagramWorker I J (WorkerState V) R Totals
+    → DatagramWorker I J (WorkerState V) R Counted
 datagram_worker_of queue datagram_resources = record {
   inbox = datagram_resources.inbox;
   server = at_rest queue (fresh_worker datagram_resources.reader);

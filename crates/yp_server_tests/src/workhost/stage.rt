@@ -6,8 +6,10 @@ ghost use Rattle.yp_memory.specs.inside.MemDial.{wires_of};
 ghost use Rattle.yp_publisher.specs.Rising.{publisher_state};
 ghost use Rattle.yp_board.specs.inside.readers.Boards.{Written};
 ghost use Rattle.yp_publisher.specs.sharing.Failures.{disks_of, faults_over};
+ghost use Rattle.yp_host.specs.inside.workers.CallBacks.{holds_none};
 ghost use Rattle.yp_host.specs.inside.workers.Desks.{IsSupplied};
 ghost use Rattle.yp_host.specs.inside.workers.Makings.{SiteBuilds};
+ghost use Rattle.yp_worker.specs.inside.Queues.{all_parts};
 
 use crate::publishers::{Maps, publisher};
 use crate::sample::{Posted, posted_by};
@@ -23,8 +25,8 @@ use yp_board::readers::{Naming, Opened, Reader, Writer};
 use yp_board::{Catalog, Tell, View};
 use yp_host::Desk;
 use yp_host::workers::{
-    Account, Charges, FailedSources, ReachedOrders, SharedDesk, Supplies, Totals, UnreadTexts,
-    WorkerHost, WorkerSetting,
+    Account, CallBackPass, Charges, FailedSources, PendingCallBacks, ReachedOrders, SharedDesk,
+    Supplies, Totals, UnreadTexts, WorkerHost, WorkerSetting,
 };
 use yp_io::{Peer, Texts};
 use yp_memory::{MemDial, MemDisk, SetClock};
@@ -149,7 +151,7 @@ fn play<
     came
 }
 
-/// Two workers, made of their readers and the locks, play.
+/// Two workers, made of their readers and the locks, play. What they counted, and what they are charged by behind that.
 fn meet<
     'm,
     'r,
@@ -162,23 +164,27 @@ fn meet<
     alloc: Global,
     maps: &'m SharedMaps<S, J, &'r R>,
     tools: &'m Tools<S, T>,
+    call_backs: &'m PendingCallBacks,
     readers: (Reader<J>, Reader<J>),
     charges: Charges<S>,
     script: Script<'_>,
-) -> (Vec<Came>, Account<S, Writer<J, &'r R>>)
+) -> (Vec<Came>, Account<S, Writer<J, &'r R>>, Charges<S>)
     requires builds { SiteBuilds S.text S.catalogue S.built }
     requires first { readers.0.catalogue ≡ S.catalogue }
     requires second { readers.1.catalogue ≡ S.catalogue }
     requires charges { charges.parts ≡ 4 }
+    requires queue { call_backs.now ≡ S.call_backs }
 {
     let mut charges = charges;
-    let (one, other) = (charges.split_off(), charges.split_off());
+    let one = charges.split_off(call_backs);
+    let other = charges.split_off(call_backs);
     let front = Writer::<J, &'r R>::known(&readers.0);
     let setting = WorkerSetting {
         alloc,
         rt,
         publisher: maps,
         desk: tools,
+        call_backs,
         journal: None,
     };
     let mut first = WorkerHost::new(setting, readers.0, one);
@@ -187,6 +193,7 @@ fn meet<
         rt,
         publisher: maps,
         desk: tools,
+        call_backs,
         journal: None,
     };
     let mut second = WorkerHost::new(setting, readers.1, other);
@@ -194,7 +201,9 @@ fn meet<
     let came = play(rt, alloc, &mut first, &mut second, script);
     first.hand_over(&mut account);
     second.hand_over(&mut account);
-    (came, account)
+    let mut others = first.into_charges();
+    others.merge(call_backs, second.into_charges());
+    (came, account, others)
 }
 
 /// What came of a stage: of each act, what both workers counted, and what was posted.
@@ -214,7 +223,11 @@ pub fn staged<J: Naming, T: Texts + Drop, R: RandomSource + Wait + Abort>(
 {
     let (publisher, readers) = publisher::<J, R>(rt, alloc, opened, own, file, 2);
     let readers = two_of(rt, readers, publisher.catalog());
-    under_locks::<Brand, J, T, R>(rt, alloc, publisher, readers, desk, Blanks::new(), script)
+    let (call_backs, pass) = PendingCallBacks::new(alloc).expect(rt, "a queue");
+    let blanks = Blanks::new();
+    under_locks::<Brand, J, T, R>(
+        rt, alloc, publisher, readers, desk, blanks, call_backs, pass, script,
+    )
 }
 
 /// What the ledgers of a stage are opened from, and the log of what is fetched.
@@ -264,6 +277,8 @@ fn under_locks<
     readers: (Reader<J>, Reader<J>),
     desk: Desk<MemDial, T, SetClock>,
     blanks: Blanks,
+    call_backs: PendingCallBacks,
+    pass: CallBackPass,
     script: Script<'_>,
 ) -> Played
     requires site { publisher.catalogue ≡ S.catalogue }
@@ -284,6 +299,7 @@ fn under_locks<
     requires made { (blanks.made.name ≡ S.made) × (blanks.made.parts ≡ 4) }
     requires versions { (blanks.versions.name ≡ S.versions) × (blanks.versions.parts ≡ 5) }
     requires fetches { blanks.fetches ≡ S.fetched }
+    requires call_backs { (call_backs ≡ S.call_backs) × (pass ≡ holds_none S.call_backs all_parts) }
 {
     let Blanks {
         unread,
@@ -302,30 +318,52 @@ fn under_locks<
     let (versions, mut own_versions) = versions.open::<FetchedVersions<S>>();
     let publishers = own_versions.split_off(1, 0);
     let debits = Debits::new(own_failures, own_made, own_versions);
-    let charges = Charges::new(own_unread, own_orders, own_sources, debits);
+    let mut pass = pass;
+    let left = call_backs.split_shares::<S>(&mut pass);
+    let charges = Charges::new(own_unread, own_orders, own_sources, debits, left);
     let fetches = fetches.named::<S>().expect(rt, "a log");
     let known = fetches.front().again();
     let maps: SharedMaps<S, J, &R> = Mutex::new(Locked::new(
         publisher, failures, made, publishers, known,
     ));
     let tools: Tools<S, T> = Mutex::new(SharedDesk::new(
-        desk, unread, orders, sources, versions, fetches,
+        desk, unread, orders, sources, versions, fetches, pass,
     ));
-    let (came, account) = meet(rt, alloc, &maps, &tools, readers, charges, script);
-    let (totals, desk) = closed(maps.into_inner(), tools.into_inner(), account);
+    let (came, account, others) = meet(
+        rt,
+        alloc,
+        &maps,
+        &tools,
+        &call_backs,
+        readers,
+        charges,
+        script,
+    );
+    let (maps, tools) = (maps.into_inner(), tools.into_inner());
+    let (totals, desk) = closed(rt, maps, tools, &call_backs, account, others);
     (came, totals, posted_by(rt, alloc, &desk.dial))
 }
 
 /// Takes the desk from under its lock, with what both workers counted.
-fn closed<S: Site + Accounts + Supplies, J: Naming, T: Texts + Drop, R: Wait + Drop>(
-    maps: Locked<S, MemDisk, Writer<J, R>>,
+fn closed<'r, S: Site + Accounts + Supplies, J: Naming, T: Texts + Drop, R: Wait>(
+    rt: &'r R,
+    maps: Locked<S, MemDisk, Writer<J, &'r R>>,
     tools: SharedDesk<S, MemDial, T, SetClock>,
-    account: Account<S, Writer<J, R>>,
-) -> (Totals, Desk<MemDial, T, SetClock>) {
-    let (totals, charges, _) = account.into_parts();
-    let (mut unread, mut orders, mut sources, mut debits) = charges.into_shares();
+    call_backs: &PendingCallBacks,
+    account: Account<S, Writer<J, &'r R>>,
+    others: Charges<S>,
+) -> (Totals, Desk<MemDial, T, SetClock>)
+    requires { call_backs.now ≡ S.call_backs }
+{
+    let (totals, mut charges, _) = account.into_parts();
+    charges.merge(call_backs, others);
+    let (mut unread, mut orders, mut sources, mut debits, left, told) = charges.into_shares();
     let (_, mut versions, known) = maps.close(&mut debits);
     let desk = tools.close(
+        rt,
+        call_backs,
+        left,
+        told.as_ref(),
         &mut unread,
         &mut orders,
         &mut sources,

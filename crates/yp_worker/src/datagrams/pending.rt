@@ -202,7 +202,8 @@ impl<J: Site> PendingTransfers<J> {
         self.arrivals.told(rt)
     }
 
-    /// Waits until a transfer was left since so many were, or until all servers have ended, and answers whether one was.
+    /// Waits until a transfer was left since so many were, or until all servers have ended, and answers whether one
+    /// was.
     pub(crate) fn wait_past<R: Wait>(&self, rt: &R, seen: u64) -> bool {
         self.arrivals.wait_past(rt, seen)
     }

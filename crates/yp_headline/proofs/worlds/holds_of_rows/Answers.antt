@@ -1,6 +1,6 @@
 use Rattle.yp_headline.proofs.Matched.{first_match}
 use Rattle.yp_headline.proofs.Worked.{make_then_match, three_installs, skewed_source}
-use Rattle.yp_headline.proofs.Fetching.{session_transfer}
+use Rattle.yp_headline.proofs.Fetching.{session_transfer, mail_transfer}
 use Rattle.yp_headline.proofs.Right.{of_source}
 use Rattle.yp_headline.proofs.Mailed.{two_inboxes}
 use Rattle.yp_headline.proofs.Served.{served}
@@ -12,6 +12,7 @@ returns c = record {
   make_then_match = make_then_match;
   session_transfer = session_transfer
       (of_source c.read_is_body.ensures c.fetched_is_shown.ensures c.shown_between.ensures);
+  mail_transfer = mail_transfer (of_source c.read_is_body.ensures c.fetched_is_shown.ensures c.shown_between.ensures);
   two_inboxes = two_inboxes;
   three_installs = three_installs;
   skewed_source = skewed_source;

@@ -2,6 +2,7 @@ use Rattle.yp_headline.proofs.Torn.{of_no_server}
 use Rattle.yp_headline.proofs.Skewed as skewed
 use Rattle.yp_headline.proofs.Mixed as mixed
 use Rattle.yp_headline.proofs.Called as called
+use Rattle.yp_headline.proofs.Asked as asked
 use Rattle.yp_headline.proofs.worlds.transfers_are_false.Goals as goal
 
 pub returns : goal.returns
@@ -28,4 +29,12 @@ returns c =
       of_another_host = called.of_another_host;
       called_twice = called.called_twice one;
       entered_before = called.entered_before one;
+      asked_by_nobody = asked.asked_by_nobody;
+      asked_of_no_server = asked.asked_of_no_server;
+      asked_unshown = asked.asked_unshown one;
+      asked_when_shown = asked.asked_when_shown;
+      asked_elsewhere = asked.asked_elsewhere;
+      asked_at_another_port = asked.asked_at_another_port one;
+      asked_once_more = asked.asked_once_more one;
+      mail_elsewhere = asked.mail_elsewhere;
     }

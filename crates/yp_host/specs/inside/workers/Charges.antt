@@ -1,25 +1,33 @@
 -- What a worker is charged with, and how charges add up.
-use Rattle.std.specs.Prelude.{◌≡◌, ℕ, ◌+◌, ◌<◌, ◌≤◌, Result, Ok, Err}
+use Rattle.std.specs.Prelude.{◌≡◌, ℕ, ◌+◌, ◌<◌, ◌≤◌, List, [], ◌++◌, Result, Ok, Err}
 use Rattle.yp_io.specs.Counts.{last_count}
 use Rattle.yp_messages.specs.declared.transfer.XfrStat.{XfrStat}
 use Rattle.yp_messages.specs.declared.transfer.XfrStat.TheVariants as stats
 use Rattle.yp_board.specs.Logs.{Log}
+use Rattle.yp_host.specs.declared.workers.call_backs.CallBack.{CallBack}
+use Rattle.yp_host.specs.declared.workers.charges.Counted.{Counted}
 use Rattle.yp_host.specs.declared.workers.outcome.Group.{Group}
 use Rattle.yp_host.specs.declared.workers.outcome.Group.TheVariants.{File, Source, Reached}
 use Rattle.yp_host.specs.declared.workers.outcome.Totals.{Totals}
 
 -- ---- what was counted
 
--- what hosts have counted, and all that they knew as they handed it over: a front of what was shown
+-- what hosts have counted, whom they left what to be told, and all that they knew as they handed it over: a front of
+-- what was shown
 pub record Accounted : Type 0 where
   pub totals : Totals
+  pub told : List CallBack
   pub reached : Log
+
+-- what they have counted, and whom they left what to be told
+abbrev pub counted_by : Accounted → Counted
+counted_by account = record { totals = account.totals; told = account.told }
 
 -- ---- what that is charged with
 
 -- what a worker is charged with: so many texts that weren't read, files that failed, orders that were reached, sources
--- that failed, and built versions that were shown; and so many versions that it fetched and didn't install. It has so
--- many parts of the right to be charged.
+-- that failed, and built versions that were shown; and so many versions that it fetched and didn't install; and with
+-- the call backs that it left. It has so many parts of the right to be charged.
 pub record Charged : Type 0 where
   pub parts : ℕ
   pub unread : ℕ
@@ -28,10 +36,11 @@ pub record Charged : Type 0 where
   pub sources : ℕ
   pub made : ℕ
   pub versions : ℕ
+  pub left : List CallBack
 
 abbrev pub free_of_charge : ℕ → Charged
 free_of_charge parts =
-    record { parts = parts; unread = 0; failures = 0; orders = 0; sources = 0; made = 0; versions = 0 }
+    record { parts = parts; unread = 0; failures = 0; orders = 0; sources = 0; made = 0; versions = 0; left = [] }
 
 abbrev pub charged_both : Charged → Charged → Charged
 charged_both one other = record {
@@ -42,6 +51,7 @@ charged_both one other = record {
   sources = one.sources + other.sources;
   made = one.made + other.made;
   versions = one.versions + other.versions;
+  left = one.left ++ other.left;
 }
 
 -- As many makes and transfers as ended in FILE are charged, as many transfers as reached an order or had a source that

@@ -1,12 +1,10 @@
 -- An install or a refusal behind the opening of a file, under the lock.
-use Rattle.std.specs.Prelude.{◌≡◌, ℕ, List, Some, ⊤}
+use Rattle.std.specs.Prelude.{ℕ}
 use Rattle.yp_version.specs.Versions.{MapVersion}
-use Rattle.yp_board.specs.Logs.{Log, shown}
 use Rattle.yp_publisher.specs.declared.install.Origin.{Origin}
-use Rattle.yp_publisher.specs.declared.install.InstallFault.TheVariants as fault
 use Rattle.yp_publisher.specs.Standing.{Published}
 use Rattle.yp_publisher.specs.Keeping.{Keeping}
-use Rattle.yp_publisher.specs.Installs.{OfferedVersion, HasMaster, IsNotNewer, not_following, Installs, Refuses}
+use Rattle.yp_publisher.specs.Installs.{OfferedVersion, Installs, Refuses}
 use Rattle.yp_publisher.specs.Opens.{Opens, StaysBehind}
 use Rattle.yp_publisher.specs.declared.sharing.locked.ShareFault.{ShareFault}
 use Rattle.yp_publisher.specs.declared.sharing.locked.ShareFault.TheVariants.{Shut, Unfit, Untold}
@@ -44,15 +42,3 @@ IsNotInstalled keeping number version origin (Shut fault) old new = StaysBehind 
 IsNotInstalled keeping number version origin (Unfit fault) old new =
     OpensAndRefuses keeping number version origin (Unfit fault) old new
 IsNotInstalled keeping number version origin Untold old new = ⊥
-
--- ---- what that is to a log, and to what a reader knows
-
--- Why a version doesn't follow what a log shows of the map: it has another master, or no lower order. A file that fails
--- and want of memory are no matter of the log.
-abbrev pub IsReason : List ℕ → ℕ → MapVersion → Origin → ShareFault → Log → Type 0
-IsReason own number version origin (Unfit (fault.Refused master)) log =
-    not_following own (offer_behind number version origin log) (shown number log) ≡ Some (HasMaster master.items)
-IsReason own number version origin (Unfit (fault.Age last offered)) log =
-    not_following own (offer_behind number version origin log) (shown number log) ≡ Some (IsNotNewer last offered)
-IsReason own number version origin (Unfit fault.Behind) log = ⊥
-IsReason own number version origin _ log = ⊤

@@ -17,6 +17,8 @@ loop-datagram_worker-init g c =
       handed = ([], refl, none_handed conduct counting g.H.HandsOver.summed g.H.HandsOver.reached c.args.others c.args.sum.now);
       queue = c.requires.queue;
       room = rw c.requires.none (omega (arith, c.requires.room));
+      hosts = refl;
+      hosts_room = c.requires.hosts;
     }
 
 pub loop-datagram_worker-preserved : goal.loop-datagram_worker-preserved
@@ -31,6 +33,8 @@ loop-datagram_worker-preserved g c =
     let longer = length_push c.loop-datagram_worker.ended.inboxes.items did.result.0.inbox in
     let long = ap length added.inboxes in
     let shorter = c.in-Some.ensures.len in
+    let one_host = length_push c.loop-datagram_worker.hosts.items did.result.2 in
+    let one_more = ap length c.push_reserved.ensures.items in
     record {
       inboxes = one_inbox _ _ this popped _ _ before.inboxes _ did.result.0.inbox added.inboxes did.ensures.mailed.0;
       fault =
@@ -44,6 +48,8 @@ loop-datagram_worker-preserved g c =
       queue = (rec_before (λ m. m.server.holding.queue ≡ c.args.others.queue) _ this
           (subst (AllByRecursion (λ m. m.server.holding.queue ≡ c.args.others.queue)) popped before.queue)).0;
       room = omega (arith, longer, long, before.room, shorter, added.room);
+      hosts = omega (arith, one_host, one_more, before.hosts, shorter);
+      hosts_room = omega (arith, one_host, one_more, before.hosts_room, shorter, c.push_reserved.ensures.capacity);
     }
 
 pub returns-clause-handed : goal.returns-clause-handed

@@ -17,6 +17,8 @@ invariant-loop-datagram_worker g l =
           × HandsOverMails conduct counting g.H.HandsOver.summed g.H.HandsOver.reached done l.fn.others l.pass l.fn.sum l.sum;
       queue : AllByRecursion (λ m. m.server.holding.queue ≡ l.fn.others.queue) l.datagram_workers.items;
       room : length l.datagram_workers.items + length l.ended.inboxes.items ≤ vec_capacity l.ended.inboxes;
+      hosts : length l.hosts.items + length l.datagram_workers.items ≡ length l.fn.hosts.items + length l.fn.datagram_workers.items;
+      hosts_room : length l.hosts.items + length l.datagram_workers.items ≤ vec_capacity l.hosts;
     }
 
 abbrev pub decreases-loop-datagram_worker : goal.decreases-loop-datagram_worker

@@ -27,6 +27,7 @@ ghosts-under_locks-J-Supplies g a = record {
   unread = a.blanks.charges.unread.name;
   orders = a.blanks.charges.orders.name;
   sources = a.blanks.charges.sources.name;
+  call_backs = a.call_backs;
 }
 
 abbrev pub ghosts-under_locks-J-Ledger : goal.ghosts-under_locks-J-Ledger

@@ -1,4 +1,4 @@
-use Rattle.std.proofs.Common.{arith}
+use Rattle.std.proofs.Common.{refl, arith}
 use Rattle.std.proofs.lemmas.List.{length-map}
 use Rattle.yp_rpc.specs.inside.Turns.{box_by}
 use Rattle.yp_server.proofs.Fronts.{starts_in, served_of}
@@ -21,8 +21,15 @@ returns-clause-rises g c = c.unlock-disks.ensures.rises
 
 pub returns-clause-counted : goal.returns-clause-counted
 returns-clause-counted g c =
-    rw c.unlock-disks.ensures.totals
-    (c.serve-listen.ensures.counted (g.B.Show.log c.unlock-disks.result.1) c.unlock-disks.ensures.grown)
+    let tells = c.unlock-disks.ensures.told in record {
+      told = c.serve-listen.result.3.told;
+      counted = rw c.unlock-disks.ensures.totals
+          (c.serve-listen.ensures.counted (g.B.Show.log c.unlock-disks.result.1) c.unlock-disks.ensures.grown);
+      posted = tells.posted;
+      used = tells.used;
+      same = tells.same refl;
+      came = tells.came;
+    }
 
 pub returns-clause-files : goal.returns-clause-files
 returns-clause-files g c = λ texts well.

@@ -11,6 +11,9 @@ loop-server_worker-init g c = record {
   parts = refl;
   out = refl;
   ended = refl;
+  hosts = rw c.requires.none (omega arith);
+  hosts_room = c.requires.hosts;
+  capacity = refl;
 }
 
 pub take_in-requires : goal.take_in-requires
@@ -20,7 +23,13 @@ take_in-requires g c =
     let last = c.in-Some.server_worker in
     let parted = ap (λ l. length (mails_in l)) c.in-Some.ensures.items ∙ ap length (mails_more front last)
     ∙ length-append (mails_in front) (mails_in (last ∷ [])) in
-    record { room = omega (arith, room, parted) }
+    record {
+      room = omega (arith, room, parted);
+      hosts =
+          let fits = c.loop-server_worker.invariant.hosts_room in
+          let shorter = c.in-Some.ensures.len in
+          omega (arith, fits, shorter);
+    }
 
 pub loop-server_worker-preserved : goal.loop-server_worker-preserved
 loop-server_worker-preserved g c =
@@ -41,4 +50,10 @@ loop-server_worker-preserved g c =
       parts = omega (arith, before.parts, did.parts, parts);
       out = omega (arith, before.out, did.out, out);
       ended = omega (arith, before.ended, did.ended, ended);
+      hosts =
+          let shorter = c.in-Some.ensures.len in omega (arith, before.hosts, did.hosts, long, shorter);
+      hosts_room =
+          let shorter = c.in-Some.ensures.len in
+          omega (arith, before.hosts_room, did.hosts, did.hosts_room, shorter);
+      capacity = did.hosts_room ∙ before.capacity;
     }

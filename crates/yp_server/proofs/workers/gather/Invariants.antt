@@ -9,6 +9,10 @@ invariant-loop-server_worker g l = record {
   parts : l.pass.parts + (held_in l.all_workers.items).parts ≡ l.fn.pass.parts + (held_in l.fn.all_workers.items).parts;
   out : l.pass.out + (held_in l.all_workers.items).out ≡ l.fn.pass.out + (held_in l.fn.all_workers.items).out;
   ended : l.pass.ended + (held_in l.all_workers.items).ended ≡ l.fn.pass.ended + (held_in l.fn.all_workers.items).ended;
+  hosts : length l.hosts.items + length l.datagram_workers.items + length l.all_workers.items
+      ≡ length l.fn.hosts.items + length l.fn.all_workers.items;
+  hosts_room : length l.hosts.items + length l.all_workers.items ≤ vec_capacity l.hosts;
+  capacity : vec_capacity l.hosts ≡ vec_capacity l.fn.hosts;
 }
 
 abbrev pub decreases-loop-server_worker : goal.decreases-loop-server_worker

@@ -1,5 +1,5 @@
 use Rattle.std.proofs.Common.{◌≡◌, ◌+◌, Bool, List, [], fold, length, map, reverse, refl, ap, sym, subst, ◌∙◌, arith}
-use Rattle.std.proofs.lemmas.List.{with_items_is, length-reverse, reverse-reverse}
+use Rattle.std.proofs.lemmas.List.{with_items_is, length_push, length-reverse, reverse-reverse}
 use Rattle.std.proofs.lemmas.Slice.Zip.{AllZip-long}
 use Rattle.std.specs.List.{AllZip, AllByRecursion, list_any}
 use Rattle.yp_answer.specs.session.Hosts.{conduct_of}
@@ -61,7 +61,7 @@ close-listen-requires-clause-all g c =
     let held = (held_of all.0 was.others _ left).0 in
     let begun = ap (λ (p : Passed). p.parts) c.requires.pass in
     let merged = ap (λ (p : Passed). p.parts) c.merge.ensures in
-    let passed = ap (λ (p : Passed). p.parts) c.into_pass.ensures in
+    let passed = ap (λ (p : Passed). p.parts) c.into_parts-held.ensures in
     let last = ap (λ (p : Passed). p.parts) c.last_of-maker.ensures.last in
     let parts = c.gather-datagram_workers.ensures.parts in
     let drained = c.drain-listening.ensures.out.0 in
@@ -81,7 +81,7 @@ close-listen-requires-clause-none_out g c =
     let held = (held_of all.0 was.others _ left).1 in
     let begun = ap (λ (p : Passed). p.out) c.requires.pass in
     let merged = ap (λ (p : Passed). p.out) c.merge.ensures in
-    let passed = ap (λ (p : Passed). p.out) c.into_pass.ensures in
+    let passed = ap (λ (p : Passed). p.out) c.into_parts-held.ensures in
     let last = ap (λ (p : Passed). p.out) c.last_of-maker.ensures.last in
     let out = c.gather-datagram_workers.ensures.out in
     let drained = c.drain-listening.ensures.out.1 in
@@ -90,7 +90,7 @@ close-listen-requires-clause-none_out g c =
 pub close-listen-requires-clause-ended : goal.close-listen-requires-clause-ended
 close-listen-requires-clause-ended g c =
     let merged = ap (λ (p : Passed). p.ended) c.merge.ensures in
-    let passed = ap (λ (p : Passed). p.ended) c.into_pass.ensures in
+    let passed = ap (λ (p : Passed). p.ended) c.into_parts-held.ensures in
     let last = ap (λ (p : Passed). p.ended) c.last_of-maker.ensures.last in
     let ended = c.gather-datagram_workers.ensures.ended in
     let drained = c.drain-listening.ensures.ended in
@@ -137,6 +137,81 @@ hand_over_all-mailed-requires-clause-queue g c =
     (subst (AllByRecursion (λ (m : DatagramWorker g.row.I.Denot g.row.J.Denot g.row.H.Denot g.row.R.Denot g.row.H-Count.Denot). m.server.holding.queue ≡ queue))
     (ap reverse (sym these) ∙ reverse-reverse c.gather-datagram_workers.result.items)
     (rec_reverse (λ (m : DatagramWorker g.row.I.Denot g.row.J.Denot g.row.H.Denot g.row.R.Denot g.row.H-Count.Denot). m.server.holding.queue ≡ queue) all.0 fit))
+
+pub push_reserved-requires : goal.push_reserved-requires
+push_reserved-requires g c =
+    let none = ap length c.requires.none.2 in
+    let fits = c.requires.hosts in
+    omega (arith, none, fits)
+
+pub gather-datagram_workers-requires-clause-hosts : goal.gather-datagram_workers-requires-clause-hosts
+gather-datagram_workers-requires-clause-hosts g c =
+    let places = c.work_beside.new.places in
+    let same = with_items_is c.args.staff.all_workers places (omega (arith, c.work_beside.ensures.count, c.deref_mut.ensures.len)) in
+    let none = ap length c.requires.none.2 in
+    let one = ap length c.push_reserved.ensures.items in
+    let longer = length_push c.args.staff.hosts.items c.into_parts-held.result.1 in
+    let room = c.push_reserved.ensures.capacity in
+    let long = ap length same in
+    let less = c.last_of-maker.ensures.count in
+    let count = c.work_beside.ensures.count in
+    let begun = ap length c.deref_mut.ensures.value in
+    let fits = c.requires.hosts in
+    omega (arith, none, one, longer, room, long, less, count, begun, fits)
+
+pub push_reserved-requires-2 : goal.push_reserved-requires-2
+push_reserved-requires-2 g c =
+    let places = c.work_beside.new.places in
+    let same = with_items_is c.args.staff.all_workers places (omega (arith, c.work_beside.ensures.count, c.deref_mut.ensures.len)) in
+    let none = ap length c.requires.none.2 in
+    let one = ap length c.push_reserved.ensures.items in
+    let longer = length_push c.args.staff.hosts.items c.into_parts-held.result.1 in
+    let room = c.push_reserved.ensures.capacity in
+    let long = ap length same in
+    let less = c.last_of-maker.ensures.count in
+    let count = c.work_beside.ensures.count in
+    let begun = ap length c.deref_mut.ensures.value in
+    let fits = c.requires.hosts in
+    let gathered = c.gather-datagram_workers.ensures.hosts in
+    let still = c.gather-datagram_workers.ensures.hosts_room in
+    omega (arith, none, one, longer, room, long, less, count, begun, fits, gathered, still)
+
+pub hand_over_all-mailed-requires-clause-hosts : goal.hand_over_all-mailed-requires-clause-hosts
+hand_over_all-mailed-requires-clause-hosts g c =
+    let places = c.work_beside.new.places in
+    let same = with_items_is c.args.staff.all_workers places (omega (arith, c.work_beside.ensures.count, c.deref_mut.ensures.len)) in
+    let none = ap length c.requires.none.2 in
+    let one = ap length c.push_reserved.ensures.items in
+    let longer = length_push c.args.staff.hosts.items c.into_parts-held.result.1 in
+    let room = c.push_reserved.ensures.capacity in
+    let long = ap length same in
+    let less = c.last_of-maker.ensures.count in
+    let count = c.work_beside.ensures.count in
+    let begun = ap length c.deref_mut.ensures.value in
+    let fits = c.requires.hosts in
+    let gathered = c.gather-datagram_workers.ensures.hosts in
+    let still = c.gather-datagram_workers.ensures.hosts_room in
+    let another = ap length c.push_reserved-2.ensures.items in
+    let more = length_push c.gather-datagram_workers.new.hosts.items c.hand_over_carrier-transfers.result.1 in
+    let same_room = c.push_reserved-2.ensures.capacity in
+    omega (arith, none, one, longer, room, long, less, count, begun, fits, gathered, still, another, more, same_room)
+
+pub returns-clause-hosts : goal.returns-clause-hosts
+returns-clause-hosts g c =
+    let places = c.work_beside.new.places in
+    let same = with_items_is c.args.staff.all_workers places (omega (arith, c.work_beside.ensures.count, c.deref_mut.ensures.len)) in
+    let none = ap length c.requires.none.2 in
+    let one = ap length c.push_reserved.ensures.items in
+    let longer = length_push c.args.staff.hosts.items c.into_parts-held.result.1 in
+    let long = ap length same in
+    let less = c.last_of-maker.ensures.count in
+    let count = c.work_beside.ensures.count in
+    let begun = ap length c.deref_mut.ensures.value in
+    let gathered = c.gather-datagram_workers.ensures.hosts in
+    let another = ap length c.push_reserved-2.ensures.items in
+    let more = length_push c.gather-datagram_workers.new.hosts.items c.hand_over_carrier-transfers.result.1 in
+    let all = c.hand_over_all-mailed.ensures.hosts in
+    omega (arith, none, one, longer, long, less, count, begun, gathered, another, more, all)
 
 pub returns-clause-counted : goal.returns-clause-counted
 returns-clause-counted g c = λ inboxes datagram_workers was turns begins log reaches.

@@ -1,17 +1,18 @@
-use Rattle.std.proofs.Common.{◌≡◌, List, ℕ, length, arith, ap, subst, ◌∙◌, take, replicate}
-use Rattle.std.proofs.lemmas.List.{take-replicate}
-use Rattle.yp_xdr.specs.Spelling.{padding, fixed}
-use Rattle.yp_xdr.specs.inside.Writing.{Sets}
-use Rattle.yp_xdr.proofs.Parts.{sets_join}
+use Rattle.std.proofs.Common.{◌≡◌, ℕ, ◌+◌, ◌≤◌, length, ◌∙◌, arith}
+use Rattle.yp_xdr.specs.Spelling.{padding_len, fixed}
+use Rattle.yp_xdr.proofs.Parts.{some_word, sets_padded}
+use Rattle.yp_xdr.proofs.Items.{length-fixed}
 use Rattle.yp_xdr.proofs.put.set_fixed.Goals as goal
 
 pub returns : goal.returns
 unfolding fixed
 returns c =
-    let n = length c.args.bytes.now in
-    let pad = c.padding_of in
-    let zeros : take pad.result (replicate 4 0) ≡ padding n =
-    take-replicate pad.result 4 0 (omega (arith, pad.ensures.small)) ∙ ap (λ k. replicate k 0) pad.ensures.value in
-    let P : List ℕ → Type 0 =
-    λ xs. Sets xs c.set_bytes-padding.result c.set_bytes.result c.set_bytes-padding.new.buf c.set_bytes.new.buf in
-    sets_join c.args.bytes.now (padding n) _ _ _ _ _ _ c.set_bytes-padding.ensures (subst P zeros c.set_bytes.ensures)
+    let n : ℕ = length c.args.bytes.now in
+    let p : ℕ = padding_len n in
+    let size : c.fixed_len.result ≡ n + p = c.fixed_len.ensures.value ∙ length-fixed c.args.bytes.now in
+    let some : 4 ≤ n + p = some_word n c.is_empty.result c.is_empty.ensures c.if-is_empty.false in
+    let fits : c.args.at + c.fixed_len.result ≤ length c.args.buf.now =
+    omega (arith, size, length-fixed c.args.bytes.now, c.requires) in
+    sets_padded c.args.buf.now c.set_bytes.new.buf c.set_bytes-2.new.buf c.args.at (c.args.at + c.fixed_len.result)
+    p c.args.bytes.now (omega (arith, size)) (omega arith) some fits c.set_bytes.ensures.bytes_there
+    c.set_bytes-2.ensures.bytes_there

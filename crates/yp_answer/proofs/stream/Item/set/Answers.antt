@@ -8,6 +8,6 @@ pub returns-in-Row : goal.returns-in-Row
 returns-in-Row c =
     let val = c.in-Row.val.now in
     let key = c.in-Row.key.now in
-    let behind = c.sets_join.ensures val key _ _ _ _ _ _ c.copy-at-in-Row.ensures c.copy.ensures in
-    subst (λ (item : Item). Sets (item_bytes item) c.args.at c.copy.result c.args.buf.now c.copy.new.buf) (sym c.in-Row.is)
-    (c.sets_join.ensures _ (val ++ key) _ _ _ _ _ _ c.copy-at.ensures behind)
+    let behind = c.sets_join.ensures val key _ _ _ _ _ _ c.set_bytes-at-in-Row.ensures c.set_bytes.ensures in
+    subst (λ (item : Item). Sets (item_bytes item) c.args.at c.set_bytes.result c.args.buf.now c.set_bytes.new.buf) (sym c.in-Row.is)
+    (c.sets_join.ensures _ (val ++ key) _ _ _ _ _ _ c.set_bytes-at.ensures behind)

@@ -93,7 +93,6 @@ returns-in-Ok-serve-clause-hosted g c =
             c.in-Ok-serve.served.writer.log (map g.D.Disk.history (disks_of m)) c.in-Ok-serve.served.disks.items
             (tells c.shared-desk.result.dial).past (tells c.in-Ok-serve.served.desk.dial).past)
             (ap (λ (p : Published g.row.D.Denot Written). p.maps) made.publisher) (did.traced made.start);
-        dialed = did.dialed;
       },
     )
     (did.rises made.start)

@@ -1,4 +1,4 @@
-use Rattle.std.proofs.Common.{◌≤◌, arith, ◌∙◌}
+use Rattle.std.proofs.Common.{◌≤◌, ap, arith, ◌∙◌}
 use Rattle.yp_texts.specs.Builds.{order_max}
 use Rattle.yp_host.specs.workers.Desks.{texts_alone}
 use Rattle.yp_host.specs.inside.Locals.{telling_by}
@@ -35,6 +35,7 @@ returns g c = record {
       c.in-Err-install_shared.fault _ _ c.in-Err-install_shared.ensures.reason (λ e. c.in_default.not-Age (c.shared_stat.ensures ∙ e)));
   overtaken = λ e. absurd (cc);
   learned = c.install_shared.ensures.learned;
-  charged = charged_so c.in-Err-install_shared.fault c.shared_stat.result c.args.charges.now _ _ _ _ _ _ _ _
+  charged = charged_so c.in-Err-install_shared.fault c.shared_stat.result c.args.charges.now _ _ _ _ _ _ _ _ _
       (c.charges.view_is ∙ c.in-Ok.ensures.charged) c.in-Err-install_shared.ensures.charged c.shared_stat.ensures;
+  left = ap (λ h. h.left) (c.charges.view_is ∙ c.in-Ok.ensures.charged);
 }

@@ -22,7 +22,10 @@ loop-buffers-preserved g c =
       knows = all_before (λ reader. IsAtStart g.J.Site.catalogue g.J.Reception.starts (g.B.Reader.View.seen reader)) _ _ _
           c.in-Some-pop.ensures.items before.knows;
       shares = record {
-        charges = let less = made.ensures.charges in let old = before.shares.charges in omega (arith, less, old, one);
+        charges =
+            let less = made.ensures.charges.0 in
+            let old = before.shares.charges.0 in
+            (omega (arith, less, old, one), made.ensures.charges.1 ∙ before.shares.charges.1);
         out = (let less = made.ensures.out.0 in let old = before.shares.out.0 in omega (arith, less, old, one), made.ensures.out.1);
         ended = (let less = made.ensures.ended.0 in let old = before.shares.ended.0 in omega (arith, less, old, one), made.ensures.ended.1);
       };

@@ -2,8 +2,9 @@ use Rattle.std.proofs.Common.{◌≡◌, [], ◌∷◌, ◌++◌, refl, sym, ap,
 use Rattle.std.specs.List.{AllZip}
 use Rattle.std.proofs.lemmas.List.{length_push, length-reverse, reverse-reverse}
 use Rattle.yp_worker.specs.datagrams.Mailing.{Holding}
+use Rattle.yp_host.specs.inside.workers.Charges.{Charged}
 use Rattle.yp_server.specs.declared.workers.ServerWorker.TheVariants.{Datagrams}
-use Rattle.yp_server.specs.Counting.{count_totals}
+use Rattle.yp_server.specs.Counting.{count_told}
 use Rattle.yp_server.specs.Serving.{conduct_at, IsAtStart}
 use Rattle.yp_server.specs.inside.Counting.{BeginsMail}
 use Rattle.yp_server.specs.inside.Serving.{before_work, fresh_worker}
@@ -23,7 +24,7 @@ loop-inbox-init g c =
       rooms = c.requires.rooms ∙ sym long;
       readers = omega (arith, long);
       knows = c.requires.knows;
-      charges = omega (arith, long);
+      charges = (omega (arith, long), refl);
       transfers = (c.requires.transfers.0, omega (arith, long));
     }
 
@@ -36,8 +37,8 @@ loop-inbox-preserved g c =
     let made = c.datagram_worker-datagram_worker in
     let pushed = c.push_reserved.ensures.items in
     let longer = length_push c.loop-inbox.all_workers.items (Datagrams made.result) in
-    let less = c.split_off-in-Some.ensures in
-    let begins = BeginsMail (conduct_at g.B.Reader.View.seen g.B.Reader.View.stepped g.J.Supplies.text g.J.Supplies.hosts) count_totals
+    let less = c.split_off-charges.ensures in
+    let begins = BeginsMail (conduct_at g.B.Reader.View.seen g.B.Reader.View.stepped g.J.Supplies.text g.J.Supplies.hosts) count_told
     g.J.Site.catalogue g.J.Reception.starts c.args.self.now.pending.now c.args.turns in
     let knows = all_last (λ reader. IsAtStart g.J.Site.catalogue g.J.Reception.starts (g.B.Reader.View.seen reader)) _ _ _
     c.in-Some-pop-2.ensures.items before.knows in
@@ -64,7 +65,11 @@ loop-inbox-preserved g c =
       readers = omega (arith, before.readers, one, reader);
       knows = all_before (λ reader. IsAtStart g.J.Site.catalogue g.J.Reception.starts (g.B.Reader.View.seen reader)) _ _ _
           c.in-Some-pop-2.ensures.items before.knows;
-      charges = omega (arith, before.charges, one, less);
+      charges =
+          let parts = less.left in (
+            omega (arith, before.charges.0, one, parts),
+            ap (λ (charged : Charged). charged.left) less.same ∙ before.charges.1,
+          );
       transfers =
           let cut = c.split_off.ensures in
           let parts = cut.parts in (
@@ -77,7 +82,7 @@ pub returns-clause-workers : goal.returns-clause-workers
 returns-clause-workers g c =
     let after = c.loop-inbox.invariant.workers in
     let none : length c.loop-inbox.inboxes.items ≡ 0 = omega (arith, c.in_default.ensures.cases.0) in
-    let begins = BeginsMail (conduct_at g.B.Reader.View.seen g.B.Reader.View.stepped g.J.Supplies.text g.J.Supplies.hosts) count_totals
+    let begins = BeginsMail (conduct_at g.B.Reader.View.seen g.B.Reader.View.stepped g.J.Supplies.text g.J.Supplies.hosts) count_told
     g.J.Site.catalogue g.J.Reception.starts c.args.self.now.pending.now c.args.turns in (
       after.0,
       after.2,

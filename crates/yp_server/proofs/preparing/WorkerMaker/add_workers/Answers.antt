@@ -1,7 +1,7 @@
 use Rattle.std.proofs.Common.{length, ap, sym, ◌∙◌, arith}
 use Rattle.yp_worker.specs.datagrams.Mailing.{nothing_held}
 use Rattle.yp_server.specs.inside.Serving.{before_work}
-use Rattle.yp_server.proofs.Posted.{others_behind}
+use Rattle.yp_server.proofs.Posted.{others_behind, connections_more}
 use Rattle.yp_server.proofs.preparing.WorkerMaker.add_workers.Goals as goal
 
 pub returns-clause-workers : goal.returns-clause-workers
@@ -16,8 +16,9 @@ returns-clause-workers g c =
 pub add_connection_workers-requires-clause-shares : goal.add_connection_workers-requires-clause-shares
 add_connection_workers-requires-clause-shares g c =
     let was = c.requires.shares in
-    let less = c.add_datagram_workers.ensures.charges in record {
-      charges = let all = was.charges in omega (arith, all, less);
+    let less = c.add_datagram_workers.ensures.charges in
+    let parts = less.0 in record {
+      charges = let all = was.charges.0 in (omega (arith, all, parts), less.1 ∙ was.charges.1);
       out = was.out;
       ended = was.ended;
     }
@@ -28,6 +29,13 @@ add_connection_workers-requires-clause-room g c =
     let added = c.add_datagram_workers.ensures.count in
     let same = c.add_datagram_workers.ensures.room in
     omega (arith, fits, added, same)
+
+pub returns-clause-count : goal.returns-clause-count
+returns-clause-count g c =
+    let first = c.add_datagram_workers.ensures.count in
+    let more = connections_more (length c.args.worker_resources.memory.all_buffers.items) before_work _ _
+    c.add_connection_workers.ensures.all_workers in
+    omega (arith, first, more)
 
 pub returns-clause-transfers : goal.returns-clause-transfers
 returns-clause-transfers g c =

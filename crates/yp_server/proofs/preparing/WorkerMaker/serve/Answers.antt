@@ -1,17 +1,20 @@
+use denote.Param.Send.{sendable}
+use Rattle.std.proofs.Crossing.{crosses}
 use Rattle.std.proofs.Common.{length, refl, subst, ap, sym, ◌∙◌, arith}
 use Rattle.std.specs.List.{AllZip}
 use Rattle.std.proofs.lemmas.Slice.Zip.{AllZip-long}
 use Rattle.yp_worker.specs.datagrams.Mailing.{QueueName, Holding, nothing_held}
 use Rattle.yp_server.specs.inside.Serving.{before_work}
-use Rattle.yp_server.specs.Counting.{count_totals}
+use Rattle.yp_server.specs.Counting.{count_told}
 use Rattle.yp_server.specs.Serving.{conduct_at, IsAtStart}
 use Rattle.yp_server.specs.inside.Counting.{BeginsMail, BeginsCarrying}
+use Rattle.yp_server.proofs.Crossing.{host_send, account_send}
 use Rattle.yp_server.proofs.Posted.{manned, mails_of}
 use Rattle.yp_server.proofs.Rows.{all_before, all_last}
 use Rattle.yp_server.proofs.preparing.WorkerMaker.serve.Goals as goal
 
-pub run_workers-requires-clause-manned : goal.run_workers-requires-clause-manned
-run_workers-requires-clause-manned g c κs within =
+pub run_workers-listen-requires-clause-manned : goal.run_workers-listen-requires-clause-manned
+run_workers-listen-requires-clause-manned g c κs within =
     let added = c.add_workers.ensures.workers in
     let parts = c.requires.out in
     let room = c.requires.room in
@@ -20,10 +23,10 @@ run_workers-requires-clause-manned g c κs within =
     let conduct = conduct_at g.B.Reader.View.seen g.B.Reader.View.stepped g.J.Supplies.text g.J.Supplies.hosts in
     let queue = ap (λ m. m.holding.queue) c.carrier-carrier.ensures
     ∙ ap (λ (h : Holding). h.queue) c.add_workers.ensures.transfers.0 in
-    let begin = subst (λ (q : QueueName). AllZip (BeginsMail conduct count_totals g.J.Site.catalogue g.J.Reception.starts q turns) inboxes added.0)
+    let begin = subst (λ (q : QueueName). AllZip (BeginsMail conduct count_told g.J.Site.catalogue g.J.Reception.starts q turns) inboxes added.0)
     (sym queue) added.2 in
     let count =
-    AllZip-long (BeginsMail conduct count_totals g.J.Site.catalogue g.J.Reception.starts c.args.self.now.pending.now turns) inboxes added.0 added.2 in (
+    AllZip-long (BeginsMail conduct count_told g.J.Site.catalogue g.J.Reception.starts c.args.self.now.pending.now turns) inboxes added.0 added.2 in (
       added.0,
       manned added.0 before_work (length c.args.worker_resources.memory.all_buffers.items) g.J.Ledger.parts _ c.requires.some.0
           (sym parts.1 ∙ parts.2) added.1,
@@ -34,19 +37,25 @@ run_workers-requires-clause-manned g c κs within =
       begin,
     )
 
+pub run_workers-listen-requires-send-H : goal.run_workers-listen-requires-send-H
+run_workers-listen-requires-send-H g c κs within = search (sendable, crosses, host_send) depth 60 fits 50000
+
+pub run_workers-listen-requires-send-H-Sum : goal.run_workers-listen-requires-send-H-Sum
+run_workers-listen-requires-send-H-Sum g c κs within = search (sendable, crosses, account_send) depth 60 fits 50000
+
 pub add_workers-requires-clause-knows : goal.add_workers-requires-clause-knows
-add_workers-requires-clause-knows g c κs within =
+add_workers-requires-clause-knows g c =
     all_before (λ reader. IsAtStart g.J.Site.catalogue g.J.Reception.starts (g.B.Reader.View.seen reader)) _ _ _
-    c.in-Some.ensures.items c.requires.knows κs within
+    c.in-Some.ensures.items c.requires.knows
 
 pub carrier-carrier-requires-clause-knows : goal.carrier-carrier-requires-clause-knows
 carrier-carrier-requires-clause-knows g c =
     all_last (λ reader. IsAtStart g.J.Site.catalogue g.J.Reception.starts (g.B.Reader.View.seen reader)) _ _ _
     c.in-Some.ensures.items c.requires.knows
 
-pub run_workers-requires-clause-carrier : goal.run_workers-requires-clause-carrier
-run_workers-requires-clause-carrier g c κs within =
-    let begins = BeginsCarrying (conduct_at g.B.Reader.View.seen g.B.Reader.View.stepped g.J.Supplies.text g.J.Supplies.hosts) count_totals
+pub run_workers-listen-requires-clause-carrier : goal.run_workers-listen-requires-clause-carrier
+run_workers-listen-requires-clause-carrier g c κs within =
+    let begins = BeginsCarrying (conduct_at g.B.Reader.View.seen g.B.Reader.View.stepped g.J.Supplies.text g.J.Supplies.hosts) count_told
     g.J.Site.catalogue g.J.Reception.starts in
     let left = c.add_workers.new.shares.transfers in
     let is = c.add_workers.ensures.transfers in
@@ -60,12 +69,12 @@ run_workers-requires-clause-carrier g c κs within =
       holding = is.0 ∙ ap (λ q. nothing_held q left.parts) (sym queue);
     })
 
-pub run_workers-requires-clause-transfers : goal.run_workers-requires-clause-transfers
-run_workers-requires-clause-transfers g c κs within =
+pub run_workers-listen-requires-clause-transfers : goal.run_workers-listen-requires-clause-transfers
+run_workers-listen-requires-clause-transfers g c κs within =
     let added = c.add_workers.ensures.workers in
     let is = c.add_workers.ensures.transfers in
     let inboxes = c.args.worker_resources.inboxes.items in
-    let begins = BeginsMail (conduct_at g.B.Reader.View.seen g.B.Reader.View.stepped g.J.Supplies.text g.J.Supplies.hosts) count_totals
+    let begins = BeginsMail (conduct_at g.B.Reader.View.seen g.B.Reader.View.stepped g.J.Supplies.text g.J.Supplies.hosts) count_told
     g.J.Site.catalogue g.J.Reception.starts c.args.self.now.pending.now c.args.worker_resources.turns in
     let count = AllZip-long begins inboxes added.0 added.2 in
     let among =
@@ -85,9 +94,9 @@ returns-clause-counted g c =
     let conduct = conduct_at g.B.Reader.View.seen g.B.Reader.View.stepped g.J.Supplies.text g.J.Supplies.hosts in
     let queue = ap (λ m. m.holding.queue) c.carrier-carrier.ensures
     ∙ ap (λ (h : Holding). h.queue) c.add_workers.ensures.transfers.0 in
-    let begin = subst (λ (q : QueueName). AllZip (BeginsMail conduct count_totals g.J.Site.catalogue g.J.Reception.starts q turns) inboxes added.0)
+    let begin = subst (λ (q : QueueName). AllZip (BeginsMail conduct count_told g.J.Site.catalogue g.J.Reception.starts q turns) inboxes added.0)
     (sym queue) added.2 in
-    c.run_workers.ensures.counted inboxes added.0
+    c.run_workers-listen.ensures.counted inboxes added.0
     (manned added.0 before_work (length c.args.worker_resources.memory.all_buffers.items) g.J.Ledger.parts _ c.requires.some.0
     (sym parts.1 ∙ parts.2) added.1)
     turns begin
@@ -101,9 +110,17 @@ returns-clause-cause g c =
     let conduct = conduct_at g.B.Reader.View.seen g.B.Reader.View.stepped g.J.Supplies.text g.J.Supplies.hosts in
     let queue = ap (λ m. m.holding.queue) c.carrier-carrier.ensures
     ∙ ap (λ (h : Holding). h.queue) c.add_workers.ensures.transfers.0 in
-    let begin = subst (λ (q : QueueName). AllZip (BeginsMail conduct count_totals g.J.Site.catalogue g.J.Reception.starts q turns) inboxes added.0)
+    let begin = subst (λ (q : QueueName). AllZip (BeginsMail conduct count_told g.J.Site.catalogue g.J.Reception.starts q turns) inboxes added.0)
     (sym queue) added.2 in
-    c.run_workers.ensures.cause inboxes added.0
+    c.run_workers-listen.ensures.cause inboxes added.0
     (manned added.0 before_work (length c.args.worker_resources.memory.all_buffers.items) g.J.Ledger.parts _ c.requires.some.0
     (sym parts.1 ∙ parts.2) added.1)
     turns begin
+
+pub returns-clause-others : goal.returns-clause-others
+returns-clause-others g c =
+    let back = c.charges_of-others.ensures in
+    let parts = back.parts in
+    let hosts = c.run_workers-listen.ensures.hosts in
+    let count = c.add_workers.ensures.count in
+    (omega (arith, parts, hosts, count), back.left)

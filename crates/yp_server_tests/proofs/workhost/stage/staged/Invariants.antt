@@ -35,4 +35,5 @@ ghosts-under_locks-S-Supplies g a = record {
   unread = a.blanks.unread.name;
   orders = a.blanks.orders.name;
   sources = a.blanks.sources.name;
+  call_backs = a.call_backs;
 }

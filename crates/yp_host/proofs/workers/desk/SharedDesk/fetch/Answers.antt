@@ -5,9 +5,8 @@ use Rattle.yp_board.specs.Catalogues.{name_view}
 use Rattle.yp_transfer.specs.HostTable.{HostList}
 use Rattle.yp_transfer.specs.Fetching.{wanted_of}
 use Rattle.yp_transfer.specs.Dialing.{FetchesFrom}
-use Rattle.yp_host.specs.workers.Uses.{Fetching}
 use Rattle.yp_host.specs.inside.workers.Uses.{dial_told}
-use Rattle.yp_host.proofs.workers.Using.{used_more}
+use Rattle.yp_host.proofs.workers.Using.{used_fetch}
 use Rattle.yp_host.proofs.workers.Reaching.{fetched_orders}
 use Rattle.yp_host.proofs.workers.Sourcing.{fetched_sources, fetched_versions}
 use Rattle.yp_host.proofs.workers.Noting.{all_noted}
@@ -38,8 +37,8 @@ invariant_of-self g c =
       all_noted g.S.Supplies.wires wanted old new c.self.inside.desk.hosts task.source.now
           c.self.inside.versions.total fetched c.self.inside.fetches c.note.new.fetches fetches
           c.self.invariant.4 c.self.invariant.5 c.note.ensures.added c.note.ensures.same,
-      used_more g.S.Supplies.hosts g.S.Site.catalogue.maps
-          (Fetching task.source.now (name_view task.name.now) task.shown fetched)
+      used_fetch g.S.Supplies.hosts g.S.Site.catalogue.maps task.source.now (name_view task.name.now) task.shown
+          fetched c.self.inside.call_backs.took
           (dial_told g.S.Supplies.wires g.S.Supplies.letters g.S.Supplies.dial_faults)
           (tells c.self.inside.desk.dial) (tells c.fetch_from-fetched.new.dial) c.self.invariant.6 (
             c.requires.served,
@@ -49,6 +48,9 @@ invariant_of-self g c =
                 (rw (← c.deref.ensures.value, ← c.deref-2.ensures.value) fetches),
             c.fetch_from-fetched.ensures.letters,
           ),
+      c.self.invariant.7,
+      c.self.invariant.8,
+      c.self.invariant.9,
     )
 
 pub returns-clause-aged : goal.returns-clause-aged
