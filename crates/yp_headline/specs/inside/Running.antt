@@ -92,8 +92,8 @@ CommandHolds seen (Serve own port workers connections turns stores hosts log) st
     was_hosted status ≡ true
     → (closed : List ClosedConnection) (inboxes : List Heard) (wires : List Connected)
     → (tell : AllTell seen old new door door' closed inboxes wires)
-    → ServerHolds (serve_world seen (serve_job_of own connections turns stores hosts log) old new tell.calls.coming wires)
-    (may_lose status) closed inboxes
+    → ServerHolds (serve_world seen (serve_job_of own connections turns stores hosts log) old new
+    tell.calls.coming wires) (may_lose status) closed inboxes
 CommandHolds seen _ status old new door door' = ⊤
 
 -- What `run` ensures of a command, in its clause `does`, is that.
