@@ -3,7 +3,7 @@
 ghost use Rattle.yp_io.specs.Inboxes.{MailIsWithin};
 
 use crate::caller::Caller;
-use crate::epoll::{tell_of, tell_turned};
+use crate::epoll::tell_turned;
 use crate::hall::{SocketCall, accept_one, lacks_descriptors, listen_at};
 use crate::places::{Limits, Places};
 use crate::watch::register;
@@ -98,7 +98,7 @@ impl Calls {
 
     /// How long the system may be waited for, up to this.
     pub(crate) fn patience(&mut self, now: Instant, most: Duration) -> Duration {
-        if self.door == Door::Open || self.places.has_again() {
+        if self.door == Door::Open || self.places.has_again() || self.places.has_lost() {
             return Duration::ZERO;
         }
         let most = match self.door {
@@ -108,19 +108,19 @@ impl Calls {
         self.places.until_late(now, &self.limits, most)
     }
 
-    /// Has the system tell of each for what is awaited of it.
+    /// Has the system tell of each for what is awaited of it. Of whom it can't tell is let go at the next turn.
     pub(crate) fn tell_turned(&mut self, poll: &Poll) {
         tell_turned(poll, &mut self.places);
     }
 
     /// Lets some of those in that wait.
-    pub(crate) fn let_in(&mut self, poll: &Poll, now: Instant) {
+    pub(crate) fn let_in(&mut self, now: Instant) {
         if self.door != Door::Open {
             return;
         }
         for _ in 0..TRIES {
             match accept_one(self.alloc, &self.listener) {
-                Ok(call) => self.enter(poll, call, now),
+                Ok(call) => self.enter(call, now),
                 Err(error) => match error.kind() {
                     ErrorKind::WouldBlock => {
                         self.door = Door::Watched;
@@ -138,22 +138,21 @@ impl Calls {
     }
 
     // Gives a caller a place. One for whom there is no memory is let go.
-    fn enter(&mut self, poll: &Poll, call: SocketCall, now: Instant) {
+    fn enter(&mut self, call: SocketCall, now: Instant) {
         let Called { origin, wire } = call;
         let Some(place) = self.free_place(now) else {
             return;
         };
-        let socket = wire.source.descriptor();
-        let Ok(number) = self.places.enter(place, socket, now) else {
+        if self
+            .places
+            .enter(place, wire.source.descriptor(), now)
+            .is_err()
+        {
             return;
-        };
-        let told = tell_of(poll, socket, Token(number), Awaited::Record);
-        match self.callers.get_mut(place as usize) {
-            Some(at) if told.is_ok() => {
-                *at = Some(Caller::new(self.alloc, origin.peer(), wire));
-                self.places.go_again(place);
-            }
-            _ => self.places.leave(place),
+        }
+        if let Some(at) = self.callers.get_mut(place as usize) {
+            *at = Some(Caller::new(self.alloc, origin.peer(), wire));
+            self.places.go_again(place);
         }
     }
 

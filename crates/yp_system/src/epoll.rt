@@ -46,16 +46,20 @@ pub(crate) fn tell_of(poll: &Poll, socket: RawFd, token: Token, what: Awaited) -
     }
 }
 
-/// Has it tell of each connection for what is awaited of it. Where that fails, the connection is let go once it is
-/// late.
+/// Has it tell of each connection for what is awaited of it. Of whom it can't tell at all is lost. Where it can't tell of
+/// one for something else, that connection is let go once it is late.
 pub(crate) fn tell_turned(poll: &Poll, places: &mut Places) {
     for _ in 0..u64::MAX {
         let Some(turned) = places.take_turned() else {
             return;
         };
-        let events = events_of(turned.what);
         let token = Token(turned.number);
-        let _ = control(poll, EPOLL_CTL_MOD, turned.socket, events, token);
+        if turned.is_told {
+            let events = events_of(turned.what);
+            let _ = control(poll, EPOLL_CTL_MOD, turned.socket, events, token);
+        } else if tell_of(poll, turned.socket, token, turned.what).is_err() {
+            places.lose(turned.place);
+        }
     }
 }
 

@@ -18,7 +18,7 @@ use std::io::ErrorKind;
 use std::net::{Ipv4Addr, Net, SocketAddr};
 use std::os::fd::AsRawFd;
 use std::sync::Arc;
-use std::sync::atomic::{AtomicBool, Ordering};
+use std::sync::atomic::{AtomicBool, AtomicU64, Ordering};
 use std::time::{Clock, Duration};
 use std::{io, thread};
 use yp_io::{
@@ -156,6 +156,7 @@ fn opened<'a, R: Net>(
             listener: listen_at(net, port)?,
             is_short: AtomicBool::new(false),
             is_held: AtomicBool::new(false),
+            free: AtomicU64::new(0),
             is_closed: AtomicBool::new(false),
         };
         *door = Some(shared(alloc, new)?);

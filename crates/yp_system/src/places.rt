@@ -31,12 +31,13 @@ impl Limits {
 // How many numbers places have.
 const PLACE_NUMBERS: usize = 1 << 32;
 
-// Who is at a place: which of all that were entered, by which socket, whether the system tells where that can be
-// written to, or else where it can be read from, what of it is awaited, and since when.
+// Who is at a place: which of all that were entered, by which socket, whether the system tells of it, and that where it
+// can be written to, or else where it can be read from, what of it is awaited, and since when.
 #[derive(Clone, Copy)]
 struct Entry {
     serial: u32,
     socket: RawFd,
+    is_told: bool,
     is_written: bool,
     what: Awaited,
     since: Instant,
@@ -53,14 +54,18 @@ pub struct Places {
     ready: Chain,
     again: Chain,
     turned: Chain,
+    lost: Chain,
     serial: u32,
 }
 
-/// A connection of which the system is to tell for something else: its socket, its number, and what is awaited of it.
+/// A connection of which the system is to tell for the first time, or for something else: its place, its socket, its
+/// number, whether the system tells of it yet, and what is awaited of it.
 #[derive(Clone, Copy)]
 pub struct Turned {
+    pub place: u32,
     pub socket: RawFd,
     pub number: usize,
+    pub is_told: bool,
     pub what: Awaited,
 }
 
@@ -75,6 +80,7 @@ impl Places {
             ready: Chain::new(alloc),
             again: Chain::new(alloc),
             turned: Chain::new(alloc),
+            lost: Chain::new(alloc),
             serial: 0,
         }
     }
@@ -86,6 +92,7 @@ impl Places {
         self.ready.make_room(place)?;
         self.again.make_room(place)?;
         self.turned.make_room(place)?;
+        self.lost.make_room(place)?;
         let wanted = (place as usize).saturating_add(1);
         if self.entries.len() < wanted {
             self.entries.resize(wanted, None)?;
@@ -93,23 +100,24 @@ impl Places {
         Ok(())
     }
 
-    /// Takes a place from now on, for who has this socket, and answers the number by which the system tells of it.
-    pub fn enter(&mut self, place: u32, socket: RawFd, now: Instant) -> Result<usize, AllocError> {
+    /// Takes a place from now on, for who has this socket. The system is to tell of it, unless that is ready before.
+    pub fn enter(&mut self, place: u32, socket: RawFd, now: Instant) -> Result<(), AllocError> {
         self.make_room(place)?;
         self.leave(place);
         self.serial = self.serial.wrapping_add(1);
-        let serial = self.serial;
         self.put(
             place,
             Entry {
-                serial,
+                serial: self.serial,
                 socket,
+                is_told: false,
                 is_written: is_written(Awaited::Record),
                 what: Awaited::Record,
                 since: now,
             },
         );
-        Ok(number_of(serial, place))
+        self.turned.append(place);
+        Ok(())
     }
 
     /// Lets a place go.
@@ -120,16 +128,17 @@ impl Places {
         self.ready.remove(place);
         self.again.remove(place);
         self.turned.remove(place);
+        self.lost.remove(place);
         if let Some(entry) = self.entries.get_mut(place as usize) {
             *entry = None;
         }
     }
 
-    /// The socket of who is at a place.
-    pub fn socket(&self, place: u32) -> Option<RawFd> {
+    /// The socket of who is at a place, where the system tells of it.
+    pub fn told_socket(&self, place: u32) -> Option<RawFd> {
         match self.at(place) {
-            Some(entry) => Some(entry.socket),
-            None => None,
+            Some(entry) if entry.is_told => Some(entry.socket),
+            _ => None,
         }
     }
 
@@ -179,23 +188,42 @@ impl Places {
     /// The system is to tell of who is at a place where this can go on, unless that is ready again before.
     pub fn turn(&mut self, place: u32, what: Awaited) {
         match self.at(place) {
-            Some(entry) if entry.is_written != is_written(what) => self.turned.append(place),
+            Some(entry) if !entry.is_told || entry.is_written != is_written(what) => {
+                self.turned.append(place)
+            }
             _ => self.turned.remove(place),
         }
     }
 
-    /// The next of whom the system is to tell for something else.
+    /// The next of whom the system is to tell for the first time, or for something else.
     pub fn take_turned(&mut self) -> Option<Turned> {
         let place = self.turned.take_first()?;
         let Some(Some(entry)) = self.entries.get_mut(place as usize) else {
             return None;
         };
-        entry.is_written = !entry.is_written;
+        let is_told = entry.is_told;
+        entry.is_told = true;
+        entry.is_written = is_written(entry.what);
         Some(Turned {
+            place,
             socket: entry.socket,
             number: number_of(entry.serial, place),
+            is_told,
             what: entry.what,
         })
+    }
+
+    /// The system can't tell of who is at a place, who is late then.
+    pub fn lose(&mut self, place: u32) {
+        if let Some(Some(entry)) = self.entries.get_mut(place as usize) {
+            entry.is_told = false;
+            self.lost.append(place);
+        }
+    }
+
+    /// Whether there is one of whom the system can't tell.
+    pub fn has_lost(&self) -> bool {
+        self.lost.first().is_some()
     }
 
     /// Who is at a place is ready again, behind all that are ready at the next turn.
@@ -261,9 +289,11 @@ impl Places {
         Some(place)
     }
 
-    /// One that is over its time. Its time begins anew.
+    /// One of whom the system can't tell, or that is over its time. Its time begins anew.
     pub fn late(&mut self, now: Instant, limits: &Limits) -> Option<u32> {
-        self.late_for(Awaited::Payment, now, limits)
+        self.lost
+            .take_first()
+            .or_else(|| self.late_for(Awaited::Payment, now, limits))
             .or_else(|| self.late_for(Awaited::Rest, now, limits))
             .or_else(|| self.late_for(Awaited::Record, now, limits))
     }

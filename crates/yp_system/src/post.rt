@@ -377,7 +377,7 @@ impl Post {
         }
         if let Some(calls) = &mut self.calls {
             calls.begin_turn(self.now);
-            calls.let_in(&self.poll, self.now);
+            calls.let_in(self.now);
         }
     }
 

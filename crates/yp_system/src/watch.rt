@@ -2,7 +2,7 @@
 
 ghost use Rattle.std.specs.Prelude.{◌≡◌, IfOk};
 
-use crate::epoll::{tell_no_more, tell_of, tell_of_callers, tell_turned};
+use crate::epoll::{tell_no_more, tell_of_callers, tell_turned};
 use crate::places::{Limits, Places};
 use crate::socket::SocketSource;
 use mio::net::TcpListener;
@@ -14,7 +14,7 @@ use std::io::ErrorKind;
 use std::net::Net;
 use std::os::fd::{AsRawFd, RawFd};
 use std::sync::Arc;
-use std::sync::atomic::{AtomicBool, Ordering};
+use std::sync::atomic::{AtomicBool, AtomicU64, Ordering};
 use std::thread::sleep;
 use std::time::{Clock, Duration, Instant};
 use yp_io::{Awaited, Failed, Notice, Wake, Watch, count_fault};
@@ -27,6 +27,8 @@ pub(crate) struct Door {
     pub is_short: AtomicBool,
     /// Whether the watch that isn't told of the door has connections.
     pub is_held: AtomicBool,
+    /// How many of the watches that are told of the door have no connection.
+    pub free: AtomicU64,
     /// Whether nobody is let in any more.
     pub is_closed: AtomicBool,
 }
@@ -47,6 +49,9 @@ const WAIT_MILLIS: u64 = 1000;
 // is also the pause behind a wait that fails.
 const PAUSE_MILLIS: u64 = 10;
 
+// How long a worker that has connections leaves who has come to one that has none, in milliseconds.
+const YIELD_MILLIS: u64 = 20;
+
 // What the door has come to.
 #[derive(Clone, Copy, PartialEq, Eq)]
 enum DoorState {
@@ -59,13 +64,15 @@ enum DoorState {
     Told,
     // As `Told`, but behind a pause.
     Pausing,
+    // As `Told`, but a moment after this one: who has nobody may let in who has come meanwhile.
+    Yielding { since: Instant },
 }
 
 /// What tells a worker which of its connections can go on, by epoll, and which are over their time. Connections are
 /// told ready in the order in which the system tells of them, each once in a turn, and one that enters is told at once.
 /// Then comes the door, so a busy worker is told of it less often. It is told first, behind each quiet wait, and again
 /// and again while somebody waits there. Of several watches that wait, the one is told of the door that has waited
-/// longest since somebody entered.
+/// longest since somebody entered. One that has connections leaves who comes to one that has none, for a moment.
 #[derive(Drop)]
 pub struct TcpWatch<R> {
     system: R,
@@ -76,6 +83,9 @@ pub struct TcpWatch<R> {
     // Whether it does, and whether anybody has entered since it was asked for that.
     is_told: bool,
     has_let_in: bool,
+    // Whether the door counts it among those that have nobody, and whether it has left who comes to these.
+    is_free: bool,
+    has_yielded: bool,
     poll: Poll,
     events: Events,
     places: Places,
@@ -134,10 +144,12 @@ impl<R: Net + Clock + Drop> TcpWatch<R> {
             return Err(ErrorKind::OutOfMemory.into());
         };
         let now = Instant::now(&system)?;
-        Ok(TcpWatch {
+        let mut watch = TcpWatch {
             system,
             is_told: is_at_door && door.is_some(),
             has_let_in: false,
+            is_free: false,
+            has_yielded: false,
             door,
             is_at_door,
             door_state: DoorState::Pending,
@@ -147,7 +159,39 @@ impl<R: Net + Clock + Drop> TcpWatch<R> {
             limits,
             now,
             let_go: 0,
-        })
+        };
+        watch.count_free();
+        Ok(watch)
+    }
+
+    // Has the door count it where it has nobody, if it is told of the door.
+    fn count_free(&mut self)
+        ensures let_go { self.new.let_go ≡ self.old.let_go }
+    {
+        let is_free = self.is_at_door && self.places.is_empty();
+        if let Some(door) = &self.door
+            && is_free != self.is_free
+        {
+            if is_free {
+                door.free.fetch_add(1, Ordering::SeqCst);
+            } else {
+                door.free.fetch_sub(1, Ordering::SeqCst);
+            }
+            self.is_free = is_free;
+        }
+    }
+
+    // Whether it leaves who has come to one who has nobody: once, while it has connections itself.
+    fn yields(&self) -> bool {
+        !self.is_free && !self.has_yielded && self.is_any_free()
+    }
+
+    // Whether a watch at the door has nobody.
+    fn is_any_free(&self) -> bool {
+        match &self.door {
+            Some(door) => door.free.load(Ordering::SeqCst) > 0,
+            None => false,
+        }
     }
 
     // The time by the clock, or by its last reading.
@@ -203,8 +247,11 @@ impl<R: Net + Clock + Drop> TcpWatch<R> {
         }
     }
 
-    // Tells the watches at the door whether it has connections, where it isn't told of the door itself.
-    fn tell_held(&self) {
+    // Tells the watches at the door whether it has connections.
+    fn tell_held(&mut self)
+        ensures let_go { self.new.let_go ≡ self.old.let_go }
+    {
+        self.count_free();
         if let Some(door) = &self.door
             && !self.is_at_door
         {
@@ -251,11 +298,12 @@ impl<R: Net + Clock + Drop> TcpWatch<R> {
     fn patience(&mut self) -> Duration
         ensures let_go { self.new.let_go ≡ self.old.let_go }
     {
-        if self.places.has_again() {
+        if self.places.has_again() || self.places.has_lost() {
             return Duration::ZERO;
         }
         let most = match self.door_state {
             DoorState::Pausing => Duration::from_millis(PAUSE_MILLIS),
+            DoorState::Yielding { .. } => Duration::from_millis(1),
             _ => Duration::from_millis(WAIT_MILLIS),
         };
         self.places.until_late(self.now, &self.limits, most)
@@ -305,24 +353,53 @@ impl<R: Net + Clock + Drop> TcpWatch<R> {
     fn take_events(&mut self)
         ensures let_go { self.new.let_go ≡ self.old.let_go }
     {
+        let mut has_come = false;
         for event in &self.events {
             match event.token() {
-                DOOR | WOKEN => self.door_state = DoorState::Pending,
+                DOOR => has_come = true,
+                WOKEN => self.door_state = DoorState::Pending,
                 Token(number) => self.places.mark_ready(number),
             }
         }
         self.places.begin_turn();
+        if has_come {
+            self.hear_of_door();
+        } else if self.door_state == DoorState::Watched {
+            self.has_yielded = false;
+        }
+    }
+
+    // Whether the moment is over for which it leaves who comes to others, since this one.
+    fn has_yielded_since(&self, since: Instant) -> bool {
+        !self.is_any_free()
+            || self.now.saturating_duration_since(since) >= Duration::from_millis(YIELD_MILLIS)
+    }
+
+    // Somebody has come to the door: its worker is to be told, unless it leaves that to one who has nobody.
+    fn hear_of_door(&mut self)
+        ensures let_go { self.new.let_go ≡ self.old.let_go }
+    {
+        if self.yields() {
+            let since = self.time();
+            self.door_state = DoorState::Yielding { since };
+            self.has_yielded = true;
+        } else {
+            self.door_state = DoorState::Pending;
+            self.has_yielded = false;
+        }
     }
 
     // Waits until the system tells anything, or time is up.
     fn wait(&mut self)
         ensures let_go { self.new.let_go ≡ self.old.let_go }
     {
-        let patience = self.patience();
         tell_turned(&self.poll, &mut self.places);
+        let patience = self.patience();
         match self.door_state {
             DoorState::Told => self.stand_at_door(),
             DoorState::Pausing => self.leave_door(),
+            DoorState::Yielding { since } if self.has_yielded_since(since) => self.stand_at_door(),
+            DoorState::Yielding { .. } => self.leave_door(),
             _ => {}
         }
         if self.poll.poll(&mut self.events, Some(patience)).is_err() {
@@ -372,24 +449,18 @@ impl<R: Net + Clock + Drop> Watch for TcpWatch<R> {
         }
     }
 
-    /// It fails where memory has run out, or the system can't watch so many.
+    /// It fails where memory has run out. The system is told of it once the worker waits: one of whom it can't tell is
+    /// late then.
     fn enter(&mut self, place: u32, source: &SocketSource) -> Result<(), Failed> {
         let now = self.time();
-        let socket = source.descriptor();
-        let Ok(number) = self.places.enter(place, socket, now) else {
-            return Err(count_fault(&mut self.let_go));
-        };
-        match tell_of(&self.poll, socket, Token(number), Awaited::Record) {
+        match self.places.enter(place, source.descriptor(), now) {
             Ok(()) => {
                 self.has_let_in = true;
                 self.places.go_at_once(place);
                 self.tell_held();
                 Ok(())
             }
-            Err(_) => {
-                self.places.leave(place);
-                Err(count_fault(&mut self.let_go))
-            }
+            Err(_) => Err(count_fault(&mut self.let_go)),
         }
     }
 
@@ -407,7 +478,7 @@ impl<R: Net + Clock + Drop> Watch for TcpWatch<R> {
 
     /// The system tells nothing more of it here, so it can be watched elsewhere.
     fn leave(&mut self, place: u32) {
-        if let Some(socket) = self.places.socket(place) {
+        if let Some(socket) = self.places.told_socket(place) {
             // One that was closed meanwhile isn't watched any more.
             let _ = tell_no_more(&self.poll, socket);
         }
