@@ -10,28 +10,27 @@ use Rattle.yp_texts.specs.After.{Material, HasFault, basis_of, other_master, las
 use Rattle.yp_publisher.specs.declared.install.Origin.TheVariants.{Built}
 use Rattle.yp_publisher.specs.Installs.{offer, not_following}
 use Rattle.yp_publisher.specs.Standing.{StoredMap, OfMap}
-use Rattle.yp_answer.specs.Causes.{OfText, MaterialIsTold, is_of_another, HasBadLine}
+use Rattle.yp_answer.specs.Causes.{Told, OfText, MaterialIsTold, is_of_another, HasBadLine}
 use Rattle.yp_answer.specs.inside.Causes.{build_stat}
-use Rattle.yp_host.specs.Locals.{Telling}
 use Rattle.yp_host.specs.Anew.{IsUnbuilt}
 use Rattle.yp_host.specs.inside.Anew.{task_from}
 
 -- ---- why a version isn't built
 
-module _ {E : Type 0} (telling : Telling E) (reading : Reading) (name own : List ℕ) (last : Option MapVersion) (material : Material) (old new : E)
-    (same : other_master own last ≡ None) (told : MaterialIsTold (telling.told old) name material) where
+module _ (told : Told) (faults faults' : ℕ) (reading : Reading) (name own : List ℕ) (last : Option MapVersion) (material : Material)
+    (same : other_master own last ≡ None) (of_told : MaterialIsTold told name material) where
   abbrev Unbuilt : XfrStat → Type 0
-  Unbuilt stat = IsUnbuilt telling (task_from (OfText reading name) own last) stat old new
+  Unbuilt stat = IsUnbuilt told faults faults' (task_from (OfText reading name) own last) stat
 
   of_own : is_of_another (task_from (OfText reading name) own last) ≡ false
   of_own = ap (λ (o : Option (List ℕ)). is_some o) same
 
   line : (f : BuildFault) → (f ≡ fault.NoMemory → ⊥) → (f ≡ fault.OrderSpent → ⊥)
       → (f ≡ fault.NoMemory) ⊎ (built_after (basis_of reading own None last) material ≡ Err (HasFault f))
-      → HasBadLine (telling.told old) reading name own last
+      → HasBadLine told reading name own last
   line f memory spent cause = elim cause [
     | inl e ↦ absurd (memory e)
-    | inr e ↦ record { material = material; of_told = told; fault = f; of_row = spent; cause = e }
+    | inr e ↦ record { material = material; of_told = of_told; fault = f; of_row = spent; cause = e }
   ]
 
   pub unbuilt : (f : BuildFault) → (f ≡ fault.NoMemory) ⊎ (built_after (basis_of reading own None last) material ≡ Err (HasFault f))

@@ -87,7 +87,7 @@ module _ {D B E : Type 0} (keeping : Keeping D B) (telling : Telling E) (job : M
       }
 
   unbuilt : job.map < length old.published.maps → (stat : XfrStat) (middle : Published D B) → Opens keeping job.map old.published middle → new.published ≡ middle
-      → IsUnbuilt telling (task_on keeping job middle) stat old.desk new.desk → Caused stat
+      → IsUnbuilt (telling.told old.desk) (telling.faults old.desk) (telling.faults new.desk) (task_on keeping job middle) stat → Caused stat
   unbuilt kept Refused middle opens same none =
       let log = keeping.log middle.board in
       let master = of_old (λ k. (master : List ℕ) × (other_master k.own (shown job.map log) ≡ Some master)) middle opens

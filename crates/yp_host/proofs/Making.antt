@@ -23,7 +23,8 @@ module _ {T D B E : Type 0} (keeping : Keeping D B) (telling : Telling E) (job :
   at_err (Err other) stat P same h = subst P (sym same) h
 
   -- no version was built of it
-  pub none_built : (stat : XfrStat) → IsErrAnd r (λ other. other ≡ stat) → IsUnbuilt telling (task_on keeping job inside.published) stat inside.desk new.desk
+  pub none_built : (stat : XfrStat) → IsErrAnd r (λ other. other ≡ stat)
+      → IsUnbuilt (telling.told inside.desk) (telling.faults inside.desk) (telling.faults new.desk) (task_on keeping job inside.published) stat
       → new.published ≡ inside.published → IfErr r (TriesFrom old)
   none_built stat same none stays = at_err r stat (TriesFrom old) same (subst (λ (o : Local D B E). TriesFrom o stat) is (inl (none, stays)))
 

@@ -28,8 +28,12 @@ pub record Telling (E : Type 0) : Type 0 where
   pub hosts : E → HostList
   pub dial : E → DialTells
 
+-- what texts and a clock tell
+abbrev pub told_of : {T C : Type 0} → texts.Ghosts T → clock.Ghosts C → T → C → Told
+told_of texts clock the_texts the_clock = record { text = texts.text the_texts; moment = clock.moment the_clock }
+
 abbrev pub told_by : {A T C : Type 0} → texts.Ghosts T → clock.Ghosts C → Desk A T C → Told
-told_by texts clock desk = record { text = texts.text desk.texts; moment = clock.moment desk.clock }
+told_by texts clock desk = told_of texts clock desk.texts desk.clock
 
 abbrev pub telling_of : {A T C : Type 0} → texts.Ghosts T → clock.Ghosts C → (A → Option Wires)
     → (A → Option (List Sending)) → (A → ℕ) → Telling (Desk A T C)

@@ -65,7 +65,8 @@ task_on keeping job published = task_at published.catalogue job (keeping.log pub
 abbrev pub Tries : {D B E : Type 0} → Keeping D B → Telling E → MakeJob → XfrStat → Local D B E → Local D B E
     → Type 0
 Tries keeping telling job stat old new =
-    (IsUnbuilt telling (task_on keeping job old.published) stat old.desk new.desk × (new.published ≡ old.published))
+    (IsUnbuilt (telling.told old.desk) (telling.faults old.desk) (telling.faults new.desk)
+    (task_on keeping job old.published) stat × (new.published ≡ old.published))
     ⊎ ((version : MapVersion) × IsAnew (telling.told old.desk) (task_on keeping job old.published) version
     × OffersBuilt keeping job.map version stat old.published new.published)
 

@@ -1,25 +1,23 @@
 //! A version that is made anew for a map.
 
-ghost use Rattle.std.specs.Prelude.{◌≡◌, ◌⊎◌, ◌<◌, ◌≤◌, ℕ, false, List, None, Some, length, option_map, IfSome, IfOk};
-ghost use Rattle.std.specs.Prelude.{IfErr};
+ghost use Rattle.std.specs.Prelude.{◌≡◌, ◌⊎◌, ◌<◌, ◌≤◌, ℕ, false, List, Option, None, Some, length, option_map, IfSome};
+ghost use Rattle.std.specs.Prelude.{IfOk, IfErr};
 ghost use Rattle.yp_io.specs.Counts.{HasRisen};
 ghost use Rattle.yp_io.specs.Texts.{text_max};
 ghost use Rattle.yp_texts.specs.After.{other_master, was_secure};
 ghost use Rattle.yp_publisher.specs.declared.install.Origin.TheVariants.{Built};
 ghost use Rattle.yp_publisher.specs.Installs.{offer, not_following};
-ghost use Rattle.yp_host.specs.Locals.{told_by, IsUsed, LeavesDial};
-ghost use Rattle.yp_host.specs.inside.Locals.{telling_by};
+ghost use Rattle.yp_host.specs.Locals.{told_of};
 ghost use Rattle.yp_answer.specs.Causes.{OfText, OfNetgroups, IsAnew};
 ghost use Rattle.yp_answer.specs.inside.Causes.{build_stat};
 ghost use Rattle.yp_host.specs.Anew.{IsUnbuilt};
 ghost use Rattle.yp_host.specs.inside.Anew.{task_from, task_view, netgroups_in, shown_in};
 
-use crate::desk::Desk;
 use std::alloc::Global;
 use std::random::RandomSource;
 use yp_answer::{MakeJob, Making};
 use yp_board::Catalog;
-use yp_io::{Clock, Dial, TextFault, Texts};
+use yp_io::{Clock, TextFault, Texts};
 use yp_messages::XfrStat;
 use yp_netgroup::reverse::{Field, RevFault, reverse};
 use yp_texts::{AfterFault, BuildFault, Reading, build_after, next_order, other_master};
@@ -41,20 +39,22 @@ pub struct BuildTask<'a> {
 ///
 /// A map with another master is REFUSED, a text that isn't read is FILE, netgroups that aren't shown are NOMAP, an
 /// order that is spent AGE, and a row that passes a limit DBM. Want of memory is RSRC.
-pub fn build_anew<A: Dial, T: Texts, C: Clock>(
+pub fn build_anew<T: Texts, C: Clock>(
     alloc: Global,
     rt: &impl RandomSource,
-    desk: &mut Desk<A, T, C>,
+    texts: &mut T,
+    clock: &mut C,
     task: &BuildTask<'_>,
 ) -> Result<Version, XfrStat>
     requires { task.now.job.map < length task.now.catalog.now.maps }
-    ensures anew { IfOk result (IsAnew (told_by T.Texts C.Clock desk.old) (task_view task.now)) }
+    ensures anew { IfOk result (IsAnew (told_of T.Texts C.Clock texts.old clock.old) (task_view task.now)) }
     ensures follows { IfOk result (λ version. not_following task.now.catalog.now.own (offer version Built false)
         (shown_in task.now) ≡ None) }
-    ensures unbuilt { IfErr result (λ stat. IsUnbuilt (telling_by T.Texts C.Clock A.Dial) (task_view task.now) stat
-        desk.old desk.new) }
-    ensures desk { IsUsed (telling_by T.Texts C.Clock A.Dial) desk.old desk.new }
-    ensures dial { LeavesDial (telling_by T.Texts C.Clock A.Dial) desk.old desk.new }
+    ensures unbuilt { IfErr result (IsUnbuilt (told_of T.Texts C.Clock texts.old clock.old)
+        (T.faults texts.old) (T.faults texts.new) (task_view task.now)) }
+    ensures texts { (file : List ℕ) → T.text texts.new file ≡ T.text texts.old file }
+    ensures clock { C.moment clock.new ≡ C.moment clock.old }
+    ensures never_falls { T.faults texts.old ≤ T.faults texts.new }
 {
     if other_master(task.catalog.own(), task.shown).is_some() {
         return Err(XfrStat::Refused);
@@ -62,33 +62,36 @@ pub fn build_anew<A: Dial, T: Texts, C: Clock>(
     match task.job.making {
         Making::Text(reading) => {
             let name = reading.source(&task.catalog.name(task.job.map).map);
-            build_of_text(alloc, rt, desk, task, reading, name)
+            build_of_text(alloc, rt, texts, clock, task, reading, name)
         }
-        Making::Netgroups(field) => build_of_netgroups(alloc, rt, desk, task, field),
+        Making::Netgroups(field) => build_of_netgroups(alloc, rt, clock, task, field),
     }
 }
 
 /// Builds a version of the text with a name, behind one that has no other master.
-fn build_of_text<A: Dial, T: Texts, C: Clock>(
+fn build_of_text<T: Texts, C: Clock>(
     alloc: Global,
     rt: &impl RandomSource,
-    desk: &mut Desk<A, T, C>,
+    texts: &mut T,
+    clock: &mut C,
     task: &BuildTask<'_>,
     reading: Reading,
     name: &[u8],
 ) -> Result<Version, XfrStat>
     requires same { other_master task.now.catalog.now.own (shown_in task.now) ≡ None }
-    ensures anew { IfOk result (IsAnew (told_by T.Texts C.Clock desk.old)
+    ensures anew { IfOk result (IsAnew (told_of T.Texts C.Clock texts.old clock.old)
         (task_from (OfText reading name.now) task.now.catalog.now.own (shown_in task.now))) }
     ensures follows { IfOk result (λ version. not_following task.now.catalog.now.own (offer version Built false)
         (shown_in task.now) ≡ None) }
-    ensures unbuilt { IfErr result (λ stat. IsUnbuilt (telling_by T.Texts C.Clock A.Dial)
-        (task_from (OfText reading name.now) task.now.catalog.now.own (shown_in task.now)) stat desk.old desk.new) }
-    ensures desk { IsUsed (telling_by T.Texts C.Clock A.Dial) desk.old desk.new }
-    ensures dial { LeavesDial (telling_by T.Texts C.Clock A.Dial) desk.old desk.new }
+    ensures unbuilt { IfErr result (IsUnbuilt (told_of T.Texts C.Clock texts.old clock.old)
+        (T.faults texts.old) (T.faults texts.new)
+        (task_from (OfText reading name.now) task.now.catalog.now.own (shown_in task.now))) }
+    ensures texts { (file : List ℕ) → T.text texts.new file ≡ T.text texts.old file }
+    ensures clock { C.moment clock.new ≡ C.moment clock.old }
+    ensures never_falls { T.faults texts.old ≤ T.faults texts.new }
 {
-    let text = read_text(alloc, &mut desk.texts, name)?;
-    let now = desk.clock.now();
+    let text = read_text(alloc, texts, name)?;
+    let now = clock.now();
     let own = task.catalog.own();
     match build_after(alloc, rt, reading, text, task.shown, None, now, own) {
         Ok(version) => Ok(version),
@@ -97,29 +100,30 @@ fn build_of_text<A: Dial, T: Texts, C: Clock>(
     }
 }
 
-/// Makes the reverse of netgroups, where they are shown, behind a version that has no other master. No text is read.
-fn build_of_netgroups<A: Dial, T: Texts, C: Clock>(
+/// Makes the reverse of netgroups, where they are shown, behind a version that has no other master. No text is read,
+/// so it is so whatever texts are told and however often they failed.
+fn build_of_netgroups<C: Clock>(
     alloc: Global,
     rt: &impl RandomSource,
-    desk: &mut Desk<A, T, C>,
+    clock: &mut C,
     task: &BuildTask<'_>,
     field: Field,
 ) -> Result<Version, XfrStat>
     requires same { other_master task.now.catalog.now.own (shown_in task.now) ≡ None }
-    ensures anew { IfOk result (IsAnew (told_by T.Texts C.Clock desk.old)
+    ensures anew { (text : List ℕ → Option (List ℕ)) → IfOk result (IsAnew
+        (record { text = text; moment = C.moment clock.old })
         (task_from (OfNetgroups field (netgroups_in task.now)) task.now.catalog.now.own (shown_in task.now))) }
     ensures follows { IfOk result (λ version. not_following task.now.catalog.now.own (offer version Built false)
         (shown_in task.now) ≡ None) }
-    ensures unbuilt { IfErr result (λ stat. IsUnbuilt (telling_by T.Texts C.Clock A.Dial)
-        (task_from (OfNetgroups field (netgroups_in task.now)) task.now.catalog.now.own (shown_in task.now)) stat
-        desk.old desk.new) }
-    ensures desk { IsUsed (telling_by T.Texts C.Clock A.Dial) desk.old desk.new }
-    ensures dial { LeavesDial (telling_by T.Texts C.Clock A.Dial) desk.old desk.new }
+    ensures unbuilt { (text : List ℕ → Option (List ℕ)) (faults : ℕ) → IfErr result (IsUnbuilt
+        (record { text = text; moment = C.moment clock.old }) faults faults
+        (task_from (OfNetgroups field (netgroups_in task.now)) task.now.catalog.now.own (shown_in task.now))) }
+    ensures clock { C.moment clock.new ≡ C.moment clock.old }
 {
     let Some(netgroups) = task.netgroups else {
         return Err(XfrStat::Nomap);
     };
-    let now = desk.clock.now();
+    let now = clock.now();
     let last = task.shown.map(|version: &Version| version.order());
     let Ok(order) = next_order(last, now) else {
         return Err(XfrStat::Age);

@@ -168,8 +168,9 @@ fn build_for<D: Disk, B: Show, A: Dial, T: Texts, C: Clock>(
         (task_on (keeping_of D.history D.faults B.log) job publisher.now)) }
     ensures follows { IfOk result (λ version. OfMap job.map publisher.now.maps (λ kept.
         not_following publisher.now.catalogue.own (offer version Built false) kept.version ≡ None)) }
-    ensures unbuilt { IfErr result (λ stat. IsUnbuilt (telling_by T.Texts C.Clock A.Dial)
-        (task_on (keeping_of D.history D.faults B.log) job publisher.now) stat desk.old desk.new) }
+    ensures unbuilt { IfErr result (IsUnbuilt (told_by T.Texts C.Clock desk.old)
+        (T.faults desk.old.texts) (T.faults desk.new.texts)
+        (task_on (keeping_of D.history D.faults B.log) job publisher.now)) }
     ensures desk { IsUsed (telling_by T.Texts C.Clock A.Dial) desk.old desk.new }
     ensures dial { LeavesDial (telling_by T.Texts C.Clock A.Dial) desk.old desk.new }
 {
@@ -181,7 +182,7 @@ fn build_for<D: Disk, B: Show, A: Dial, T: Texts, C: Clock>(
         netgroups,
         shown,
     };
-    build_anew(alloc, rt, desk, &task)
+    build_anew(alloc, rt, &mut desk.texts, &mut desk.clock, &task)
 }
 
 /// The version that is shown of the netgroups in the domain of a map.

@@ -1,7 +1,9 @@
 //! The host of a worker, which shares its maps and its desk with the workers of other threads.
 //!
-//! What a worker knows is what its own reader knows. It makes and fetches maps under two locks: that of the desk, which
-//! is taken first, and that of the publisher. A fetch holds the desk's alone. That a map which was made is known, last
+//! What a worker knows is what its own reader knows. It makes maps under two locks: that of the texts, which is taken
+//! first, and that of the publisher. It fetches them, and tells callers, under that of the dial alone, and installs
+//! what it fetched under the publisher's alone: however long a source or a caller takes, no make of another worker
+//! waits for it. No look-up takes the lock of the texts or that of the dial. That a map which was made is known, last
 //! of all, behind all that the worker knew, and each other status by its cause, stands on [`WorkerHost`] as a
 //! [`Host`](yp_answer::session::Host): the relation `made` of its `make`. What a transfer came to stands on the
 //! relation `carried` of its `transfer`.
@@ -11,27 +13,31 @@
 //! many wires begin with one, and how many had a source that failed is at most what the dial's count of faults rose by,
 //! with the wires that give no version. How many versions were fetched is at most how many wires give one, and how many
 //! makes ended in SUCC is at most how many built versions were shown. Each is charged under the lock where it came
-//! about, and that stands on [`Account::into_parts`], on [`SharedDesk::close`] and on
+//! about, and that stands on [`Account::into_parts`], on [`SharedTexts::close`], on [`SharedDial::close`] and on
 //! [`Locked::close`](yp_publisher::sharing::Locked::close).
 //!
 //! Whom the shared dial told what: a host that carried a transfer out leaves its caller and its status in a queue, and
-//! whoever has the desk next tells all that wait. That each status is the one that the transfer came to stands on the
-//! relation `carried`, too, and that what was told is what hosts left, each as often, on [`SharedDesk::close`].
+//! whoever has the dial next tells all that wait. That each status is the one that the transfer came to stands on the
+//! relation `carried`, too, and that what was told is what hosts left, each as often, on [`SharedDial::close`].
 
 mod call_backs;
 mod carrying;
 mod charges;
-mod desk;
+mod dial;
 mod host;
 mod journal;
 mod making;
 mod outcome;
 mod setting;
+mod supplies;
+mod texts;
 
 pub use call_backs::{CallBack, CallBackPass, PendingCallBacks};
 pub use charges::{Account, Charges, Counted};
-pub use desk::{FailedSources, ReachedOrders, SharedDesk, Supplies, UnreadTexts};
+pub use dial::{Dialer, SharedDial};
 pub use host::WorkerHost;
 pub use journal::{Event, Events, Journal};
 pub use outcome::{Group, Outcomes, Totals};
 pub use setting::WorkerSetting;
+pub use supplies::{FailedSources, ReachedOrders, Supplies, UnreadTexts};
+pub use texts::{Materials, SharedTexts};

@@ -49,12 +49,13 @@ use Rattle.yp_worker.specs.contracts.datagrams.server.MailServer as MailServer
 use Rattle.yp_worker.specs.contracts.datagrams.carrier.TransferCarrier as TransferCarrier
 use Rattle.yp_host.specs.contracts.workers.call_backs.PendingCallBacks as PendingCallBacks
 use Rattle.yp_host.specs.contracts.workers.call_backs.CallBackPass as CallBackPass
-use Rattle.yp_host.specs.declared.workers.desk.Supplies as supplies
+use Rattle.yp_host.specs.declared.workers.supplies.Supplies as supplies
 use Rattle.yp_host.specs.contracts.workers.charges.Account as Account
 use Rattle.yp_host.specs.contracts.workers.charges.Charges as Charges
-use Rattle.yp_host.specs.contracts.workers.desk.SharedDesk as SharedDesk
+use Rattle.yp_host.specs.contracts.workers.dial.SharedDial as SharedDial
 use Rattle.yp_host.specs.contracts.workers.host.WorkerHost as WorkerHost
 use Rattle.yp_host.specs.contracts.workers.journal.Journal as Journal
+use Rattle.yp_host.specs.contracts.workers.texts.SharedTexts as SharedTexts
 use Rattle.yp_server.specs.contracts.datagrams.DatagramWorker as DatagramWorker
 use Rattle.yp_server.specs.contracts.workers.ConnectionWorker as ConnectionWorker
 use Rattle.yp_server.specs.contracts.workers.ServerWorker as ServerWorker
@@ -174,11 +175,16 @@ pub account_send : (I B Reader Front Knowledge : RattleType) (accounted : accoun
 account_send I B Reader Front Knowledge accounted supplied tells shows views j front =
     search (sendable, crosses, charges_send) depth 60 fits 50000
 
-desk_send : (I A T C In Out : RattleType) (sites : site.Ghosts I.Denot) (accounted : accounts.Ghosts I.Denot)
+texts_send : (I T C : RattleType) (accounted : accounts.Ghosts I.Denot) (supplied : supplies.Ghosts I.Denot)
+    (reads : texts.Ghosts T.Denot) (clocks : clock.Ghosts C.Denot) → IsSend I → IsSend T → IsSend C
+    → IsSend (SharedTexts.the_row I T C accounted supplied reads clocks)
+texts_send I T C accounted supplied reads clocks j t c = search (sendable, crosses, book_send) depth 60 fits 50000
+
+dial_send : (I A In Out : RattleType) (sites : site.Ghosts I.Denot) (accounted : accounts.Ghosts I.Denot)
     (supplied : supplies.Ghosts I.Denot) (dials : dial.Ghosts A.Denot In.Denot Out.Denot) (sources : source.Ghosts In.Denot)
-    (sinks : sink.Ghosts Out.Denot) (reads : texts.Ghosts T.Denot) (clocks : clock.Ghosts C.Denot) → IsSend I → IsSend A → IsSend T
-    → IsSend C → IsSend (SharedDesk.the_row I A T C In Out sites accounted supplied dials sources sinks reads clocks)
-desk_send I A T C In Out sites accounted supplied dials sources sinks reads clocks j a t c =
+    (sinks : sink.Ghosts Out.Denot) → IsSend I → IsSend A
+    → IsSend (SharedDial.the_row I A In Out sites accounted supplied dials sources sinks)
+dial_send I A In Out sites accounted supplied dials sources sinks j a =
     search (sendable, crosses, book_send, history_send, call_back_pass_send) depth 60 fits 50000
 
 locked_send : (I D B : RattleType) (sites : site.Ghosts I.Denot) (accounted : accounts.Ghosts I.Denot)
@@ -200,4 +206,4 @@ pub host_send : (a : NamedLft) (I D B A T C R Reader Front Knowledge In Out : Ra
     dials sources sinks reads clocks)
 host_send a I D B A T C R Reader Front Knowledge In Out sites accounted supplied disks tells shows views dials sources sinks reads clocks
     j d b h t c r reader =
-    search (sendable, crosses, locked_send, desk_send, call_backs_sync, journal_send, charges_send) depth 60 fits 50000
+    search (sendable, crosses, locked_send, texts_send, dial_send, call_backs_sync, journal_send, charges_send) depth 60 fits 50000

@@ -1,4 +1,4 @@
-//! The two locks under which workers share what they are lent.
+//! The three locks under which workers share what they are lent.
 
 ghost use Rattle.std.specs.Prelude.{◌≡◌, ◌+◌, ◌-◌, ◌^◌, ◌<◌, ◌≤◌, [], map};
 ghost use Rattle.yp_worker.specs.inside.Queues.{all_parts};
@@ -27,8 +27,8 @@ use std::sync::{Mutex, Wait};
 use yp_board::Tell;
 use yp_host::Desk;
 use yp_host::workers::{
-    Account, CallBackPass, Charges, FailedSources, PendingCallBacks, ReachedOrders, SharedDesk,
-    Supplies, Totals, UnreadTexts,
+    Account, CallBackPass, Charges, Dialer, FailedSources, Materials, PendingCallBacks,
+    ReachedOrders, SharedDial, SharedTexts, Supplies, Totals, UnreadTexts,
 };
 use yp_io::{Clock, Dial, Disk, Texts};
 use yp_publisher::Publisher;
@@ -110,35 +110,35 @@ impl ChargeBlanks {
     }
 }
 
-/// The parts of a queue of call backs: those of a desk, where callers are told, and those of the workers, who leave
-/// them there.
+/// The parts of a queue of call backs: those that lie with the dial, by which callers are told, and those of the
+/// workers, who leave them there.
 #[derive(Drop)]
 pub(crate) struct CallBackParts {
-    pub(crate) desk: CallBackPass,
+    pub(crate) dial: CallBackPass,
     pub(crate) workers: CallBackPass,
 }
 
 impl CallBackParts {
-    /// As many parts for workers as the shares of a site have, and all others for its desk.
+    /// As many parts for workers as the shares of a site have, and all others for its dial.
     pub(crate) fn split<S: Accounts>(
         call_backs: &PendingCallBacks,
         mut pass: CallBackPass,
     ) -> CallBackParts
         requires all { pass ≡ holds_none call_backs.now all_parts }
         requires some { (0 < S.shares) × (S.shares < all_parts) }
-        ensures desk { result.desk ≡ holds_none call_backs.now result.desk.parts }
-        ensures parts { result.desk.parts + S.shares ≡ all_parts }
+        ensures dial { result.dial ≡ holds_none call_backs.now result.dial.parts }
+        ensures parts { result.dial.parts + S.shares ≡ all_parts }
         ensures workers { result.workers ≡ holds_none call_backs.now S.shares }
     {
         let workers = call_backs.split_shares::<S>(&mut pass);
         CallBackParts {
-            desk: pass,
+            dial: pass,
             workers,
         }
     }
 }
 
-/// The locks of the publisher and of the desk, and what all workers are charged by.
+/// The locks of the publisher, of the texts and of the dial, and what all workers are charged by.
 pub(crate) fn lock_up<S, D, B, A, T, C>(
     publisher: Publisher<D, B>,
     desk: Desk<A, T, C>,
@@ -147,7 +147,8 @@ pub(crate) fn lock_up<S, D, B, A, T, C>(
     call_backs: CallBackParts,
 ) -> (
     Mutex<Locked<S, D, B>>,
-    Mutex<SharedDesk<S, A, T, C>>,
+    Mutex<SharedTexts<S, T, C>>,
+    Mutex<SharedDial<S, A>>,
     Charges<S>,
 )
 where
@@ -172,11 +173,11 @@ where
     requires made { (blanks.made.name ≡ S.made) × (blanks.made.parts ≡ S.shares) }
     requires versions { (blanks.versions.name ≡ S.versions) × (blanks.versions.parts ≡ S.shares + 1) }
     requires fetches { fetches ≡ [] }
-    requires tells { (call_backs.desk ≡ holds_none S.call_backs call_backs.desk.parts)
-        × (call_backs.desk.parts + S.shares ≡ all_parts) }
+    requires tells { (call_backs.dial ≡ holds_none S.call_backs call_backs.dial.parts)
+        × (call_backs.dial.parts + S.shares ≡ all_parts) }
     requires leaves { call_backs.workers ≡ holds_none S.call_backs S.shares }
     requires some { 0 < S.shares }
-    ensures charges { result.2 ≡ free_of_charge S.shares }
+    ensures charges { result.3 ≡ free_of_charge S.shares }
 {
     let (fetched, mut own) = blanks.versions.open::<FetchedVersions<S>>();
     let installed = own.split_off(1, 0);
@@ -188,7 +189,7 @@ where
         own,
         fetches.front().again(),
     );
-    let (desk, charges) = lock_desk(
+    let (texts, dial, charges) = lock_desk(
         desk,
         blanks.unread,
         blanks.orders,
@@ -198,7 +199,7 @@ where
         debits,
         call_backs,
     );
-    (publisher, desk, charges)
+    (publisher, texts, dial, charges)
 }
 
 /// The lock of the publisher, with what stands for the fetched versions that are installed, none yet, and what all
@@ -231,7 +232,7 @@ fn lock_publisher<S: Site + Accounts, D: Disk, B: Tell>(
     )
 }
 
-/// The lock of the desk, and what all workers are charged by.
+/// The locks of the texts and of the dial of a desk, and what all workers are charged by.
 fn lock_desk<S: Site + Accounts + Supplies, A: Dial, T: Texts, C: Clock>(
     desk: Desk<A, T, C>,
     unread: Blank,
@@ -241,7 +242,11 @@ fn lock_desk<S: Site + Accounts + Supplies, A: Dial, T: Texts, C: Clock>(
     fetches: Fetches<S>,
     debits: Debits<S>,
     call_backs: CallBackParts,
-) -> (Mutex<SharedDesk<S, A, T, C>>, Charges<S>)
+) -> (
+    Mutex<SharedTexts<S, T, C>>,
+    Mutex<SharedDial<S, A>>,
+    Charges<S>,
+)
     requires supplied { IsSupplied T.Texts S.text S.hosts desk }
     requires texts { T.faults desk.texts ≡ S.text_faults }
     requires dial { (A.past desk.dial ≡ S.wires) × (A.faults desk.dial ≡ S.dial_faults)
@@ -251,22 +256,37 @@ fn lock_desk<S: Site + Accounts + Supplies, A: Dial, T: Texts, C: Clock>(
     requires sources { (sources.name ≡ S.sources) × (sources.parts ≡ S.shares) }
     requires fetched { (fetched.total ≡ 0) × (fetches ≡ []) }
     requires debits { debits ≡ no_debit S.shares }
-    requires tells { (call_backs.desk ≡ holds_none S.call_backs call_backs.desk.parts)
-        × (call_backs.desk.parts + S.shares ≡ all_parts) }
+    requires tells { (call_backs.dial ≡ holds_none S.call_backs call_backs.dial.parts)
+        × (call_backs.dial.parts + S.shares ≡ all_parts) }
     requires leaves { call_backs.workers ≡ holds_none S.call_backs S.shares }
     requires some { 0 < S.shares }
-    ensures { result.1 ≡ free_of_charge S.shares }
+    ensures { result.2 ≡ free_of_charge S.shares }
 {
     let (unread, own_unread) = unread.open::<UnreadTexts<S>>();
     let (orders, own_orders) = orders.open::<ReachedOrders<S>>();
     let (sources, own_sources) = sources.open::<FailedSources<S>>();
     let CallBackParts {
-        desk: tells,
+        dial: tells,
         workers: leaves,
     } = call_backs;
-    let shared = SharedDesk::new(desk, unread, orders, sources, fetched, fetches, tells);
+    let Desk {
+        dial,
+        texts,
+        clock,
+        hosts,
+    } = desk;
+    let shared_texts = SharedTexts::new(Materials { texts, clock }, unread);
+    let shared_dial = SharedDial::new(
+        Dialer { dial, hosts },
+        orders,
+        sources,
+        fetched,
+        fetches,
+        tells,
+    );
     (
-        Mutex::new(shared),
+        Mutex::new(shared_texts),
+        Mutex::new(shared_dial),
         Charges::new(own_unread, own_orders, own_sources, debits, leaves),
     )
 }
@@ -279,7 +299,8 @@ fn lock_desk<S: Site + Accounts + Supplies, A: Dial, T: Texts, C: Clock>(
 pub(crate) fn unlock<S, D, B, A, T, C, R: Wait>(
     rt: &R,
     publisher: Mutex<Locked<S, D, B>>,
-    desk: Mutex<SharedDesk<S, A, T, C>>,
+    texts: Mutex<SharedTexts<S, T, C>>,
+    dial: Mutex<SharedDial<S, A>>,
     call_backs: &PendingCallBacks,
     account: Account<S, B>,
     others: Charges<S>,
@@ -320,16 +341,22 @@ where
         &front,
         &mut debits,
     );
-    let desk = desk.into_inner().close(
+    let materials = texts.into_inner().close(&mut unread);
+    let dialer = dial.into_inner().close(
         rt,
         call_backs,
         left,
         known.as_ref(),
-        &mut unread,
         &mut reached,
         &mut failed,
         &mut versions,
         &fetches,
     );
+    let desk = Desk {
+        dial: dialer.dial,
+        texts: materials.texts,
+        clock: materials.clock,
+        hosts: dialer.hosts,
+    };
     (disks, writer, desk, totals)
 }

@@ -37,7 +37,8 @@ use std::thread::Threads;
 use yp_answer::session::{Buffers, CALLS_MAX};
 use yp_board::Tell;
 use yp_host::workers::{
-    Account, Charges, Journal, PendingCallBacks, SharedDesk, Supplies, WorkerHost, WorkerSetting,
+    Account, Charges, Journal, PendingCallBacks, SharedDial, SharedTexts, Supplies, WorkerHost,
+    WorkerSetting,
 };
 use yp_io::{Clock, Dial, Disk, Hall, Inbox, Texts};
 use yp_publisher::sharing::{Accounts, Locked};
@@ -65,9 +66,9 @@ pub(crate) struct WorkerShares<J: Reception + Accounts + Supplies, E: Ledger> {
     transfers: TransferPass,
 }
 
-/// What each worker is lent: the locks of the publisher and of the desk, the queue of transfers that datagrams took,
-/// that of those who are to be told what transfers came to, the journal, where there is one, the gate, and the most
-/// records of a connection.
+/// What each worker is lent: the locks of the publisher, of the texts and of the dial, the queue of transfers that
+/// datagrams took, that of those who are to be told what transfers came to, the journal, where there is one, the gate,
+/// and the most records of a connection.
 #[derive(Drop)]
 pub(crate) struct WorkerMaker<
     'a,
@@ -83,7 +84,8 @@ pub(crate) struct WorkerMaker<
     pub(crate) alloc: Global,
     pub(crate) rt: &'a R,
     pub(crate) publisher: &'a Mutex<Locked<J, D, B>>,
-    pub(crate) desk: &'a Mutex<SharedDesk<J, A, T, C>>,
+    pub(crate) texts: &'a Mutex<SharedTexts<J, T, C>>,
+    pub(crate) dial: &'a Mutex<SharedDial<J, A>>,
     pub(crate) pending: &'a PendingTransfers<J>,
     pub(crate) call_backs: &'a PendingCallBacks,
     pub(crate) journal: Option<&'a Mutex<Journal>>,
@@ -110,7 +112,8 @@ impl<
             alloc: self.alloc,
             rt: self.rt,
             publisher: self.publisher,
-            desk: self.desk,
+            texts: self.texts,
+            dial: self.dial,
             call_backs: self.call_backs,
             journal: self.journal,
         }

@@ -187,7 +187,7 @@ struct Setting<'a, G, R> {
     gate: &'a G,
 }
 
-/// Lends all to workers, under two locks, and takes it apart again.
+/// Lends all to workers, under three locks, and takes it apart again.
 fn under_locks<J, E, D, B, A, T, C, L, I, G, R>(
     setting: Setting<'_, G, R>,
     resources: ServerResources<D, B, A, T, C, L, I>,
@@ -308,14 +308,15 @@ where
         inboxes,
     } = resources;
     let parts = CallBackParts::split::<J>(&call_backs, pass);
-    let (publisher, desk, charges) = lock_up::<J, D, B, A, T, C>(
+    let (publisher, texts, dial, charges) = lock_up::<J, D, B, A, T, C>(
         publisher, desk, charges, fetches, parts,
     );
     let place = WorkerMaker {
         alloc: setting.alloc,
         rt: setting.rt,
         publisher: &publisher,
-        desk: &desk,
+        texts: &texts,
+        dial: &dial,
         pending: &pending,
         call_backs: &call_backs,
         journal: setting.journal,
@@ -339,7 +340,8 @@ where
     let (disks, writer, desk, totals) = unlock(
         setting.rt,
         publisher,
-        desk,
+        texts,
+        dial,
         &call_backs,
         account,
         others,

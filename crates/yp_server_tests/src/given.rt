@@ -1,12 +1,18 @@
 //! What the tests share. A call of each takes no exit from its caller: an exit costs seconds to prove.
 
-ghost use Rattle.std.specs.Prelude.{◌≡◌, length};
+ghost use Rattle.std.specs.Prelude.{◌≡◌, ◌≤◌, length};
+ghost use Rattle.std.specs.List.{All};
+ghost use Rattle.yp_server.specs.Serving.{IsAtStart};
 
 use std::alloc::Global;
 use std::fmt::Debug;
 use std::process::Abort;
-use yp_board::Catalog;
+use std::random::RandomSource;
+use std::sync::Wait;
+use yp_board::readers::{Naming, Opened, Reader};
+use yp_for_server_tests::{Maps, Visit};
 pub use yp_for_tests::NEVER;
+use yp_memory::MemHall;
 
 /// The bytes of a text of hexadecimal words and of names, each told by a line.
 pub fn named<R: Abort>(rt: &R, alloc: Global, names: &str, text: &str) -> Vec<u8> {
@@ -18,9 +24,31 @@ pub fn assert_same<R: Abort, T: PartialEq + Debug>(rt: &R, came: &T, wanted: &T,
     assert!(rt; came == wanted, "{row}: {came:?} came, not {wanted:?}");
 }
 
-/// Ends the test where there aren't as many things as a catalogue has maps.
-pub fn assert_fits(rt: &impl Abort, count: usize, catalog: &Catalog)
-    ensures { count ≡ length catalog.now.maps }
+/// A hall, where what callers send is spelled by these names of words.
+pub fn hall(rt: &impl Abort, alloc: Global, names: &str, visit: &Visit<'_>) -> MemHall {
+    yp_for_server_tests::hall(alloc, names, visit).expect(rt, "a hall")
+}
+
+/// What the connections that were closed had taken, in the order in which they came.
+pub fn taken(rt: &impl Abort, alloc: Global, listen: &MemHall) -> Vec<u8> {
+    yp_for_server_tests::taken(alloc, listen).expect(rt, "memory for bytes")
+}
+
+/// A publisher of hosts.byname of `lab` with this file, on a host of this name, and so many readers of its board, at
+/// least one.
+pub fn publisher<'r, J: Naming, R: Wait + RandomSource + Abort>(
+    rt: &'r R,
+    alloc: Global,
+    opened: Opened,
+    own: &[u8],
+    file: Vec<u8>,
+    readers: u32,
+) -> (Maps<'r, J, R>, Vec<Reader<J>>)
+    requires opened { opened ≡ J.book }
+    requires readers { 1 ≤ readers }
+    ensures count { length result.1.items ≡ readers }
+    ensures seen { All (λ reader. reader.catalogue ≡ result.0.catalogue) result.1.items }
+    ensures known { All (λ reader. IsAtStart result.0.catalogue result.0.board.log reader) result.1.items }
 {
-    assert!(rt; count == catalog.len() as usize);
+    yp_for_server_tests::publisher(alloc, rt, opened, own, file, readers).expect(rt, "a publisher")
 }

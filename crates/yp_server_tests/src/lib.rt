@@ -1,24 +1,13 @@
-//! Tests of `yp_host`, `yp_worker`, `yp_worker::datagrams`, `yp_host::workers` and `yp_server`: connections and
-//! datagrams that are served, by one and by workers in threads.
+//! Tests of `yp_server`: connections and datagrams that workers in threads serve.
 #![tactic(auto)]
 
 #[cfg(test)]
-mod connection;
+mod gate;
 #[cfg(test)]
 mod given;
 #[cfg(test)]
-mod halls;
-#[cfg(test)]
-mod host;
-#[cfg(test)]
-mod publishers;
+mod inbox;
 #[cfg(test)]
 mod sample;
 #[cfg(test)]
-mod serve;
-#[cfg(test)]
-mod transfer;
-#[cfg(test)]
-mod worker;
-#[cfg(test)]
-mod workhost;
+mod threads;

@@ -23,7 +23,6 @@ use Rattle.yp_answer.specs.declared.make.Making.TheVariants.{Text, Netgroups}
 use Rattle.yp_answer.specs.inside.Make.{IsMadeAsNamed}
 use Rattle.yp_answer.specs.declared.make.MakeJob.{MakeJob}
 use Rattle.yp_answer.specs.Causes.{Told, IsAnew, IsCaused, RowIsBad, NetgroupsAreMissing, task_of, task_at}
-use Rattle.yp_host.specs.Locals.{Telling}
 use Rattle.yp_host.specs.Anew.{IsUnbuilt}
 use Rattle.yp_publisher.specs.declared.sharing.locked.ShareFault.{ShareFault}
 use Rattle.yp_publisher.specs.declared.sharing.locked.ShareFault.TheVariants.{Shut, Unfit, Untold}
@@ -32,7 +31,6 @@ use Rattle.yp_publisher.specs.sharing.Shares.{IsReason}
 use Rattle.yp_publisher.specs.sharing.Sources.{Building}
 use Rattle.yp_publisher.specs.inside.sharing.Sources.{marked_behind, IsBuiltThere}
 use Rattle.yp_host.specs.workers.Desks.{texts_alone}
-use Rattle.yp_host.specs.inside.workers.Desks.{telling_texts}
 use Rattle.yp_host.specs.workers.Outcomes.{shared_stat}
 use Rattle.yp_host.specs.workers.Makings.{IsShownLast, IsMadeSo}
 use Rattle.yp_host.specs.inside.workers.Makings.{SiteBuilds, height, IsOvertaken}
@@ -47,28 +45,28 @@ another (Some name) e = (name, refl)
 
 -- ---- why none is built
 
-pub unmade : {E : Type 0} (text : List ℕ → Option (List ℕ)) (telling : Telling E) (served : Catalogue) (job : MakeJob) (log : Log) (stat : XfrStat)
-    (old new : E) → IsUnbuilt (telling_texts text telling) (task_at served job log) stat old new
+pub unmade : (text : List ℕ → Option (List ℕ)) (faults faults' : ℕ) (served : Catalogue) (job : MakeJob) (log : Log) (stat : XfrStat)
+    → IsUnbuilt (texts_alone text) faults faults' (task_at served job log) stat
     → IsMadeSo (texts_alone text) served job stat log log
-unmade text telling served job log Refused old new none =
+unmade text faults faults' served job log Refused none =
     let master = another (other_master served.own (shown job.map log)) none in (log, front_same log, master.0, master.1)
-unmade text telling served job log Age old new none = (log, front_same log, none.1)
-unmade text telling served job log Dbm old new none =
+unmade text faults faults' served job log Age none = (log, front_same log, none.1)
+unmade text faults faults' served job log Dbm none =
     row_is_bad (texts_alone text) served job job.making log log log (front_same log) (front_same log) none.1
-unmade text telling served job log File old new none = tt
-unmade text telling served job log Rsrc old new none = tt
-unmade text telling served job log Succ old new none = absurd none
-unmade text telling served job log Nomap old new none =
+unmade text faults faults' served job log File none = tt
+unmade text faults faults' served job log Rsrc none = tt
+unmade text faults faults' served job log Succ none = absurd none
+unmade text faults faults' served job log Nomap none =
     none_shown served job job.making log log log (front_same log) (front_same log) none.1
-unmade text telling served job log Nodom old new none = absurd none
-unmade text telling served job log Rpc old new none = absurd none
-unmade text telling served job log Maddr old new none = absurd none
-unmade text telling served job log Yperr old new none = absurd none
-unmade text telling served job log Badargs old new none = absurd none
-unmade text telling served job log Skew old new none = absurd none
-unmade text telling served job log Clear old new none = absurd none
-unmade text telling served job log Force old new none = absurd none
-unmade text telling served job log Xfrerr old new none = absurd none
+unmade text faults faults' served job log Nodom none = absurd none
+unmade text faults faults' served job log Rpc none = absurd none
+unmade text faults faults' served job log Maddr none = absurd none
+unmade text faults faults' served job log Yperr none = absurd none
+unmade text faults faults' served job log Badargs none = absurd none
+unmade text faults faults' served job log Skew none = absurd none
+unmade text faults faults' served job log Clear none = absurd none
+unmade text faults faults' served job log Force none = absurd none
+unmade text faults faults' served job log Xfrerr none = absurd none
 
 -- ---- what is shown
 

@@ -15,9 +15,10 @@ ghost use Rattle.yp_host.specs.inside.workers.Wires.{orders_in, sources_in, IsAg
 
 use crate::workers::call_backs::CallBack;
 use crate::workers::charges::Charges;
-use crate::workers::desk::{FetchTask, Supplies};
+use crate::workers::dial::FetchTask;
 use crate::workers::outcome::{Group, group_of, shared_stat};
 use crate::workers::setting::WorkerSetting;
+use crate::workers::supplies::Supplies;
 use std::random::RandomSource;
 use std::snapshot::Snapshot;
 use std::sync::Wait;
@@ -31,8 +32,8 @@ use yp_transfer::{Asker, XfrFault};
 use yp_version::{Order, Version};
 
 /// Fetches the map of a transfer job and installs it, and tells the caller at `peer` what came of it, where it wants to
-/// be told: what that came to, and its status. The desk's lock is held while it is fetched, and again while all callers
-/// that wait are told, which may wait for their port mappers; no look-up takes that lock.
+/// be told: what that came to, and its status. The dial's lock is held while it is fetched, and again while all callers
+/// that wait are told, which may wait for their port mappers; no look-up takes that lock, and no make.
 pub(crate) fn carry_out<S, D, B, A, T, C, R>(
     setting: &WorkerSetting<'_, S, D, B, A, T, C, R>,
     reader: &mut B::Reader,
@@ -72,7 +73,7 @@ where
     };
     leave(setting, charges, asker, stat, shown);
     setting
-        .desk
+        .dial
         .lock(&setting.rt)
         .post_all(&setting.rt, setting.call_backs);
     (group, stat)
@@ -135,7 +136,7 @@ where
             Ok(()) => return,
             Err(back) => call_back = back,
         }
-        setting.desk.lock(rt).post_all(rt, setting.call_backs);
+        setting.dial.lock(rt).post_all(rt, setting.call_backs);
     }
     unreachable!()
 }
@@ -205,7 +206,7 @@ where
     };
     let mut known = None;
     let fetched = setting
-        .desk
+        .dial
         .lock(&setting.rt)
         .fetch(setting.alloc, &setting.rt, &task, &mut known, charges);
     let shown = order_of(reader.held(job.map));

@@ -9,8 +9,8 @@ ghost use Rattle.yp_host.specs.inside.workers.CallBacks.{AreKnown, IsKnownIn};
 ghost use Rattle.yp_host.specs.inside.workers.Charges.{TotalsAreCharged, charged_both, free_of_charge};
 
 use crate::workers::call_backs::{CallBack, CallBackPass, PendingCallBacks};
-use crate::workers::desk::{FailedSources, ReachedOrders, Supplies, UnreadTexts};
 use crate::workers::outcome::Totals;
+use crate::workers::supplies::{FailedSources, ReachedOrders, Supplies, UnreadTexts};
 use std::collections::LinkedList;
 use std::marker::Model;
 use std::mem;

@@ -13,11 +13,11 @@ ghost use Rattle.yp_host.specs.inside.workers.Charges.{counted_by};
 
 use crate::workers::carrying::{carry_out, order_of};
 use crate::workers::charges::{Account, Charges, Counted};
-use crate::workers::desk::Supplies;
 use crate::workers::journal::Event;
 use crate::workers::making::make_shared;
 use crate::workers::outcome::{Outcomes, Totals, files_after, made_after};
 use crate::workers::setting::WorkerSetting;
+use crate::workers::supplies::Supplies;
 use std::marker::Model;
 use std::random::RandomSource;
 use std::sync::{Arc, Wait};
@@ -271,10 +271,10 @@ impl<
     ghost made = { WorkerMakesMap B.Reader.seen S.text };
 
     fn make(&mut self, job: MakeJob) -> XfrStat {
-        let mut desk = self.setting.desk.lock(&self.setting.rt);
+        let mut texts = self.setting.texts.lock(&self.setting.rt);
         let stat = make_shared(
             &self.setting,
-            &mut *desk,
+            &mut *texts,
             &mut self.reader,
             &mut self.charges,
             job,

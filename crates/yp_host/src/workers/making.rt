@@ -12,9 +12,10 @@ ghost use Rattle.yp_host.specs.inside.workers.Charges.{ChargesMore, cost_of_make
 
 use crate::BuildTask;
 use crate::workers::charges::Charges;
-use crate::workers::desk::{SharedDesk, Supplies};
 use crate::workers::outcome::shared_stat;
 use crate::workers::setting::WorkerSetting;
+use crate::workers::supplies::Supplies;
+use crate::workers::texts::SharedTexts;
 use std::random::RandomSource;
 use std::sync::Wait;
 use yp_answer::MakeJob;
@@ -30,7 +31,7 @@ use yp_version::Version;
 /// meanwhile, it is built again behind that, so the orders of the map rise with each round.
 pub(crate) fn make_shared<S, D, B, A, T, C, R>(
     setting: &WorkerSetting<'_, S, D, B, A, T, C, R>,
-    desk: &mut SharedDesk<S, A, T, C>,
+    texts: &mut SharedTexts<S, T, C>,
     reader: &mut B::Reader,
     charges: &mut Charges<S>,
     job: MakeJob,
@@ -57,7 +58,7 @@ where
         return XfrStat::Rsrc;
     }
     'rounds: loop {
-        if let Some(stat) = make_behind(setting, desk, reader, charges, job) {
+        if let Some(stat) = make_behind(setting, texts, reader, charges, job) {
             return stat;
         }
     }
@@ -67,7 +68,7 @@ where
 /// which isn't lower, there is no status, and the reader knows that version.
 fn make_behind<S, D, B, A, T, C, R>(
     setting: &WorkerSetting<'_, S, D, B, A, T, C, R>,
-    desk: &mut SharedDesk<S, A, T, C>,
+    texts: &mut SharedTexts<S, T, C>,
     reader: &mut B::Reader,
     charges: &mut Charges<S>,
     job: MakeJob,
@@ -100,7 +101,7 @@ where
         netgroups,
         shown,
     };
-    let version = match desk.build(setting.alloc, &setting.rt, &task, charges) {
+    let version = match texts.build(setting.alloc, &setting.rt, &task, charges) {
         Ok(version) => version,
         Err(stat) => return Some(stat),
     };

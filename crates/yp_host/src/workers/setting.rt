@@ -1,8 +1,10 @@
 //! What a worker has for all its work.
 
 use crate::workers::call_backs::PendingCallBacks;
-use crate::workers::desk::{SharedDesk, Supplies};
+use crate::workers::dial::SharedDial;
 use crate::workers::journal::Journal;
+use crate::workers::supplies::Supplies;
+use crate::workers::texts::SharedTexts;
 use std::alloc::Global;
 use std::random::RandomSource;
 use std::sync::{Mutex, Wait};
@@ -27,7 +29,10 @@ pub struct WorkerSetting<
     /// Its randomness makes the tables of builds, and it waits for the locks.
     pub rt: R,
     pub publisher: &'a Mutex<Locked<S, D, B>>,
-    pub desk: &'a Mutex<SharedDesk<S, A, T, C>>,
+    /// Held while a map is made, until it is installed.
+    pub texts: &'a Mutex<SharedTexts<S, T, C>>,
+    /// Held while a map is fetched, and while callers are told, and by nothing else.
+    pub dial: &'a Mutex<SharedDial<S, A>>,
     /// Who is to be told what a transfer came to.
     pub call_backs: &'a PendingCallBacks,
     /// Where it is told what was done, if it is.

@@ -1,7 +1,7 @@
 use Rattle.std.proofs.Common.{Err, ap, ◌∙◌, rules}
 use Rattle.yp_texts.specs.After.{material_of}
 use Rattle.yp_texts.specs.declared.after.AfterFault.TheVariants.{Build}
-use Rattle.yp_host.specs.inside.Locals.{telling_by}
+use Rattle.yp_host.specs.Locals.{told_of}
 use Rattle.yp_host.proofs.Building.{unbuilt}
 use Rattle.yp_host.proofs.anew.build_of_text.Goals as goal
 
@@ -15,6 +15,6 @@ returns-in-Ok-clause-anew g c = record {
 pub returns-in-Err-Build-clause-unbuilt : goal.returns-in-Err-Build-clause-unbuilt
 returns-in-Err-Build-clause-unbuilt g c =
     let material = material_of c.in_ok-text.text.items c.now-now.result in
-    rw c.build_stat.ensures (unbuilt (telling_by g.T.Texts g.C.Clock g.A.Dial) _ _ _ _ material _ _ c.requires.same
+    rw c.build_stat.ensures (unbuilt (told_of g.T.Texts g.C.Clock c.args.texts.now c.args.clock.now) _ _ _ _ _ _ material c.requires.same
     (record { text = c.in_ok-text.ensures.text; moment = c.now-now.ensures.told }) c.in-Err-Build.fault (search rules)
     (λ e. c.in-Err-Build.ensures.spent (ap Err (c.in-Err-Build.field-0-is ∙ ap Build e))))

@@ -15,7 +15,7 @@ abbrev pub dial_told : Option Wires → Option (List Sending) → ℕ → DialTe
 dial_told wires letters faults = record { past = wires; letters = letters; faults = faults }
 
 -- A dial was used for transfers. Where one holds so many parts of the queue of call backs, which are all but those of
--- the desk, these callers were told what that one left, each as often, and nothing else. Each version that a call back
+-- the dial, these callers were told what that one left, each as often, and nothing else. Each version that a call back
 -- tells of came by a wire.
 pub record TellsAllLeft (hosts : HostList) (maps : List Name) (shares : ℕ) (held : HeldCallBacks) (old new : DialTells)
     : Type 0 where

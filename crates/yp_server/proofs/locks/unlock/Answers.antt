@@ -25,7 +25,7 @@ returns-clause-files g c = λ texts well.
     let of_texts = ap (λ (charged : Charged). charged.unread) merged in
     let of_files = ap (λ (charged : Charged). charged.failures) merged in
     let shares = c.into_shares-unread.ensures in
-    let unread = c.close-desk.ensures.covered texts in
+    let unread = c.close-materials.ensures.covered texts in
     let failures = c.take_apart-disks.ensures.covered well in
     omega (arith, charged, of_texts, of_files, shares.unread, shares.failures, unread, failures)
 
@@ -34,14 +34,14 @@ returns-clause-orders g c =
     let charged = c.into_parts-charges.ensures.charged.orders in
     let merged = ap (λ (charged : Charged). charged.orders) c.merge.ensures in
     let share = c.into_shares-unread.ensures.orders in
-    c.close-desk.ensures.orders c.into_parts-charges.result.0.outcomes.reached (omega (arith, charged, merged, share))
+    c.close-dialer.ensures.orders c.into_parts-charges.result.0.outcomes.reached (omega (arith, charged, merged, share))
 
 pub returns-clause-sources : goal.returns-clause-sources
 returns-clause-sources g c =
     let charged = c.into_parts-charges.ensures.charged.sources in
     let merged = ap (λ (charged : Charged). charged.sources) c.merge.ensures in
     let share = c.into_shares-unread.ensures.sources in
-    c.close-desk.ensures.sources c.into_parts-charges.result.0.outcomes.source (omega (arith, charged, merged, share))
+    c.close-dialer.ensures.sources c.into_parts-charges.result.0.outcomes.source (omega (arith, charged, merged, share))
 
 pub returns-clause-origins : goal.returns-clause-origins
 returns-clause-origins g c = λ start told.
@@ -50,19 +50,19 @@ returns-clause-origins g c = λ start told.
     let debit = c.into_shares-unread.ensures.made in record {
       fetched = c.take_apart-disks.result.2.amount;
       stems = c.take_apart-disks.ensures.sourced c.into_parts-charges.result.0.made (omega (arith, charged, merged, debit)) start told;
-      good = c.close-desk.ensures.versions c.take_apart-disks.result.2.amount (omega arith);
+      good = c.close-dialer.ensures.versions c.take_apart-disks.result.2.amount (omega arith);
     }
 
 pub returns-clause-traced : goal.returns-clause-traced
 returns-clause-traced g c = λ start. record {
   fetches = c.take_apart-disks.result.3;
   traced = c.take_apart-disks.ensures.traced start;
-  came = c.close-desk.ensures.known;
+  came = c.close-dialer.ensures.known;
 }
 
 -- the versions of what was left are known, as a front that is borrowed says
-pub close-desk-requires-clause-told : goal.close-desk-requires-clause-told
-close-desk-requires-clause-told g c =
+pub close-dialer-requires-clause-told : goal.close-dialer-requires-clause-told
+close-dialer-requires-clause-told g c =
     let shares = c.into_shares-unread in
     let left = ap (λ (held : HeldCallBacks). held.left) shares.ensures.left in
     subst (λ known. AreKnown known shares.result.4.left) (sym c.as_ref.ensures.value)
@@ -86,5 +86,5 @@ returns-clause-told g c =
     ∙ ap (λ (n : ℕ). holds_more (holds_none queue n) c.merge.new.self.left []) all
     ∙ ap (λ (told : List CallBack). holds_more (holds_none queue g.S.Accounts.shares) told []) left in
     subst (λ (held : HeldCallBacks). TellsAllLeft g.S.Supplies.hosts g.S.Site.catalogue.maps g.S.Accounts.shares held
-    (dial_told g.S.Supplies.wires g.S.Supplies.letters g.S.Supplies.dial_faults) (dial_by g.A.Dial c.close-desk.result.dial))
-    is c.close-desk.ensures.dialed
+    (dial_told g.S.Supplies.wires g.S.Supplies.letters g.S.Supplies.dial_faults) (dial_by g.A.Dial c.close-dialer.result.dial))
+    is c.close-dialer.ensures.dialed

@@ -1,7 +1,6 @@
 use Rattle.std.proofs.Common.{◌≤◌, ap, arith, ◌∙◌}
 use Rattle.yp_texts.specs.Builds.{order_max}
 use Rattle.yp_host.specs.workers.Desks.{texts_alone}
-use Rattle.yp_host.specs.inside.Locals.{telling_by}
 use Rattle.yp_host.proofs.workers.Causing.{unmade, built_there, shown_last, unfit}
 use Rattle.yp_host.proofs.workers.Charging.{charged_so}
 use Rattle.yp_host.proofs.workers.making.make_behind.Goals as goal
@@ -9,7 +8,7 @@ use Rattle.yp_host.proofs.workers.making.make_behind.Goals as goal
 pub returns-in-Err-clause-made : goal.returns-in-Err-clause-made
 returns-in-Err-clause-made g c =
     let served = c.catalog.ensures ∙ c.requires.catalogue in
-    unmade g.S.Supplies.text (telling_by g.T.Texts g.C.Clock g.A.Dial) _ c.args.job _ c.in-Err.stat _ _
+    unmade g.S.Supplies.text _ _ _ c.args.job _ c.in-Err.stat
     (rw (served, c.held-shown.ensures, c.netgroups-netgroups.ensures, c.requires.catalogue) at c.in-Err.ensures.unbuilt)
 
 pub install_shared-requires-clause-built : goal.install_shared-requires-clause-built

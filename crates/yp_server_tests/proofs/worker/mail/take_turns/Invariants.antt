@@ -1,5 +1,0 @@
-use Rattle.yp_server_tests.proofs.worker.mail.take_turns.Given as goal
-
--- the maps of the host
-abbrev pub ghosts-serve_turns : goal.ghosts-serve_turns
-ghosts-serve_turns g a = record { catalogue = a.host.board.catalogue }

@@ -1,6 +1,0 @@
-//! Workers in threads over stored maps, a listener and inboxes.
-
-mod gate;
-mod inbox;
-mod sample;
-mod threads;
