@@ -11,10 +11,10 @@ ghost use Rattle.yp_command.specs.inside.Words.{connections_of, port_of};
 use std::alloc::{AllocError, Global};
 use std::process::ExitCode;
 use yp_board::MapName;
-use yp_io::{Failed, Hall, NoMemory, Sink, Trail};
+use yp_io::{Failed, Hall, NoMemory, Pair, Sink, Trail};
 use yp_program::{
-    Command, NamedDisk, Outside, ParseFault, Status, connections_of, named_disks, parse, port_of,
-    run_command, stores_of, tell,
+    Command, Doors, NamedDisk, Office, Outside, ParseFault, Status, connections_of, named_disks,
+    parse, port_of, run_command, stores_of, tell,
 };
 use yp_system::{
     BlockReader, DirectWriter, FileDisk, LocalPorts, Locking, Patient, StandardStream, SystemClock,
@@ -143,6 +143,22 @@ fn further_ends(
     }
 }
 
+/// One more end of the port of an inbox, from which a server replies to what its inboxes leave. It is open for a server
+/// alone. Where it can't be opened, its first reply tries again, and fails.
+fn sending_end(
+    alloc: Global,
+    net: HostRuntime,
+    command: &Command,
+    inbox: &mut UdpInbox<HostRuntime>,
+) -> UdpInbox<HostRuntime> {
+    if let Command::Serve(_) = command
+        && let Ok(end) = inbox.sending(alloc)
+    {
+        return end;
+    }
+    UdpInbox::new(alloc, net, port_of(command).unwrap_or(0))
+}
+
 /// Ends before anything was done.
 fn end<K: Sink>(notes: &mut K, status: &Status) -> ExitCode
     requires { IsTellable status.now }
@@ -168,17 +184,29 @@ fn main(rt: HostRuntime) -> ExitCode {
     };
     let (listen, mut inbox) = ports(alloc, rt, &command);
     let more = further_ends(alloc, &command, &mut inbox);
-    let outside = Outside {
-        input,
-        output: DirectWriter::new(Patient::new(StandardStream::Output(rt.stdout()), rt)),
-        notes,
+    let outbox = sending_end(alloc, rt, &command, &mut inbox);
+    let output = DirectWriter::new(Patient::new(StandardStream::Output(rt.stdout()), rt));
+    let wire = Pair {
+        source: input,
+        sink: output,
+    };
+    let office = Office {
+        wire,
         disks,
         clock: SystemClock::new(&rt),
-        listen,
         dial: TcpDial::new(alloc, rt, local_ports_of(&command)),
         inbox,
-        more,
         texts: TextFolder::new(alloc, rt),
+    };
+    let doors = Doors {
+        listen,
+        more,
+        outbox,
+    };
+    let outside = Outside {
+        office,
+        doors,
+        notes,
     };
     let (status, _outside) = run_command(alloc, &rt, command, outside, &mut Trail::new());
     ExitCode::from(status.code())

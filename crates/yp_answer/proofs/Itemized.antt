@@ -9,6 +9,7 @@ use Rattle.yp_messages.specs.inside.Messages.{all_item}
 use Rattle.yp_version.specs.inside.Bodies.{spelled_row}
 use Rattle.yp_version.specs.Rows.{Row}
 use Rattle.yp_answer.specs.Results.{row_item}
+use Rattle.yp_answer.specs.inside.Items.{spelled_item}
 
 -- the parts of items
 abbrev pub parts_of : List (Value key_val) → List (List ℕ)
@@ -41,14 +42,14 @@ past_part rows i past = slice_get_past (parts_of (map row_item rows)) i (omega (
 
 -- a row that is spelled, by its number
 pub spelled_part : (rows : List Row) (i : ℕ) (key val : List ℕ) → Some (key, val) ≡ option_map spelled_row (slice_get rows i)
-    → Some (0 ∷ 0 ∷ 0 ∷ 1 ∷ 0 ∷ 0 ∷ 0 ∷ 1 ∷ (val ++ key)) ≡ slice_get (parts_of (map row_item rows)) i
+    → Some (spelled_item (key, val)) ≡ slice_get (parts_of (map row_item rows)) i
 spelled_part rows i key val there = by (slice_get rows i) refl
   where
-    by : (row : Option Row) → slice_get rows i ≡ row → Some (0 ∷ 0 ∷ 0 ∷ 1 ∷ 0 ∷ 0 ∷ 0 ∷ 1 ∷ (val ++ key)) ≡ slice_get (parts_of (map row_item rows)) i
+    by : (row : Option Row) → slice_get rows i ≡ row → Some (spelled_item (key, val)) ≡ slice_get (parts_of (map row_item rows)) i
     by None e = absurd (none-some (key, val) (sym (there ∙ ap (option_map spelled_row) e)))
     by (Some row) e =
         let same : (key, val) ≡ spelled_row row = same_Some (key, val) (spelled_row row) (there ∙ ap (option_map spelled_row) e) in
-        ap (λ (p : List ℕ × List ℕ). Some (0 ∷ 0 ∷ 0 ∷ 1 ∷ 0 ∷ 0 ∷ 0 ∷ 1 ∷ (p.1 ++ p.0))) same
+        ap (λ (p : List ℕ × List ℕ). Some (spelled_item p)) same
         ∙ sym (row_part rows i row e)
 
 -- it is one of the rows

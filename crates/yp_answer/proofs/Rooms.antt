@@ -10,11 +10,11 @@ use Rattle.yp_messages.specs.declared.results.AllItem.TheVariants.{More, End}
 use Rattle.yp_messages.specs.declared.results.RespMaster.{RespMaster}
 use Rattle.yp_messages.specs.Messages.{resp_master}
 use Rattle.yp_messages.specs.inside.Messages.{resp_master_view}
-use Rattle.yp_answer.specs.declared.stream.Item.{Item}
-use Rattle.yp_answer.specs.declared.stream.Item.TheVariants.{Row, Plain}
+use Rattle.yp_messages.specs.declared.results.AllItem.{AllItem}
+use Rattle.yp_messages.specs.inside.Messages.{AllItemIsWithin}
 use Rattle.yp_messages.specs.Statuses.{stat, stat_number}
 use Rattle.yp_answer.specs.declared.look_up.Valued.{Valued}
-use Rattle.yp_answer.specs.inside.Items.{item_bytes, IsWithin, valued_bytes}
+use Rattle.yp_answer.specs.inside.Items.{item_bytes, spelled_item, valued_bytes}
 use Rattle.yp_answer.specs.declared.procedure.Path.{Path}
 use Rattle.yp_answer.specs.declared.procedure.Path.TheVariants.{Stream, Datagram}
 use Rattle.yp_rpc.specs.Turns.{datagram_max}
@@ -55,18 +55,20 @@ head_some xid (AuthError stat) = omega arith
 pub valued_len : (found : Valued) → length (valued_bytes found) ≡ 4 + length found.val.now
 valued_len found = length-append (spelling stat (stat_number found.stat)) found.val.now
 
--- one item of ALL
-pub item_short : (item : Item) → IsWithin item → length (item_bytes item) ≤ 131096
-item_short (Row val key) h = omega (arith, length-append val.now key.now, h.0, h.1)
-item_short (Plain (More row)) h =
+-- one item of ALL that is no row
+pub item_short : (item : AllItem) → AllItemIsWithin item → length (item_bytes item) ≤ 131096
+item_short (More row) h =
     omega (arith, length-append (opaque row.val.now) (opaque row.key.now), opaque_short row.val.now, opaque_short row.key.now, h.val, h.key)
-item_short (Plain End) h = omega arith
+item_short End h = omega arith
 
 -- it takes some
-pub item_some : (item : Item) → 0 < length (item_bytes item)
-item_some (Row val key) = omega arith
-item_some (Plain (More row)) = omega arith
-item_some (Plain End) = omega arith
+pub item_some : (item : AllItem) → 0 < length (item_bytes item)
+item_some (More row) = omega arith
+item_some End = omega arith
+
+-- a row of it, as its key and its value are spelled
+pub spelled_len : (key val : List ℕ) → length (spelled_item (key, val)) ≡ 8 + length val + length key
+spelled_len key val = omega (arith, length-append val key)
 
 -- a status and the name of a master
 pub master_short : (answer : RespMaster) → length answer.peer.now ≤ 64 → length (spelling resp_master (resp_master_view answer)) < 76

@@ -21,5 +21,6 @@ pub use buffers::Buffers;
 pub use conversation::{Advance, Conversation, Terms};
 pub use errand::Errand;
 pub use host::Host;
+pub use makes::may_make;
 pub use session::{CALLS_MAX, End, Session, Step, calls_max_is_defined};
 pub use witness::Witness;

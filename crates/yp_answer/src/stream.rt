@@ -8,10 +8,12 @@ ghost use Rattle.yp_answer.specs.Numbers.{record_max};
 ghost use Rattle.yp_answer.specs.Maps.{maps_of};
 ghost use Rattle.yp_rpc.specs.Records.{joined};
 ghost use Rattle.yp_answer.specs.inside.Streams.{GivesParts, item_parts, parts, parts_left, source_of, between};
+ghost use Rattle.yp_answer.specs.inside.Streams.{PutsParts, row_parts, rows_in};
 ghost use Rattle.yp_answer.specs.inside.Streams.{held_by, held_of, held_parts, piece_max};
 ghost use Rattle.yp_answer.specs.declared.stream.TheConstants.{ITEM_MAX};
 ghost use Rattle.yp_answer.specs.inside.Answers.{StreamIsInside};
-ghost use Rattle.yp_answer.specs.inside.Items.{items_view, item_bytes, IsWithin};
+ghost use Rattle.yp_answer.specs.inside.Items.{items_view, item_bytes, spelled_item};
+ghost use Rattle.yp_messages.specs.inside.Messages.{AllItemIsWithin};
 
 use crate::caller::put_head;
 use crate::look_up::no_row;
@@ -21,7 +23,7 @@ use yp_board::View;
 use yp_io::NoMemory;
 use yp_messages::{AllItem, Message, YpStat};
 use yp_rpc::ReplyHead;
-use yp_version::{KEY_MAX, VALUE_MAX, Version};
+use yp_version::{KEY_MAX, SpelledRows, VALUE_MAX, Version};
 use yp_xdr::laws::sets_join;
 use yp_xdr::set_bytes;
 
@@ -59,65 +61,70 @@ enum Items<'a> {
     Refused(YpStat),
 }
 
-/// An item as it goes out.
-#[derive(Drop)]
-enum Item<'a> {
-    /// A row, whose value and key stand in the version as they are spelled.
-    Row { val: &'a [u8], key: &'a [u8] },
-
-    /// A status without a row, or the end.
-    Plain(AllItem<'a>),
-}
-
 impl<'a> Items<'a> {
-    /// The item with this number, or the end behind the last one.
-    fn item(&self, i: usize) -> Option<Item<'a>>
-        ensures item { option_map item_bytes result ≡ slice_get (item_parts (items_view self.now)) i }
-        ensures within { IfSome result IsWithin }
+    /// The item with this number behind all rows: a status without a row, or the end.
+    fn behind_rows(&self, i: usize) -> Option<AllItem<'a>>
+        ensures item { rows_in (items_view self.now) ≤ i → option_map item_bytes result
+            ≡ slice_get (item_parts (items_view self.now)) i }
+        ensures behind { IfSome result (λ item. rows_in (items_view self.now) ≤ i) }
+        ensures within { IfSome result AllItemIsWithin }
         ensures few { IfSome result (λ item. i ≤ rows_max) }
     {
         match self {
-            Items::Rows(version) => match version.row_spelled(i) {
-                Some((key, val)) => Some(Item::Row { val, key }),
-                None if i == version.len() => Some(Item::Plain(AllItem::End)),
-                None => None,
-            },
+            Items::Rows(version) if i == version.len() => Some(AllItem::End),
+            Items::Rows(_) => None,
             Items::Refused(stat) => match i {
-                0 => Some(Item::Plain(AllItem::More(no_row(*stat)))),
-                1 => Some(Item::Plain(AllItem::End)),
+                0 => Some(AllItem::More(no_row(*stat))),
+                1 => Some(AllItem::End),
                 _ => None,
             },
         }
     }
 }
 
-impl<'a> Item<'a> {
-    /// How many bytes it has.
-    fn len(&self) -> usize
-        requires { IsWithin self.now }
-        ensures { result ≡ length (item_bytes self.now) }
-    {
-        match self {
-            Item::Row { val, key } => ROW_HEAD.len() + val.len() + key.len(),
-            Item::Plain(item) => item.len(),
-        }
-    }
+/// Puts a row, as its key and its value are spelled, at a place, and answers the place behind it.
+fn set_row(buf: &mut [u8], at: usize, key: &[u8], val: &[u8]) -> usize
+    requires { at + length (spelled_item (key.now, val.now)) ≤ length buf.old }
+    ensures { Sets (spelled_item (key.now, val.now)) at result buf.old buf.new }
+{
+    sets_join();
+    let at = set_bytes(buf, at, &ROW_HEAD);
+    let at = set_bytes(buf, at, val);
+    set_bytes(buf, at, key)
+}
 
-    /// Puts it at a place, and answers the place behind it.
-    fn set(&self, buf: &mut [u8], at: usize) -> usize
-        requires within { IsWithin self.now }
-        requires room { at + length (item_bytes self.now) ≤ length buf.old }
-        ensures { Sets (item_bytes self.now) at result buf.old buf.new }
-    {
-        match self {
-            Item::Row { val, key } => {
-                sets_join();
-                let at = set_bytes(buf, at, &ROW_HEAD);
-                let at = set_bytes(buf, at, val);
-                set_bytes(buf, at, key)
-            }
-            Item::Plain(item) => item.set(buf, at),
+/// Puts rows from one number on behind a place of the buffer, as many as fit. It answers the place behind them and the
+/// number of the next row.
+fn put_rows(rows: &SpelledRows<'_>, buf: &mut [u8], at: usize, first: usize) -> (usize, usize)
+    requires place { at ≤ length buf.old }
+    requires count { length rows.now ≤ rows_max }
+    ensures puts { PutsParts (row_parts rows.now) first result.1 at result.0 buf.old buf.new }
+    ensures few { first < result.1 → result.1 ≤ rows_max }
+    ensures some { first < length rows.now → at + ITEM_MAX ≤ length buf.old → at < result.0 }
+{
+    let mut end = at;
+    let mut next = first;
+    while let Some((key, val)) = rows.get(next) {
+        if buf.len() - end < ROW_HEAD.len() + val.len() + key.len() {
+            break;
         }
+        end = set_row(buf, end, key, val);
+        next += 1;
+    }
+    (end, next)
+}
+
+/// Puts the rows among items from one number on behind a place of the buffer, as many as fit. It answers the place
+/// behind them and the number of the next item.
+fn put_all_rows(items: &Items<'_>, buf: &mut [u8], at: usize, first: usize) -> (usize, usize)
+    requires { at ≤ length buf.old }
+    ensures puts { PutsParts (item_parts (items_view items.now)) first result.1 at result.0 buf.old buf.new }
+    ensures few { first < result.1 → result.1 ≤ rows_max }
+    ensures some { first < rows_in (items_view items.now) → at + ITEM_MAX ≤ length buf.old → at < result.0 }
+{
+    match items {
+        Items::Rows(version) => put_rows(&version.spelled_rows(), buf, at, first),
+        Items::Refused(_) => (at, first),
     }
 }
 
@@ -133,9 +140,8 @@ fn put_items(items: &Items<'_>, buf: &mut [u8], at: usize, first: usize) -> (usi
     ensures some { first < length (item_parts (items_view items.now)) → at + ITEM_MAX ≤ length buf.old → at < result.0 }
     ensures none { length (item_parts (items_view items.now)) ≤ first → result.0 ≡ at }
 {
-    let mut end = at;
-    let mut next = first;
-    while let Some(item) = items.item(next) {
+    let (mut end, mut next) = put_all_rows(items, buf, at, first);
+    while let Some(item) = items.behind_rows(next) {
         if buf.len() - end < item.len() {
             break;
         }

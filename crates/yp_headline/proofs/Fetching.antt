@@ -16,7 +16,7 @@ use Rattle.yp_answer.specs.declared.procedure.Path.TheVariants.{Stream, Datagram
 use Rattle.yp_answer.specs.Numbers.{record_max}
 use Rattle.yp_answer.specs.Served.{maps_on}
 use Rattle.yp_answer.specs.Reply.{Response, Bytes, Takes, reply, xfr_reply}
-use Rattle.yp_headline.specs.inside.Tried.{somebody, version_with, match_call, match_reply, one_map, first_log, order_reply, master_reply, all_reply, fetched_bytes, xfr_call, fetched_log, its_transfer, transfer_world, mailed_transfer}
+use Rattle.yp_headline.specs.inside.Tried.{somebody, mail_of, version_with, match_call, match_reply, one_map, first_log, order_reply, master_reply, all_reply, fetched_bytes, xfr_call, fetched_log, its_transfer, transfer_world, mailed_transfer}
 use Rattle.yp_headline.specs.inside.Files.{streamed}
 use Rattle.yp_headline.specs.Fetching.{Reads, Says, RowsAre, Gives}
 use Rattle.yp_headline.specs.Serving.{IsReply}
@@ -294,9 +294,9 @@ mail_transfer of_source = (
     Mail,
     record { caller = somebody; call = xfr_call; reply = Some (xfr_reply 7 5 Succ) },
     (
-      record { peer = somebody; came = xfr_call; sent = Some (xfr_reply 7 5 Succ); lost = false } ∷ [],
+      mail_of somebody xfr_call (Some (xfr_reply 7 5 Succ)) false ∷ [],
       ([], [], refl),
-      record { peer = somebody; came = xfr_call; sent = Some (xfr_reply 7 5 Succ); lost = false },
+      mail_of somebody xfr_call (Some (xfr_reply 7 5 Succ)) false,
       ([], [], refl),
       refl,
       refl,

@@ -30,6 +30,7 @@ pub mod Worked
 pub mod Fetching
 pub mod Steps
 pub mod Server
+pub mod Late
 pub mod Mail
 pub mod Serve
 pub mod Running
@@ -39,6 +40,7 @@ pub mod Kept
 pub mod Spoiled
 pub mod Mixed
 pub mod Mailed
+pub mod LateMakes
 pub mod Called
 pub mod Right
 pub mod WrongWalks

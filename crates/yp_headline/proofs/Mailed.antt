@@ -17,7 +17,7 @@ use Rattle.yp_headline.specs.inside.Tried.{null_call, null_reply, somebody, no_m
 use Rattle.yp_headline.specs.World.{Datagram}
 use Rattle.yp_headline.specs.Answering.{answer}
 use Rattle.yp_headline.specs.Publishing.{IsBuilt, IsNew, IsPublishedLog}
-use Rattle.yp_headline.specs.Serving.{Exchange, IsReply, AnswersInTurn, AreSent}
+use Rattle.yp_headline.specs.Serving.{IsReply, AreServed}
 use Rattle.yp_headline.specs.Headline.{Replies}
 use Rattle.yp_headline.proofs.Runs.{front_self}
 use Rattle.yp_headline.proofs.Listing.{one_listed, listed_once}
@@ -30,14 +30,10 @@ use Rattle.yp_headline.proofs.Worked.{two_rise}
 
 -- ---- one datagram
 
-lost_reply : (log begun : Log) (exchanges : List Exchange)
-    → AreSent (record { peer = somebody; came = null_call 7; sent = Some (null_reply 7); lost = true } ∷ []) exchanges → ⊥
-lost_reply log begun [] sent = sent
-lost_reply log begun (one ∷ exchanges) sent = let none : Some (null_reply 7) ≡ None = sent.2 in cc
-
 -- a reply that is lost, and was sent
 pub mail_lost_and_sent : IsWrong lost_datagram
-mail_lost_and_sent begun log replies = let mails = replies.datagrams.0 in lost_reply log begun mails.exchanges mails.sent
+mail_lost_and_sent begun log replies =
+    let none : Some (null_reply 7) ≡ None = replies.datagrams.0.holds.holds.2 in cc
 
 -- what is too long gets nothing
 nothing_back : (b : Bool) (response : Response) (reply : Option (List ℕ)) (front next : Log) → b ≡ true
@@ -48,25 +44,20 @@ nothing_back false response reply front next long is = absurd cc
 too_long : length long_call ≡ 8193
 too_long = length-append (null_call 7) (replicate 8153 0) ∙ ap (λ (n : ℕ). 40 + n) (length-replicate {A = ℕ} 8153 0)
 
-long_reply : (known log : Log) (exchanges : List Exchange)
-    → AreSent (record { peer = somebody; came = long_call; sent = Some (null_reply 7); lost = false } ∷ []) exchanges
-    → AnswersInTurn no_maps Mail exchanges known log → ⊥
-long_reply known log [] sent answered = sent
-long_reply known log (one ∷ exchanges) sent answered =
-    let len : length one.call ≡ 8193 = ap (λ (l : List ℕ). length l) sent.1 ∙ too_long in
-    let long : exceeds Mail (length one.call) ≡ true = ap (λ (n : ℕ). nat_lt 8192 n) len in
-    let none : one.reply ≡ None = nothing_back (exceeds Mail (length one.call)) (reply Mail (maps_on no_maps answered.0) one.caller one.call)
-    one.reply answered.0 answered.1 long answered.4 in
-    let some : Some (null_reply 7) ≡ None = sent.2 ∙ none in cc
-
 -- an answer to a datagram of 8,193 bytes
 pub mail_too_long : IsWrong long_datagram
 mail_too_long begun log replies =
-    let mails = replies.datagrams.0 in long_reply begun log mails.exchanges mails.sent mails.answered
+    let on = replies.datagrams.0 in
+    let behind = on.holds in
+    let gets = behind.holds in
+    let long : exceeds Mail (length long_call) ≡ true = ap (λ (n : ℕ). nat_lt 8192 n) too_long in
+    let none : gets.0 ≡ None = nothing_back (exceeds Mail (length long_call)) (reply Mail (maps_on no_maps on.log) somebody long_call)
+    gets.0 on.log behind.log long gets.1 in
+    let some : Some (null_reply 7) ≡ None = gets.2 ∙ none in cc
 
 -- ---- two datagrams about one map
 
-matched_on : (log : Log) (order value : ℕ) → shown 0 log ≡ Some (version_with order value)
+pub matched_on : (log : Log) (order value : ℕ) → shown 0 log ≡ Some (version_with order value)
     → answer Mail (maps_on own_map log) low_caller match_call ≡ Bytes (match_reply value)
 unfolding word_at content_at opaque_at fixed opaque
 matched_on log order value is = rw is refl
@@ -138,109 +129,94 @@ by_text : (front : Log) → OfText (shown 0 front) → answer Mail (maps_on own_
 by_text front is =
     matched_made front is.0.order is.0.master is.0.secure (is.1 ∙ ap (λ (v : MapVersion). Some v) (same_version is.0 is.2))
 
-asked_so : (front : Log) (one : Exchange) → one.caller ≡ low_caller → one.call ≡ match_call
-    → answer Mail (maps_on own_map front) one.caller one.call ≡ answer Mail (maps_on own_map front) low_caller match_call
-asked_so front one caller call =
-    ap (λ (p : Peer). answer Mail (maps_on own_map front) p one.call) caller
-    ∙ ap (λ (m : List ℕ). answer Mail (maps_on own_map front) low_caller m) call
-
-differ : (value other : ℕ) (reply : Option (List ℕ)) → Some (match_reply value) ≡ reply → reply ≡ Some (match_reply other) → value ≡ other
+pub differ : (value other : ℕ) (reply : Option (List ℕ)) → Some (match_reply value) ≡ reply → reply ≡ Some (match_reply other) → value ≡ other
 differ value other reply sent replied = ap (λ (o : Option (List ℕ)). slice_index (unwrap_or o []) 32) (sent ∙ replied)
 
 abbrev back_world : List (List Datagram)
 back_world = (matched_mail 119 ∷ matched_mail 118 ∷ []) ∷ []
 
-going_back : (begun log : Log) → IsPublishedLog (mails_world back_world) begun log → (exchanges : List Exchange)
-    → AreSent (matched_mail 119 ∷ matched_mail 118 ∷ []) exchanges → AnswersInTurn own_map Mail exchanges begun log → ⊥
-going_back begun log published [] sent answered = sent
-going_back begun log published (one ∷ []) sent answered = sent.3
-going_back begun log published (one ∷ two ∷ three ∷ more) sent answered = sent.3.3
-going_back begun log published (one ∷ two ∷ []) sent answered =
-    let front = answered.0 in
-    let behind = answered.5 in
-    let on = front_then front answered.1 behind.0 answered.3 behind.2 in
-    let goes = front_then behind.0 behind.1 log behind.3 behind.5 in
-    elim (either back_world begun log published front answered.2 (front_then front behind.0 log on goes)) [
+going_back : (begun log : Log) → IsPublishedLog (mails_world back_world) begun log
+    → AreServed own_map begun log (matched_mail 119 ∷ matched_mail 118 ∷ []) → ⊥
+going_back begun log published served =
+    let front = served.log in
+    let next = served.holds in
+    let one = next.holds in
+    let behind = one.4 in
+    let later_on = behind.holds in
+    let two = later_on.holds in
+    let on = front_then front next.log behind.log next.begins behind.begins in
+    elim (either back_world begun log published front served.begins served.goes_on) [
       | inl first ↦
-          let back : one.reply ≡ Some (match_reply 118) =
-          replied (answer Mail (maps_on own_map front) one.caller one.call) (match_reply 118) one.reply front answered.1
-          (asked_so front one sent.0 sent.1 ∙ matched_on front 7 118 first) answered.4 in
-          let e : 119 ≡ 118 = differ 119 118 one.reply sent.2 back in omega (arith, e)
+          let back : one.0 ≡ Some (match_reply 118) =
+          replied (answer Mail (maps_on own_map front) low_caller match_call) (match_reply 118) one.0 front next.log
+          (matched_on front 7 118 first) one.1 in
+          let e : 119 ≡ 118 = differ 119 118 one.0 one.2 back in omega (arith, e)
       | inr text ↦
-          let next = later back_world begun log published front behind.0 answered.2 on goes text in
-          let back : two.reply ≡ Some (match_reply 119) =
-          replied (answer Mail (maps_on own_map behind.0) two.caller two.call) (match_reply 119) two.reply behind.0 behind.1
-          (asked_so behind.0 two sent.3.0 sent.3.1 ∙ by_text behind.0 next) behind.4 in
-          let e : 118 ≡ 119 = differ 118 119 two.reply sent.3.2 back in omega (arith, e)
+          let shows = later back_world begun log published front behind.log served.begins on behind.goes_on text in
+          let back : two.0 ≡ Some (match_reply 119) =
+          replied (answer Mail (maps_on own_map behind.log) low_caller match_call) (match_reply 119) two.0 behind.log later_on.log
+          (by_text behind.log shows) two.1 in
+          let e : 118 ≡ 119 = differ 118 119 two.0 two.2 back in omega (arith, e)
     ]
 
 -- the second of two datagrams at one inbox is told what was shown before
 pub mail_goes_back : IsWrong (mails_world back_world)
-mail_goes_back begun log replies =
-    let mails = replies.datagrams.0 in
-    going_back begun log replies.published mails.exchanges mails.sent mails.answered
+mail_goes_back begun log replies = going_back begun log replies.published replies.datagrams.0
 
 -- ---- a right one
 
 abbrev two_ends : List (List Datagram)
 two_ends = (matched_mail 118 ∷ matched_mail 119 ∷ []) ∷ (matched_mail 118 ∷ []) ∷ []
 
-made : IsBuilt (mails_world two_ends) 0 first_log (version_with 8 119)
-made = record { moment = 8; master = refl; of_own = refl; order = refl; rows = λ none. one_listed (107 ∷ [], 119 ∷ []) }
+-- a version was made of the text
+pub made : (mails : List (List Datagram)) → IsPublishedLog (mails_world mails) first_log made_log
+made mails = record {
+  first = Some (version_with 7 118) ∷ [];
+  stored = (refl, tt);
+  begun_is = refl;
+  more = (0, version_with 8 119) ∷ [];
+  all = refl;
+  new =
+      let built : IsBuilt (mails_world mails) 0 first_log (version_with 8 119) =
+      record { moment = 8; master = refl; of_own = refl; order = refl; rows = λ none. one_listed (107 ∷ [], 119 ∷ []) } in
+      (inl built, tt);
+}
 
-abbrev exchanged : ℕ → Exchange
-exchanged value = record { caller = low_caller; call = match_call; reply = Some (match_reply value) }
-
-reply_on : (log : Log) (order value : ℕ) → shown 0 log ≡ Some (version_with order value)
+pub reply_on : (log : Log) (order value : ℕ) → shown 0 log ≡ Some (version_with order value)
     → IsReply (answer Mail (maps_on own_map log) low_caller match_call) (Some (match_reply value)) log log
 reply_on log order value is =
     subst (λ (r : Response). IsReply r (Some (match_reply value)) log log) (sym (matched_on log order value is)) refl
 
+-- a MATCH that is answered in its turn on this log, before more
+pub matched_before : (value : ℕ) (known front : Log) (mails : List Datagram) → IsFront known front → IsFront front made_log
+    → IsReply (answer Mail (maps_on own_map front) low_caller match_call) (Some (match_reply value)) front front
+    → AreServed own_map front made_log mails → AreServed own_map known made_log (matched_mail value ∷ mails)
+matched_before value known front mails begins goes replied more = record {
+  log = front;
+  begins = begins;
+  goes_on = goes;
+  holds = record {
+    log = front;
+    begins = front_self front;
+    goes_on = goes;
+    holds = (Some (match_reply value), replied, refl, λ late. absurd cc, more);
+  };
+}
+
+-- the first log is a front of the one with what was made
+pub grown : IsFront first_log made_log
+grown = ((0, version_with 8 119) ∷ [], refl)
+
 pub two_inboxes : Replies (mails_world two_ends) first_log made_log
 two_inboxes = record {
-  published = record {
-    first = Some (version_with 7 118) ∷ [];
-    stored = (refl, tt);
-    begun_is = refl;
-    more = (0, version_with 8 119) ∷ [];
-    all = refl;
-    new = (inl made, tt);
-  };
+  published = made two_ends;
   rises = λ number. two_rise (0 == number);
   connections = tt;
   datagrams = (
-    record {
-      exchanges = exchanged 118 ∷ exchanged 119 ∷ [];
-      sent = (refl, refl, refl, (refl, refl, refl, tt));
-      answered = (
-        first_log,
-        first_log,
-        front_self first_log,
-        front_self first_log,
-        reply_on first_log 7 118 refl,
-        (
-          made_log,
-          made_log,
-          ((0, version_with 8 119) ∷ [], refl),
-          front_self made_log,
-          reply_on made_log 8 119 refl,
-          front_self made_log,
-        ),
-      );
-    },
+    matched_before 118 first_log first_log (matched_mail 119 ∷ []) (front_self first_log) grown (reply_on first_log 7 118 refl)
+        (matched_before 119 first_log made_log [] grown (front_self made_log) (reply_on made_log 8 119 refl) (front_self made_log)),
     (
-      record {
-        exchanges = exchanged 118 ∷ [];
-        sent = (refl, refl, refl, tt);
-        answered = (
-          first_log,
-          first_log,
-          front_self first_log,
-          front_self first_log,
-          reply_on first_log 7 118 refl,
-          ((0, version_with 8 119) ∷ [], refl),
-        );
-      },
+      matched_before 118 first_log first_log [] (front_self first_log) grown (reply_on first_log 7 118 refl) grown,
       tt,
     ),
   );

@@ -27,9 +27,9 @@ use Rattle.yp_answer.specs.Reply.{Response, Bytes, reply}
 use Rattle.yp_headline.specs.inside.Tried.{somebody, IsWrong, version_with, match_call, match_reply, one_map, one_match, first_log}
 use Rattle.yp_headline.specs.World.{World, Connection, Store, Given, Dialed}
 use Rattle.yp_headline.specs.Publishing.{IsAmong, IsNew, StoreHas, IsPublishedLog}
-use Rattle.yp_headline.specs.Serving.{Exchange, sent_over, IsReply, AnswersInTurn}
+use Rattle.yp_headline.specs.Serving.{Exchange, IsReply, AnswersInTurn}
 use Rattle.yp_headline.specs.Headline.{Replies}
-use Rattle.yp_headline.proofs.Runs.{front_self}
+use Rattle.yp_headline.proofs.Runs.{front_self, sent_over}
 use Rattle.yp_headline.proofs.Wrong.{whole_is, replied}
 use Rattle.yp_headline.proofs.Torn.{no_server}
 

@@ -102,9 +102,9 @@ module _ {S K D C A I T : Type 0} (seen : Seeing S K D C A I T) (read : ReadIsBo
       λ h h' n now was is netgroups moment_is held stood.
       revnet_holds seen name store s old new does.0.0 h h' n now was is netgroups moment_is held stood
   commanded (Serve own port workers connections count stores hosts log) s old new door door' before after logged does =
-      λ hosted closed inboxes wires tell.
+      λ hosted closed inboxes out wires tell.
       serve_holds seen read shown between (serve_job_of own connections count stores hosts log) s old new door door' logged does.0 hosted closed
-      inboxes wires tell
+      inboxes out wires tell
   commanded _ s old new door door' before after logged does = tt
 
   unbuilt : (name : List ℕ) (store : Name) (reading : Reading) (s : Status) (old new : Office S K D C A I T) → s ≡ status.NoMemory → new ≡ old
@@ -156,7 +156,7 @@ module _ {S K D C A I T : Type 0} (seen : Seeing S K D C A I T) (read : ReadIsBo
         crashes = untouched name store (λ name. None) reading_of [] h held stood h' (tells_stored s) same (ap tells_stored none);
       }
   forgone (Serve own port workers connections count stores hosts log) s old new door door' none stays =
-      λ hosted closed inboxes wires tell. absurd (let e : false ≡ true = sym (ap was_hosted none) ∙ hosted in cc)
+      λ hosted closed inboxes out wires tell. absurd (let e : false ≡ true = sym (ap was_hosted none) ∙ hosted in cc)
   forgone _ s old new door door' none stays = tt
 
   pub run_holds : RunHolds seen

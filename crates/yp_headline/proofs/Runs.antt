@@ -1,5 +1,6 @@
 -- A session's run is a connection that was served.
 use Rattle.std.proofs.Common.{◌≡◌, ℕ, Bool, true, false, List, [], ◌∷◌, ◌++◌, map, take, drop, Option, Some, None, refl, sym, ap, ◌∙◌, subst, inl, inr, append_assoc}
+use Rattle.std.specs.Prelude.{flat_map}
 use Rattle.std.specs.List.{AllByRecursion}
 use Rattle.std.specs.Io.KnownBytes.{Appends, Consumes, IsAtEnd}
 use Rattle.std.proofs.lemmas.List.{append-nil, append_cancel_left, take-append-drop, map-append}
@@ -25,7 +26,7 @@ use Rattle.yp_answer.specs.session.Wires.{Wire, SinkTells}
 use Rattle.yp_answer.specs.session.Runs.{Dialogue, Chain, Runs, sent_reply}
 use Rattle.yp_headline.specs.Publishing.{IsAmong}
 use Rattle.yp_headline.specs.inside.Files.{is_cut}
-use Rattle.yp_headline.specs.Serving.{Exchange, IsPublished, IsReply, AnswersInTurn, BeginsWith, sent_over, IsServed}
+use Rattle.yp_headline.specs.Serving.{Exchange, IsPublished, IsReply, AnswersInTurn, BeginsWith, IsServed}
 
 -- nothing is among none
 pub none_among : {A : Type 0} (item : A) → IsAmong [] item → ⊥
@@ -36,6 +37,10 @@ none_among item (one ∷ front, back, is) = cc
 
 abbrev pub exchange_of : Peer → Turn → Exchange
 exchange_of peer turn = record { caller = peer; call = turn.message; reply = turn.answer }
+
+-- what is sent for them
+abbrev pub sent_over : List Exchange → List ℕ
+sent_over exchanges = flat_map (λ one. sent_reply one.reply) exchanges
 
 abbrev pub exchanges_of : Peer → List Turn → List Exchange
 exchanges_of peer turns = map (exchange_of peer) turns

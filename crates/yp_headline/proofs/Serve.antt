@@ -9,7 +9,7 @@ use Rattle.yp_io.specs.Dials.{Connected, Wires}
 use Rattle.yp_version.specs.Versions.{MapVersion}
 use Rattle.yp_map_file.specs.inside.Laws.{ReadIsBody}
 use Rattle.yp_board.specs.Catalogues.{Name, name_view}
-use Rattle.yp_board.specs.Views.{Refreshes}
+use Rattle.yp_board.specs.Views.{Seen, Refreshes}
 use Rattle.yp_board.specs.Logs.{Log, starts}
 use Rattle.yp_publisher.specs.Standing.{StoredMap, OfMap, versions}
 use Rattle.yp_publisher.specs.Grown.{Making, IsShownOrMade, LeavesByFronts, OrAsBefore, AtDisk, AreTold}
@@ -25,6 +25,8 @@ use Rattle.yp_worker.specs.Receptions.{terms_of}
 use Rattle.yp_worker.specs.Summing.{WorkerRun, ends_of, TellsClosed}
 use Rattle.yp_answer.specs.declared.session.session.TheConstants.{CALLS_MAX}
 use Rattle.yp_answer.specs.Make.{job_of}
+use Rattle.yp_answer.specs.session.Hosts.{Conduct}
+use Rattle.yp_host.specs.workers.Workers.{WorkerState}
 use Rattle.yp_host.specs.declared.workers.charges.Counted.{Counted}
 use Rattle.yp_host.specs.workers.Charges.{counted_of, nothing_counted}
 use Rattle.yp_host.specs.workers.Desks.{texts_alone}
@@ -54,10 +56,10 @@ use Rattle.yp_headline.proofs.Built.{made_built}
 use Rattle.yp_headline.proofs.Stores.{told_input, stores_have, left_at, end_at, by_wire, zip_length, is_published, stands_by, left_of_map}
 use Rattle.yp_headline.proofs.Moments.{since_before}
 use Rattle.yp_headline.proofs.Server.{ConnectionsAreServed, all_served}
-use Rattle.yp_headline.proofs.Mail.{IsOfMails, InboxesAreServed, boxes_served}
+use Rattle.yp_headline.proofs.Mail.{IsOfMails, taken_by, MailsAreServed, boxes_served}
 use Rattle.yp_headline.proofs.Letters.{letters_told}
 use Rattle.yp_headline.proofs.Carrying.{IsOfCall, runs_tell}
-use Rattle.yp_headline.proofs.Awaiting.{inboxes_serve, inboxes_tell}
+use Rattle.yp_headline.proofs.Awaiting.{inboxes_tell}
 use Rattle.yp_headline.proofs.CalledBack.{all_asked_for}
 
 -- ---- connections and datagrams
@@ -125,7 +127,7 @@ module _ {D : Type 0} (history : D → Option History) (faults : D → ℕ) (P :
 module _ {S K D C A I T : Type 0} (seen : Seeing S K D C A I T) (job : Job) (s : Status) (old new : Office S K D C A I T)
     (door door' : DoorTells) (logged : List ℕ) (does : ServeDoes seen job s old new door door' logged)
     (serves : ServesMaps seen job s old new door door' logged) (closed : List ClosedConnection) (inboxes : List Heard)
-    (wires : List Connected) (tell : AllTell seen old new door door' closed inboxes wires) where
+    (out : Heard) (wires : List Connected) (tell : AllTell seen old new door door' closed inboxes out wires) where
   abbrev olds : List D
   olds = disks_of old.disks.items
 
@@ -163,21 +165,27 @@ module _ {S K D C A I T : Type 0} (seen : Seeing S K D C A I T) (job : Job) (s :
 
   abbrev counts : CountsAll (conduct (setup seen job old)) count_told (terms_of (catalogue_of job) begun CALLS_MAX)
       door.listen door'.listen serves.hosted.tally.calls log job.turns serves.hosted.inbox_fault ((place seen old door).boxes)
-      ((place seen new door').boxes)
+      ((place seen new door').boxes) ((place seen old door).out) ((place seen new door').out)
       (record { totals = serves.hosted.totals; told = serves.is_hosted.served.accounted.counted.told })
   counts = serves.is_hosted.served.accounted.counted.counted
 
+  abbrev its : Conduct (WorkerState Seen)
+  its = conduct (setup seen job old)
+
+  -- what datagrams took
+  abbrev taken : List Awaited
+  taken = taken_by (catalogue_of job) begun log (may_lose s) its count_told job.turns counts.of_datagrams.failed
+      ((place seen old door).boxes) ((place seen new door').boxes) counts.of_datagrams.left counts.datagrams
+      counts.of_datagrams.each
+
   -- what the inboxes told
-  inboxes_served : InboxesAreServed (catalogue_of job) begun log (may_lose s) counts.of_datagrams.left inboxes
+  inboxes_served : MailsAreServed (catalogue_of job) begun log (may_lose s) its count_told taken inboxes out
   inboxes_served =
-      let serve = inboxes_serve (conduct (setup seen job old)) count_told (catalogue_of job) begun log job.turns
-      serves.hosted.inbox_fault ((place seen old door).boxes) ((place seen new door').boxes) counts.transfers counts.datagrams
-      counts.of_datagrams in
-      subst (λ (l : List Awaited). InboxesAreServed (catalogue_of job) begun log (may_lose s) l inboxes) serve.1
-      (boxes_served (conduct (setup seen job old)) counted_of (catalogue_of job) begun log job.turns
-      serves.hosted.inbox_fault (may_lose s) ((place seen old door).boxes) ((place seen new door').boxes)
-      (may_have_lost serves.hosted s (output seen old) (output seen new) serves.tells) serve.0
-      inboxes tell.hears tell.hears_at_last)
+      boxes_served (catalogue_of job) begun log (may_lose s) its count_told job.turns serves.hosted.inbox_fault
+      ((place seen old door).boxes) ((place seen new door').boxes) ((place seen old door).out) ((place seen new door').out)
+      counts.datagrams counts.deferred
+      (may_have_lost serves.hosted s (output seen old) (output seen new) serves.tells) counts.of_datagrams
+      inboxes tell.hears tell.hears_at_last out tell.hears_out tell.hears_out_at_last
 
   module _ (connections : List Connection) (datagrams : List (List Datagram)) where
     abbrev world : World
@@ -301,23 +309,24 @@ module _ {S K D C A I T : Type 0} (seen : Seeing S K D C A I T) (job : Job) (s :
 
     -- whom the workers told what
     called_back : ReadIsBody → FetchedIsShown → ShownBetween
-        → AllByRecursion (IsOfMails (catalogue_of job) begun log datagrams) counts.of_datagrams.left → CallBacks world begun log
-    called_back read shown between left =
+        → AllByRecursion (IsOfMails (catalogue_of job) begun log datagrams) taken → CallBacks world begun log
+    called_back read shown between took =
         let told = serves.is_hosted.served.accounted.counted in
-        let its = setup seen job old in
+        let of = setup seen job old in
         let runs = counts.of_connections.worker_runs in
-        let by_runs = runs_tell (λ reader. reader) Refreshes its.text its.hosts world begun log CALLS_MAX tell.calls door.listen.past
+        let by_runs = runs_tell (λ reader. reader) Refreshes of.text of.hosts world begun log CALLS_MAX tell.calls door.listen.past
         tell.listens refl tell.coming runs nothing_counted counts.of_connections.work tt in
-        let by_connections = subst (λ (c : Counted). AllByRecursion (IsOfCall world its.hosts begun log) c.told)
+        let by_connections = subst (λ (c : Counted). AllByRecursion (IsOfCall world of.hosts begun log) c.told)
         (sym counts.of_connections.sum_is) by_runs in
-        let by_all = inboxes_tell (λ reader. reader) Refreshes its.text its.hosts world begun log job.turns serves.hosted.inbox_fault
-        ((place seen old door).boxes) ((place seen new door').boxes) counts.transfers counts.datagrams counts.of_datagrams left
-        counts.connections by_connections in
-        let are : AllByRecursion (IsOfCall world its.hosts begun log) told.told =
-        subst (λ (c : Counted). AllByRecursion (IsOfCall world its.hosts begun log) c.told) (sym counts.all_is) by_all in
-        all_asked_for world its.hosts begun log (seen.dial.past old.dial) (seen.dial.past new.dial)
+        let by_all = inboxes_tell (λ reader. reader) Refreshes of.text of.hosts world begun log (may_lose s) job.turns
+        serves.hosted.inbox_fault ((place seen old door).boxes) ((place seen new door').boxes) ((place seen old door).out)
+        ((place seen new door').out) counts.datagrams counts.deferred counts.of_datagrams took counts.connections
+        by_connections in
+        let are : AllByRecursion (IsOfCall world of.hosts begun log) told.told =
+        subst (λ (c : Counted). AllByRecursion (IsOfCall world of.hosts begun log) c.told) (sym counts.all_is) by_all in
+        all_asked_for world of.hosts begun log (seen.dial.past old.dial) (seen.dial.past new.dial)
         (given_of read shown between) told.told are told.came told.posted told.same world.posted
-        (letters_told its.hosts (catalogue_of job).maps told.posted ((place seen old door).supply.dial)
+        (letters_told of.hosts (catalogue_of job).maps told.posted ((place seen old door).supply.dial)
         ((place seen new door').supply.dial) told.used)
 
 served_maps : {S K D C A I T : Type 0} (seen : Seeing S K D C A I T) (job : Job) (s : Status) (old new : Office S K D C A I T)
@@ -331,21 +340,22 @@ served_maps seen job _ old new door door' logged hosted serves = absurd cc
 
 pub serve_holds : {S K D C A I T : Type 0} (seen : Seeing S K D C A I T) → ReadIsBody → FetchedIsShown → ShownBetween
     → ServeHolds seen
-serve_holds seen read shown between job s old new door door' logged does hosted closed inboxes wires tell =
+serve_holds seen read shown between job s old new door door' logged does hosted closed inboxes out wires tell =
     let serves = served_maps seen job s old new door door' logged hosted does.serves in
-    let called = connections_served seen job s old new door door' logged does serves closed inboxes wires tell in
-    let heard = inboxes_served seen job s old new door door' logged does serves closed inboxes wires tell in
+    let called = connections_served seen job s old new door door' logged does serves closed inboxes out wires tell in
+    let heard = inboxes_served seen job s old new door door' logged does serves closed inboxes out wires tell in
     record {
       connections = called.connections;
       are_closed = called.are;
       datagrams = heard.datagrams;
       are_heard = heard.are;
+      are_late = heard.late;
       begun = starts 0 (versions serves.is_hosted.maps);
       log = serves.is_hosted.served.log;
-      replies = replies seen job s old new door door' logged does serves closed inboxes wires tell called.connections
+      replies = replies seen job s old new door door' logged does serves closed inboxes out wires tell called.connections
           heard.datagrams called.served heard.served;
-      crashes = crashes seen job s old new door door' logged does serves closed inboxes wires tell called.connections
+      crashes = crashes seen job s old new door door' logged does serves closed inboxes out wires tell called.connections
           heard.datagrams;
-      called_back = called_back seen job s old new door door' logged does serves closed inboxes wires tell called.connections
+      called_back = called_back seen job s old new door door' logged does serves closed inboxes out wires tell called.connections
           heard.datagrams read shown between heard.took;
     }

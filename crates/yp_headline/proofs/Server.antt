@@ -21,9 +21,9 @@ use Rattle.yp_worker.specs.Working.{deeds_of}
 use Rattle.yp_worker.specs.Receptions.{Terms}
 use Rattle.yp_worker.specs.Summing.{Counting, ServedConnection, WorkerRun, IsWorkerRun, WasServed, IsOver, ends_of}
 use Rattle.yp_headline.specs.World.{Connection}
-use Rattle.yp_headline.specs.Serving.{BeginsWith, sent_over, IsServed}
+use Rattle.yp_headline.specs.Serving.{BeginsWith, IsServed}
 use Rattle.yp_headline.specs.inside.Server.{IsToldClosed, IsOfClosed}
-use Rattle.yp_headline.proofs.Runs.{exchanges_of, all_callers, taken, ended}
+use Rattle.yp_headline.proofs.Runs.{sent_over, exchanges_of, all_callers, taken, ended}
 use Rattle.yp_headline.proofs.Steps.{of_steps, had_answered}
 
 -- ---- the bytes of a conversation

@@ -42,38 +42,44 @@ all_so P Q then (one ∷ items) all = (then one all.0, all_so P Q then items all
 
 -- ---- what weighs the same
 
+-- what an item weighs that passes a test, or doesn't
+abbrev pub passes : {A : Type 0} → (A → Bool) → A → ℕ
+passes test = λ a. cond (test a) 1 0
+
+-- one of items that passes a test, where some weigh for it
+pub found_where : {A : Type 0} (test : A → Bool) (items : List A) → 0 < weigh (passes test) items
+    → (b : A) × IsAmong items b × (test b ≡ true)
+found_where test [] some = absurd (omega (arith, some))
+found_where {A} test (x ∷ items) some = elim (cases_Bool (test x)) [
+  | inl is ↦ (x, ([], items, refl), is)
+  | inr not ↦
+      let none : passes test x ≡ 0 = ap (λ (b : Bool). cond b 1 0) not in
+      let rest = found_where test items (omega (arith, none, some)) in (
+        rest.0,
+        (x ∷ rest.1.0, rest.1.1, ap (λ (l : List A). x ∷ l) rest.1.2),
+        rest.2,
+      )
+]
+
 module _ {A : Type 0} (same : A → A → Bool) (self : (a : A) → same a a ≡ true) where
   abbrev weight : A → A → ℕ
-  weight a b = cond (same a b) 1 0
+  weight a = passes (same a)
 
   some_weight : (a : A) (front back : List A) → 0 < weigh (weight a) (front ++ a ∷ back)
   some_weight a [] back =
       let one : weight a a ≡ 1 = ap (λ (b : Bool). cond b 1 0) (self a) in omega (arith, one)
   some_weight a (x ∷ front) back = let more = some_weight a front back in omega (arith, more)
 
-  found : (a : A) (items : List A) → 0 < weigh (weight a) items → (b : A) × IsAmong items b × (same a b ≡ true)
-  found a [] some = absurd (omega (arith, some))
-  found a (x ∷ items) some = elim (cases_Bool (same a x)) [
-    | inl is ↦ (x, ([], items, refl), is)
-    | inr not ↦
-        let none : weight a x ≡ 0 = ap (λ (b : Bool). cond b 1 0) not in
-        let rest = found a items (omega (arith, none, some)) in (
-          rest.0,
-          (x ∷ rest.1.0, rest.1.1, ap (λ (l : List A). x ∷ l) rest.1.2),
-          rest.2,
-        )
-  ]
-
   pub weighed : (these those : List A) → WeighTheSame these those → (a : A) → IsAmong these a
       → (b : A) × IsAmong those b × (same a b ≡ true)
   weighed these those as_much a among =
       let here : 0 < weigh (weight a) these =
       subst (λ (l : List A). 0 < weigh (weight a) l) (sym among.2) (some_weight a among.0 among.1) in
-      found a those (subst (λ (n : ℕ). 0 < n) (as_much (weight a)) here)
+      found_where (same a) those (subst (λ (n : ℕ). 0 < n) (as_much (weight a)) here)
 
 -- ---- tests
 
-bytes_self : (bytes : List ℕ) → bytes_eq bytes bytes ≡ true
+pub bytes_self : (bytes : List ℕ) → bytes_eq bytes bytes ≡ true
 bytes_self bytes = (bytes_eq-Decides bytes bytes).1 refl
 
 pub number_self : (n : ℕ) → (n == n) ≡ true
@@ -82,7 +88,7 @@ number_self n = elim (eqb_tells n n) [
   | inr differ ↦ absurd (differ.1 refl)
 ]
 
-same_bytes : (a b : List ℕ) → bytes_eq a b ≡ true → a ≡ b
+pub same_bytes : (a b : List ℕ) → bytes_eq a b ≡ true → a ≡ b
 same_bytes a b is = (bytes_eq-Decides a b).0 is
 
 pub same_number : (a b : ℕ) → (a == b) ≡ true → a ≡ b

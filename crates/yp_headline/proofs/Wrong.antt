@@ -17,8 +17,9 @@ use Rattle.yp_answer.specs.Reply.{Response, Bytes, reply}
 use Rattle.yp_headline.specs.inside.Tried.{null_call, null_reply, somebody, no_maps, one_connection, IsWrong, one_datagram}
 use Rattle.yp_headline.specs.World.{Connection}
 use Rattle.yp_headline.specs.Answering.{answer}
-use Rattle.yp_headline.specs.Serving.{Exchange, BeginsWith, sent_over, IsReply, AnswersInTurn, IsServed, AreSent}
+use Rattle.yp_headline.specs.Serving.{Exchange, BeginsWith, IsReply, AnswersInTurn, IsServed}
 use Rattle.yp_headline.specs.Headline.{Replies}
+use Rattle.yp_headline.proofs.Runs.{sent_over}
 
 -- ---- calls that ask for nothing
 
@@ -129,21 +130,15 @@ no_reply catalogue known log (one ∷ more) calls = absurd cc
 
 -- ---- replies: the worlds
 
-mail_reply : (known log : Log) (back : Option (List ℕ)) (exchanges : List Exchange)
-    → AreSent (record { peer = somebody; came = null_call 7; sent = back; lost = false } ∷ []) exchanges
-    → AnswersInTurn no_maps Mail exchanges known log → back ≡ Some (null_reply 7)
-mail_reply known log back [] sent_are answered = absurd sent_are
-mail_reply known log back (one ∷ two ∷ more) sent_are answered = absurd sent_are.3
-mail_reply known log back (one ∷ []) sent_are answered =
-    sent_are.2 ∙ replied (answer Mail (maps_on no_maps answered.0) one.caller one.call) (null_reply 7) one.reply answered.0
-    answered.1 (ap (λ (m : List ℕ). answer Mail (maps_on no_maps answered.0) one.caller m) sent_are.1
-    ∙ mailed no_maps answered.0 one.caller) answered.4
-
 -- what a datagram gets is its reply
 mailed_back : (back : Option (List ℕ)) (begun log : Log) → Replies (one_datagram back) begun log
     → back ≡ Some (null_reply 7)
 mailed_back back begun log replies =
-    let mails = replies.datagrams.0 in mail_reply begun log back mails.exchanges mails.sent mails.answered
+    let on = replies.datagrams.0 in
+    let behind = on.holds in
+    let gets = behind.holds in
+    gets.2 ∙ replied (answer Mail (maps_on no_maps on.log) somebody (null_call 7)) (null_reply 7) gets.0 on.log behind.log
+    (mailed no_maps on.log somebody) gets.1
 
 module _ (one : CutIsOne) where
   -- what is sent for one call is its reply

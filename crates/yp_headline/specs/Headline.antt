@@ -12,7 +12,7 @@ use Rattle.yp_headline.specs.Calling.{IsCalledBack, IsAskedFor}
 use Rattle.yp_headline.specs.Storing.{stood_for}
 
 -- Replies. There is one log of published versions, in which the orders of each map rise. Each connection was answered
--- in turn on fronts of it that never go back, from what there was at first; and so were the datagrams of each inbox.
+-- in turn on fronts of it that never go back, from what there was at first; and so was each inbox, but for late makes.
 pub record Replies (world : World) (begun log : Log) : Type 0 where
   pub published : IsPublishedLog world begun log
   pub rises : IsRisingLog log

@@ -1,5 +1,4 @@
--- What the bytes of a map's file stand for: two cells of 32 bytes, and bodies behind them. The layout is this
--- project's own.
+-- What a map's file stands for, in a layout of this project's own: two cells of 32 bytes, and bodies behind them.
 use Rattle.std.specs.Prelude.{ℕ, ◌+◌, zero, suc, Bool, true, ◌&&◌}
 use Rattle.std.specs.Prelude.{◌||◌, ◌==◌, nat_lt, nat_le, if◌then◌else◌, List, [], ◌∷◌}
 use Rattle.std.specs.Prelude.{length, take, drop, slice_index, Option, Some, None, is_none, Result, Ok, Err}

@@ -16,12 +16,13 @@ pub record Connection : Type 0 where
   pub sent : List ℕ
   pub cut : Bool
 
--- a datagram that was served: its sender, what came, what was sent back, or nothing, and whether that was lost
+-- a datagram that was served: its sender, what came, what was sent back, or nothing, and whether that was lost or late
 pub record Datagram : Type 0 where
   pub peer : Peer
   pub came : List ℕ
   pub sent : Option (List ℕ)
   pub lost : Bool
+  pub late : Bool
 
 -- a datagram that was posted, and to whom
 pub record Letter : Type 0 where

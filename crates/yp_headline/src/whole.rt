@@ -5,7 +5,6 @@ ghost use Rattle.yp_command.specs.Words.{Meaning, command_of, disk_names, texts}
 ghost use Rattle.yp_command.specs.office.Disks.{names_of};
 ghost use Rattle.yp_command.specs.office.Seeing.{seeing};
 ghost use Rattle.yp_command_serve.specs.serve.Hosting.{doors_by};
-ghost use Rattle.yp_program.specs.Commands.{office_of, doors_of};
 ghost use Rattle.yp_headline.specs.inside.Running.{CommandHolds};
 
 use crate::laws::run_holds;
@@ -41,11 +40,11 @@ where
     I: Inbox + Send + Drop,
     T: Texts + Send + Drop,
     R: Threads + Wait + RandomSource + time::Clock + Sync,
-    requires disks { names_of outside.disks.items ≡ disk_names (texts words.now) }
+    requires disks { names_of outside.office.disks.items ≡ disk_names (texts words.now) }
     ensures { (meaning : Meaning) → command_of (texts words.now) ≡ Ok meaning
         → CommandHolds (seeing S.Source K.Sink D.Disk C.Clock A.Dial I.Inbox T.Texts) meaning result.0
-        (office_of outside) (office_of result.1)
-        (doors_by L.Hall I.Inbox (doors_of outside)) (doors_by L.Hall I.Inbox (doors_of result.1)) }
+        outside.office result.1.office
+        (doors_by L.Hall I.Inbox outside.doors) (doors_by L.Hall I.Inbox result.1.doors) }
 {
     run_holds::<S, K, D, C, A, I, T>();
     run(alloc, rt, words, outside)

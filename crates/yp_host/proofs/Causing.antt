@@ -18,11 +18,12 @@ use Rattle.yp_publisher.specs.Rising.{PublisherState, with_shown}
 use Rattle.yp_publisher.specs.Keeping.{Keeping}
 use Rattle.yp_publisher.specs.Installs.{Installs}
 use Rattle.yp_publisher.specs.Opens.{Opens}
+use Rattle.yp_publisher.specs.Stats.{slot_stat}
 use Rattle.yp_answer.specs.Causes.{IsAnew, IsCaused, RowIsBad, NetgroupsAreMissing, task_at}
 use Rattle.yp_answer.specs.session.Hosts.{Fulfils, counts_after}
 use Rattle.yp_host.specs.Locals.{Local, Telling}
 use Rattle.yp_host.specs.Anew.{IsUnbuilt}
-use Rattle.yp_host.specs.Making.{open_stat, IsInstallStat, built_offer}
+use Rattle.yp_host.specs.Making.{IsInstallStat, built_offer}
 use Rattle.yp_host.specs.Making.{task_on, Makes, OpensAndTries}
 use Rattle.yp_host.specs.Connections.{local_conduct}
 use Rattle.yp_publisher.proofs.Growing.{opened_front}
@@ -134,7 +135,7 @@ module _ {D B E : Type 0} (keeping : Keeping D B) (telling : Telling E) (job : M
     ]
   ]
 
-  unopened : (fault : SlotFault) → Caused (open_stat fault)
+  unopened : (fault : SlotFault) → Caused (slot_stat fault)
   unopened slot.NoMemory = tt
   unopened slot.DiskFault = tt
   unopened (slot.Damaged at rule) = tt

@@ -2,10 +2,9 @@
 -- built is offered.
 use Rattle.std.specs.Prelude.{◌≡◌, ◌⊎◌, ◌<◌, ℕ, false, length}
 use Rattle.yp_messages.specs.declared.transfer.XfrStat.{XfrStat}
-use Rattle.yp_messages.specs.declared.transfer.XfrStat.TheVariants.{Succ, Rsrc, File}
+use Rattle.yp_messages.specs.declared.transfer.XfrStat.TheVariants.{Succ}
 use Rattle.yp_version.specs.Versions.{MapVersion}
 use Rattle.yp_map_file.specs.declared.fault.SlotFault.{SlotFault}
-use Rattle.yp_map_file.specs.declared.fault.SlotFault.TheVariants as slot
 use Rattle.yp_answer.specs.declared.make.MakeJob.{MakeJob}
 use Rattle.yp_publisher.specs.declared.install.InstallFault.{InstallFault}
 use Rattle.yp_publisher.specs.declared.install.InstallFault.TheVariants as install
@@ -14,33 +13,29 @@ use Rattle.yp_publisher.specs.Standing.{Published}
 use Rattle.yp_publisher.specs.Keeping.{Keeping}
 use Rattle.yp_publisher.specs.Installs.{OfferedVersion, offer, Installs, Refuses}
 use Rattle.yp_publisher.specs.Opens.{Opens, StaysBehind}
+use Rattle.yp_publisher.specs.Stats.{slot_stat, install_stat}
 use Rattle.yp_answer.specs.Causes.{Task, IsAnew, task_at}
 use Rattle.yp_host.specs.Locals.{Local, Telling, IsUsed, LeavesDial}
 use Rattle.yp_host.specs.Anew.{IsUnbuilt}
-
--- the status of a file that isn't opened: FILE, or RSRC for want of memory
-abbrev pub open_stat : SlotFault → XfrStat
-open_stat slot.NoMemory = Rsrc
-open_stat slot.DiskFault = File
-open_stat (slot.Damaged at rule) = File
 
 -- The map was behind and isn't opened, with this status. The status fixes the fault.
 pub record StaysShut {D B : Type 0} (keeping : Keeping D B) (number : ℕ) (stat : XfrStat)
     (old new : Published D B) : Type 0 where
   pub fault : SlotFault
-  pub stat_is : stat ≡ open_stat fault
+  pub stat_is : stat ≡ slot_stat fault
   pub stays : StaysBehind keeping number fault old new
 
 -- a version that was built here, as it is offered
 abbrev pub built_offer : MapVersion → OfferedVersion
 built_offer version = offer version Built false
 
--- the status of a fault: FILE, or RSRC for want of memory; a version that was built for a level map has no other
+-- the status of a fault, FILE, or RSRC for want of memory: a version that was built for a level map, behind what is
+-- shown of it, has no other one
 abbrev pub IsInstallStat : InstallFault → XfrStat → Type 0
-IsInstallStat install.GenerationsSpent stat = stat ≡ File
-IsInstallStat install.DiskFault stat = stat ≡ File
-IsInstallStat install.NoMemory stat = stat ≡ Rsrc
-IsInstallStat _ stat = ⊥
+IsInstallStat install.Behind stat = ⊥
+IsInstallStat (install.Refused master) stat = ⊥
+IsInstallStat (install.Age shown order) stat = ⊥
+IsInstallStat fault stat = stat ≡ install_stat fault
 
 -- A version that was built isn't installed, with this status. The status fixes the fault, with what stands against the
 -- version.

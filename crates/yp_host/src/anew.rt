@@ -4,10 +4,12 @@ ghost use Rattle.std.specs.Prelude.{◌≡◌, ◌⊎◌, ◌<◌, ◌≤◌, �
 ghost use Rattle.std.specs.Prelude.{IfOk, IfErr};
 ghost use Rattle.yp_io.specs.Counts.{HasRisen};
 ghost use Rattle.yp_io.specs.Texts.{text_max};
+ghost use Rattle.yp_board.specs.Logs.{shown};
 ghost use Rattle.yp_texts.specs.After.{other_master, was_secure};
 ghost use Rattle.yp_publisher.specs.declared.install.Origin.TheVariants.{Built};
 ghost use Rattle.yp_publisher.specs.Installs.{offer, not_following};
 ghost use Rattle.yp_host.specs.Locals.{told_of};
+ghost use Rattle.yp_answer.specs.Make.{netgroups_at};
 ghost use Rattle.yp_answer.specs.Causes.{OfText, OfNetgroups, IsAnew};
 ghost use Rattle.yp_answer.specs.inside.Causes.{build_stat};
 ghost use Rattle.yp_host.specs.Anew.{IsUnbuilt};
@@ -16,7 +18,7 @@ ghost use Rattle.yp_host.specs.inside.Anew.{task_from, task_view, netgroups_in, 
 use std::alloc::Global;
 use std::random::RandomSource;
 use yp_answer::{MakeJob, Making};
-use yp_board::Catalog;
+use yp_board::{Catalog, View};
 use yp_io::{Clock, TextFault, Texts};
 use yp_messages::XfrStat;
 use yp_netgroup::reverse::{Field, RevFault, reverse};
@@ -33,6 +35,35 @@ pub struct BuildTask<'a> {
     pub netgroups: Option<&'a Version>,
     /// What is shown of the map.
     pub shown: Option<&'a Version>,
+}
+
+impl<'a> BuildTask<'a> {
+    /// What is made by a job, behind all that a view knows.
+    pub fn of<V: View>(view: &'a V, job: MakeJob) -> BuildTask<'a>
+        requires { job.map < length (V.seen view.now).catalogue.maps }
+        ensures catalogue { result.catalog.now ≡ (V.seen view.now).catalogue }
+        ensures job { result.job ≡ job }
+        ensures netgroups { netgroups_in result
+            ≡ netgroups_at (V.seen view.now).catalogue job (V.seen view.now).known }
+        ensures shown { shown_in result ≡ shown job.map (V.seen view.now).known }
+    {
+        BuildTask {
+            catalog: view.catalog(),
+            job,
+            netgroups: netgroups(view, job),
+            shown: view.held(job.map),
+        }
+    }
+}
+
+/// The version of the netgroups in the domain of a map that a view knows.
+fn netgroups<V: View>(view: &V, job: MakeJob) -> Option<&Version>
+    requires { job.map < length (V.seen view.now).catalogue.maps }
+    ensures { option_map (λ version. version.now) result
+        ≡ netgroups_at (V.seen view.now).catalogue job (V.seen view.now).known }
+{
+    let map = job.netgroups(view.catalog())?;
+    view.held(map)
 }
 
 /// Makes a version of a map. It is marked as the one that is shown.

@@ -36,17 +36,23 @@ pub(crate) fn carry_out<D: Disk, B: Show, A: Dial, T: Texts, C: Clock>(
     ensures catalogue { publisher.new.catalogue ≡ publisher.old.catalogue }
     ensures grown { IsFront (B.log publisher.old.board) (B.log publisher.new.board) }
 {
+    let asked = AskedTransfer {
+        map: job.map,
+        source: job.source,
+        asker: asker_of(job, peer),
+    };
+    transfer_for(alloc, rt, publisher, &mut desk.dial, &desk.hosts, &asked);
+}
+
+/// The caller at `peer` of a transfer job.
+pub(crate) fn asker_of(job: &TransferJob<'_>, peer: Peer) -> Asker
+    ensures { result ≡ asker_of (taken_view job.now) peer }
+{
     let addr = peer.addr;
-    let asker = Asker {
+    Asker {
         addr,
         prog: job.prog,
         port: job.port,
         transid: job.transid,
-    };
-    let asked = AskedTransfer {
-        map: job.map,
-        source: job.source,
-        asker,
-    };
-    transfer_for(alloc, rt, publisher, &mut desk.dial, &desk.hosts, &asked);
+    }
 }

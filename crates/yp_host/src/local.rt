@@ -1,10 +1,8 @@
 //! A host of one thread.
 
-ghost use Rattle.std.specs.Prelude.{◌≡◌, ◌<◌, false, None, length, option_map, OnOk, IfOk, IfErr, IsTrue};
+ghost use Rattle.std.specs.Prelude.{◌≡◌, ◌<◌, false, None, length, OnOk, IfOk, IfErr, IsTrue};
 ghost use Rattle.std.proofs.Common.{ap};
-ghost use Rattle.std.specs.Arc.{arc_value};
 ghost use Rattle.yp_io.specs.Counts.{next_count};
-ghost use Rattle.yp_board.specs.Logs.{shown};
 ghost use Rattle.yp_board.specs.Views.{IsFront};
 ghost use Rattle.yp_publisher.specs.Installs.{offer, not_following};
 ghost use Rattle.yp_publisher.specs.declared.install.Origin.TheVariants.{Built};
@@ -12,7 +10,6 @@ ghost use Rattle.yp_publisher.specs.Standing.{Level, OfMap};
 ghost use Rattle.yp_publisher.specs.Keeping.{keeping_of};
 ghost use Rattle.yp_host.specs.Locals.{seen_of, told_by, IsUsed, LeavesDial};
 ghost use Rattle.yp_host.specs.inside.Locals.{telling_by};
-ghost use Rattle.yp_answer.specs.Make.{netgroups_at};
 ghost use Rattle.yp_answer.specs.Causes.{IsAnew};
 ghost use Rattle.yp_host.specs.Anew.{IsUnbuilt};
 ghost use Rattle.yp_host.specs.Making.{task_on, Tries, Makes, MapIsMade};
@@ -174,55 +171,10 @@ fn build_for<D: Disk, B: Show, A: Dial, T: Texts, C: Clock>(
     ensures desk { IsUsed (telling_by T.Texts C.Clock A.Dial) desk.old desk.new }
     ensures dial { LeavesDial (telling_by T.Texts C.Clock A.Dial) desk.old desk.new }
 {
-    let shown = held(publisher, job.map);
-    let netgroups = netgroups(publisher, job);
-    let task = BuildTask {
-        catalog: publisher.catalog(),
-        job,
-        netgroups,
-        shown,
-    };
+    // What is shown of the map is what is kept of it.
+    let _kept = publisher.shown(job.map);
+    let task = BuildTask::of(publisher, job);
     build_anew(alloc, rt, &mut desk.texts, &mut desk.clock, &task)
-}
-
-/// The version that is shown of the netgroups in the domain of a map.
-fn netgroups<D: Disk, B: Show>(publisher: &Publisher<D, B>, job: MakeJob) -> Option<&Version>
-    requires map { job.map < length publisher.now.catalogue.maps }
-    requires all { length publisher.now.maps ≡ length publisher.now.catalogue.maps }
-    ensures { option_map (λ version. version.now) result
-        ≡ netgroups_at publisher.now.catalogue job (B.log publisher.now.board) }
-{
-    let map = job.netgroups(publisher.catalog())?;
-    held(publisher, map)
-}
-
-/// The version that is shown of a map.
-fn held<D: Disk, B: Show>(publisher: &Publisher<D, B>, map: u32) -> Option<&Version>
-    requires { map < length publisher.now.maps }
-    ensures version { option_map (λ version. version.now) result ≡ shown map (B.log publisher.now.board) }
-    ensures kept { OfMap map publisher.now.maps (λ kept. kept.version ≡ shown map (B.log publisher.now.board)) }
-{
-    match publisher.shown(map) {
-        None => None,
-        Some(version) => Some(&**version),
-    }
-}
-
-/// The version that is shown of a map, with one more owner.
-fn share<D: Disk, B: Show>(
-    publisher: &Publisher<D, B>,
-    map: u32,
-) -> Result<Option<Arc<Version>>, NoMemory>
-    requires { map < length publisher.now.maps }
-    ensures { IfOk result (λ version. option_map arc_value version ≡ shown map (B.log publisher.now.board)) }
-{
-    match publisher.shown(map) {
-        None => Ok(None),
-        Some(version) => match Arc::try_clone(version) {
-            Ok(version) => Ok(Some(version)),
-            Err(_) => Err(NoMemory),
-        },
-    }
 }
 
 impl<D: Disk, B: Show, A: Dial, T: Texts, C: Clock, R: RandomSource + Drop> View
@@ -240,11 +192,11 @@ impl<D: Disk, B: Show, A: Dial, T: Texts, C: Clock, R: RandomSource + Drop> View
     }
 
     fn held(&self, map: u32) -> Option<&Version> {
-        held(&self.publisher, map)
+        self.publisher.held(map)
     }
 
     fn share(&self, map: u32) -> Result<Option<Arc<Version>>, NoMemory> {
-        share(&self.publisher, map)
+        self.publisher.share(map)
     }
 }
 

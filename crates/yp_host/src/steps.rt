@@ -6,15 +6,14 @@ ghost use Rattle.yp_publisher.specs.Standing.{Level, OfMap};
 ghost use Rattle.yp_publisher.specs.Installs.{offer, not_following};
 ghost use Rattle.yp_publisher.specs.Keeping.{keeping_of};
 ghost use Rattle.yp_publisher.specs.Opens.{Opens};
-ghost use Rattle.yp_host.specs.Making.{open_stat, IsInstallStat, StaysShut, built_offer, OffersBuilt};
+ghost use Rattle.yp_host.specs.Making.{StaysShut, OffersBuilt};
 
 use std::alloc::Global;
 use std::random::RandomSource;
 use yp_board::Show;
 use yp_io::Disk;
-use yp_map_file::SlotFault;
 use yp_messages::XfrStat;
-use yp_publisher::{InstallFault, Origin, Publisher};
+use yp_publisher::{Origin, Publisher, slot_stat};
 use yp_version::Version;
 
 /// Opens the file of a map that is behind again. Where that is refused, the status is FILE, or RSRC for want of memory.
@@ -33,9 +32,7 @@ pub(crate) fn reopen<D: Disk, B: Show>(
 {
     match publisher.reopen(alloc, rt, map) {
         Ok(()) => Ok(()),
-        Err(SlotFault::NoMemory) => Err(XfrStat::Rsrc),
-        Err(SlotFault::DiskFault) => Err(XfrStat::File),
-        Err(SlotFault::Damaged { .. }) => Err(XfrStat::File),
+        Err(fault) => Err(slot_stat(fault)),
     }
 }
 
@@ -58,11 +55,6 @@ pub(crate) fn install<D: Disk, B: Show>(
 {
     match publisher.install(alloc, map, version, Origin::Built, false) {
         Ok(_) => Ok(()),
-        Err(InstallFault::NoMemory) => Err(XfrStat::Rsrc),
-        Err(InstallFault::DiskFault) => Err(XfrStat::File),
-        Err(InstallFault::GenerationsSpent) => Err(XfrStat::File),
-        Err(InstallFault::Behind) => unreachable!(),
-        Err(InstallFault::Refused { .. }) => unreachable!(),
-        Err(InstallFault::Age { .. }) => unreachable!(),
+        Err(fault) => Err(fault.stat()),
     }
 }

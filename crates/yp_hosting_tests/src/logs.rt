@@ -145,6 +145,7 @@ static UNTOLD: [Row; 5] = [
         name: "the first line isn't written, and the inbox fails",
         notes: 0,
         inbox: 1,
+        outbox: 0,
         code: 22,
         output: "",
         note: "yp: inbox fault\n",

@@ -2,7 +2,7 @@
 
 use crate::bytes::{FILE, FIRST, MADE, MAKE, NULL, NULL_REPLY, SENDER};
 use crate::given::try_rows_after;
-use yp_stage::{Datagram, FAIR, Row, Words};
+use yp_stage::{Datagram, FAIR, NEVER, Row, Words};
 
 /// NULL and its reply as records.
 const CALL: Words = &["80000028", NULL];
@@ -127,7 +127,7 @@ const UNHEARD: Row = Row {
     ..DATAGRAM
 };
 
-/// The map is made, and nobody is told.
+/// The map is made, and nobody is told, whether the reply leaves from the inbox or late.
 const MADE_UNTOLD: Row = Row {
     name: "the reply to MAKE isn't sent",
     brings: &[Datagram {
@@ -135,6 +135,7 @@ const MADE_UNTOLD: Row = Row {
         bytes: &["00000002", MAKE],
     }],
     inbox: 1,
+    outbox: 0,
     sources: &[("hosts", "10.0.0.1 alpha\n")],
     moment: 100,
     turns: 1,
@@ -166,12 +167,16 @@ static INBOXES: [Row; 7] = [
     },
     MADE_UNTOLD,
     Row {
-        name: "the reply to MAKE is sent, and the next turn fails",
+        name: "the reply to MAKE is sent, and a later turn fails",
+        words: &["serve", "m1", "7001", "1", "1", "3", "lab/hosts.byname"],
         inbox: 2,
+        outbox: NEVER,
         sends: &[Datagram {
             peer: SENDER,
             bytes: &["00000002", MADE],
         }],
+        // The next turn fails behind a letter of the inbox, and the one behind that where the reply is late.
+        turns: NEVER,
         ..MADE_UNTOLD
     },
 ];

@@ -10,7 +10,6 @@ use Rattle.yp_command.specs.declared.office.status.Status.{Status}
 use Rattle.yp_command.specs.office.Seeing.{Seeing}
 use Rattle.yp_command.specs.office.Status.{note}
 use Rattle.yp_command_serve.specs.serve.Hosting.{DoorTells}
-use Rattle.yp_command_serve.specs.serve.Serve.{Job, ServeDoes}
 use Rattle.yp_program.specs.Commands.{AloneDoes, CommandDoes, IsNoted}
 
 pub noted : (status : Status) (logged : List ℕ) (a b c : Option (List ℕ)) (x y z : ℕ) → x ≤ y → y ≤ z
@@ -21,12 +20,6 @@ noted status logged a b c x y z first later here behind = λ fine.
     (behind (λ rose. fine (omega (arith, first, later, rose))))
 
 module _ {S K D C A I T : Type 0} (seen : Seeing S K D C A I T) (status : Status) where
-  -- what was served, of the same office and the same listener
-  pub same_served : (job : Job) (logged : List ℕ) (old was new now : Office S K D C A I T) (a b c d : DoorTells)
-      → old ≡ was → new ≡ now → a ≡ b → c ≡ d → ServeDoes seen job status was now b d logged
-      → ServeDoes seen job status old new a c logged
-  same_served job logged old was new now a b c d p q r s does = rw (p, q, r, s) does
-
   -- a command that serves no listener logs nothing
   pub logs_nothing : (meaning : Meaning) (old new : Office S K D C A I T) (door door' : DoorTells)
       (before after : List Wire) → door' ≡ door → AloneDoes seen meaning status old new before after

@@ -14,7 +14,6 @@ use Rattle.yp_command_serve.specs.Once.{OnceDoes, once_may_end}
 use Rattle.yp_command_serve.specs.Sample.{SampleDoes, sample_may_end}
 use Rattle.yp_command_serve.specs.Session.{SessionDoes, session_may_end}
 use Rattle.yp_command_serve.specs.serve.Hosting.{DoorTells}
-use Rattle.yp_command_serve.specs.declared.serve.serve.Doors.{Doors}
 use Rattle.yp_command_serve.specs.serve.Serve.{ServeDoes, serve_job_of, serve_may_end}
 use Rattle.yp_command_maps.specs.Build.{BuildDoes, LoadDoes, build_may_end}
 use Rattle.yp_command_maps.specs.Check.{CheckDoes, check_may_end}
@@ -30,7 +29,6 @@ use Rattle.yp_program.specs.Asking.{AskDoes, ask_may_end}
 use Rattle.yp_program.specs.Orders.{OrdersDoes}
 use Rattle.yp_program.specs.Transferring.{TransferDoes}
 use Rattle.yp_program.specs.Walking.{WalkingDoes}
-use Rattle.yp_program.specs.declared.program.Outside.{Outside}
 
 -- what a command that serves no listener does to the office and to a witness's wires, with this status
 unfoldable pub AloneDoes : {S K D C A I T : Type 0} → Seeing S K D C A I T → Meaning → Status
@@ -126,18 +124,3 @@ may_end (Orders first others domain) status = ask_may_end status
 abbrev pub MayEnd : Result Meaning ℕ → Status → Type 0
 MayEnd (Ok meaning) status = IsTrue (may_end meaning status)
 MayEnd (Err word) status = status ≡ Usage word
-
--- what a command reaches of the outside
-abbrev pub office_of : {S K D C L A I T : Type 0} → Outside S K D C L A I T → Office S K D C A I T
-office_of outside = record {
-  wire = record { source = outside.input; sink = outside.output };
-  disks = outside.disks;
-  clock = outside.clock;
-  dial = outside.dial;
-  inbox = outside.inbox;
-  texts = outside.texts;
-}
-
--- by what callers come to it
-abbrev pub doors_of : {S K D C L A I T : Type 0} → Outside S K D C L A I T → Doors L I
-doors_of outside = record { listen = outside.listen; more = outside.more }

@@ -13,8 +13,9 @@ mod program;
 mod transferring;
 mod walking;
 
-pub use program::{Outside, run, run_alone, run_command, run_watched, tell};
-pub use yp_command::office::{NamedDisk, Status, named_disks};
+pub use program::{run, run_alone, run_command, run_watched, tell};
+pub use yp_command::office::{NamedDisk, Office, Status, named_disks};
 pub use yp_command::{
     Command, HostWord, KeyValue, ParseFault, connections_of, disk_names, parse, port_of, stores_of,
 };
+pub use yp_command_serve::serve::{Doors, Outside};

@@ -14,7 +14,6 @@ ghost use Rattle.yp_command_serve.specs.serve.Hosting.{doors_by};
 ghost use Rattle.yp_command_serve.specs.serve.Serve.{ServeDoes, serve_may_end};
 ghost use Rattle.yp_command_serve.specs.inside.serve.Serve.{serve_job_view};
 ghost use Rattle.yp_program.specs.Commands.{AloneDoes, CommandDoes, Does, IsNoted, MayEnd, may_end};
-ghost use Rattle.yp_program.specs.Commands.{office_of, doors_of};
 ghost use Rattle.yp_program.specs.inside.Commands.{IsAlone};
 ghost use Rattle.yp_program.specs.inside.Commands.{parse_status};
 
@@ -28,95 +27,13 @@ use std::sync::Wait;
 use std::thread::Threads;
 use std::time;
 use yp_answer::session::Witness;
-use yp_command::office::{NamedDisk, Office, Status};
+use yp_command::office::{Office, Status};
 use yp_command::{Command, ParseFault, ServeJob, parse};
 use yp_command_mail::{ask_mapper, bind_domain, push_map, serve_ports};
 use yp_command_maps::{build_map, check_map, dump_map, load_map, reverse_map};
-use yp_command_serve::serve::{Doors, ServeOutside, serve_maps};
+use yp_command_serve::serve::{Outside, serve_maps};
 use yp_command_serve::{SessionSpec, serve_once, serve_session, tell_sample};
-use yp_io::{Clock, Dial, Disk, Hall, Inbox, Pair, Sink, Source, Texts, Trail, write_all};
-
-/// What the program reaches outside itself.
-#[derive(Drop)]
-pub struct Outside<S, K, D, C, L, A, I, T> {
-    /// What it reads.
-    pub input: S,
-    /// What it writes.
-    pub output: K,
-    /// Where it tells how it ended.
-    pub notes: K,
-    /// The disks of the maps that its words name, in their order.
-    pub disks: Vec<NamedDisk<D>>,
-    /// The clock.
-    pub clock: C,
-    /// What accepts connections at the port that its words name.
-    pub listen: L,
-    /// What opens connections to servers.
-    pub dial: A,
-    /// What receives datagrams at the port that its words name.
-    pub inbox: I,
-    /// Further ends of that port, which receive its datagrams beside it while maps are served. There may be none.
-    pub more: Vec<I>,
-    /// The texts that maps are made of.
-    pub texts: T,
-}
-
-/// What a command reaches, and beside it where it tells how it ended, and what callers come by.
-fn unpack<S, K, D, C, L, A, I, T>(
-    outside: Outside<S, K, D, C, L, A, I, T>,
-) -> (Office<S, K, D, C, A, I, T>, K, Doors<L, I>)
-    ensures office { result.0 ≡ office_of outside }
-    ensures notes { result.1 ≡ outside.notes }
-    ensures doors { result.2 ≡ doors_of outside }
-{
-    let wire = Pair {
-        source: outside.input,
-        sink: outside.output,
-    };
-    let office = Office {
-        wire,
-        disks: outside.disks,
-        clock: outside.clock,
-        dial: outside.dial,
-        inbox: outside.inbox,
-        texts: outside.texts,
-    };
-    let doors = Doors {
-        listen: outside.listen,
-        more: outside.more,
-    };
-    (office, outside.notes, doors)
-}
-
-/// The outside of these, where it is told how the command ended.
-fn finish<S, K: Sink, D, C, L, A, I, T>(
-    status: &Status,
-    office: Office<S, K, D, C, A, I, T>,
-    notes: K,
-    doors: Doors<L, I>,
-) -> Outside<S, K, D, C, L, A, I, T>
-    requires { IsTellable status.now }
-    ensures office { office_of result ≡ office }
-    ensures doors { doors_of result ≡ doors }
-    ensures note { ¬ HasRisen (K.faults notes) (K.faults result.notes)
-        → Appends (K.output notes) (K.output result.notes) (note status.now) }
-    ensures never_falls { K.faults notes ≤ K.faults result.notes }
-{
-    let mut notes = notes;
-    tell(&mut notes, status);
-    Outside {
-        input: office.wire.source,
-        output: office.wire.sink,
-        notes,
-        disks: office.disks,
-        clock: office.clock,
-        listen: doors.listen,
-        dial: office.dial,
-        inbox: office.inbox,
-        more: doors.more,
-        texts: office.texts,
-    }
-}
+use yp_io::{Clock, Dial, Disk, Hall, Inbox, Sink, Source, Texts, Trail, write_all};
 
 /// Does what a command asks for that serves no listener.
 fn obey<S: Source, K: Sink, D: Disk, C: Clock, A: Dial, I: Inbox, T: Texts, W: Witness<S, K>>(
@@ -224,21 +141,22 @@ pub fn run_alone<
 ) -> (Status, Outside<S, K, D, C, L, A, I, T>)
     requires alone { IsAlone (meaning command) }
     requires names { HasNames (meaning command) }
-    requires disks { names_of outside.disks.items ≡ stores_of (meaning command) }
+    requires disks { names_of outside.office.disks.items ≡ stores_of (meaning command) }
     ensures does { AloneDoes (seeing S.Source K.Sink D.Disk C.Clock A.Dial I.Inbox T.Texts) (meaning command) result.0
-        (office_of outside) (office_of result.1) (W.wires witness.old) (W.wires witness.new) }
-    ensures doors { doors_of result.1 ≡ doors_of outside }
+        outside.office result.1.office (W.wires witness.old) (W.wires witness.new) }
+    ensures doors { result.1.doors ≡ outside.doors }
     ensures may_end { IsTrue (may_end (meaning command) result.0) }
-    ensures disks { names_of result.1.disks.items ≡ names_of outside.disks.items }
-    ensures clock { C.moment result.1.clock ≡ C.moment outside.clock }
+    ensures disks { names_of result.1.office.disks.items ≡ names_of outside.office.disks.items }
+    ensures clock { C.moment result.1.office.clock ≡ C.moment outside.office.clock }
     ensures passed_on { IsPassedOn (seeing S.Source K.Sink D.Disk C.Clock A.Dial I.Inbox T.Texts) result.0
-        (office_of outside) (office_of result.1) }
+        outside.office result.1.office }
     ensures note { ¬ HasRisen (K.faults outside.notes) (K.faults result.1.notes)
         → Appends (K.output outside.notes) (K.output result.1.notes) (note result.0) }
 {
-    let (office, notes, doors) = unpack(outside);
-    let (status, office) = obey(alloc, rt, command, office, witness);
-    let outside = finish(&status, office, notes, doors);
+    let mut outside = outside;
+    let (status, office) = obey(alloc, rt, command, outside.office, witness);
+    outside.office = office;
+    tell(&mut outside.notes, &status);
     (status, outside)
 }
 
@@ -267,24 +185,18 @@ where
     T: Texts + Send + Drop,
     R: Threads + Wait + RandomSource + time::Clock + Sync,
     requires names { HasNames (meaning (Command.Serve job)) }
-    requires disks { names_of outside.disks.items ≡ stores_of (meaning (Command.Serve job)) }
+    requires disks { names_of outside.office.disks.items ≡ stores_of (meaning (Command.Serve job)) }
     ensures does { (logged : List ℕ) × ServeDoes (seeing S.Source K.Sink D.Disk C.Clock A.Dial I.Inbox T.Texts)
-        (serve_job_view job) result.0 (office_of outside) (office_of result.1)
-        (doors_by L.Hall I.Inbox (doors_of outside)) (doors_by L.Hall I.Inbox (doors_of result.1)) logged
+        (serve_job_view job) result.0 outside.office result.1.office
+        (doors_by L.Hall I.Inbox outside.doors) (doors_by L.Hall I.Inbox result.1.doors) logged
         × IsNoted (K.faults outside.notes) (K.faults result.1.notes) (K.output outside.notes)
         (K.output result.1.notes) logged result.0 }
     ensures may_end { IsTrue (serve_may_end result.0) }
     ensures passed_on { IsPassedOn (seeing S.Source K.Sink D.Disk C.Clock A.Dial I.Inbox T.Texts) result.0
-        (office_of outside) (office_of result.1) }
+        outside.office result.1.office }
 {
-    let (office, notes, doors) = unpack(outside);
-    let reached = ServeOutside {
-        office,
-        doors,
-        notes,
-    };
-    let (status, reached) = serve_maps(alloc, rt, job, reached);
-    let outside = finish(&status, reached.office, reached.notes, reached.doors);
+    let (status, mut outside) = serve_maps(alloc, rt, job, outside);
+    tell(&mut outside.notes, &status);
     (status, outside)
 }
 
@@ -316,18 +228,18 @@ where
     W: Witness<S, K>,
     R: Threads + Wait + RandomSource + time::Clock + Sync,
     requires names { HasNames (meaning command) }
-    requires disks { names_of outside.disks.items ≡ stores_of (meaning command) }
+    requires disks { names_of outside.office.disks.items ≡ stores_of (meaning command) }
     ensures does { (logged : List ℕ) × CommandDoes (seeing S.Source K.Sink D.Disk C.Clock A.Dial I.Inbox T.Texts)
-        (meaning command) result.0 (office_of outside) (office_of result.1)
-        (doors_by L.Hall I.Inbox (doors_of outside)) (doors_by L.Hall I.Inbox (doors_of result.1))
+        (meaning command) result.0 outside.office result.1.office
+        (doors_by L.Hall I.Inbox outside.doors) (doors_by L.Hall I.Inbox result.1.doors)
         (W.wires witness.old) (W.wires witness.new) logged
         × IsNoted (K.faults outside.notes) (K.faults result.1.notes) (K.output outside.notes)
         (K.output result.1.notes) logged result.0 }
     ensures may_end { IsTrue (may_end (meaning command) result.0) }
-    ensures disks { names_of result.1.disks.items ≡ names_of outside.disks.items }
-    ensures clock { C.moment result.1.clock ≡ C.moment outside.clock }
+    ensures disks { names_of result.1.office.disks.items ≡ names_of outside.office.disks.items }
+    ensures clock { C.moment result.1.office.clock ≡ C.moment outside.office.clock }
     ensures passed_on { IsPassedOn (seeing S.Source K.Sink D.Disk C.Clock A.Dial I.Inbox T.Texts) result.0
-        (office_of outside) (office_of result.1) }
+        outside.office result.1.office }
 {
     match command {
         Command::Serve(job) => run_server(alloc, rt, job, outside),
@@ -361,18 +273,18 @@ where
     T: Texts + Send + Drop,
     W: Witness<S, K>,
     R: Threads + Wait + RandomSource + time::Clock + Sync,
-    requires disks { names_of outside.disks.items ≡ disk_names (texts words.now) }
+    requires disks { names_of outside.office.disks.items ≡ disk_names (texts words.now) }
     ensures does { (logged : List ℕ) × Does (seeing S.Source K.Sink D.Disk C.Clock A.Dial I.Inbox T.Texts)
-        (command_of (texts words.now)) result.0 (office_of outside) (office_of result.1)
-        (doors_by L.Hall I.Inbox (doors_of outside)) (doors_by L.Hall I.Inbox (doors_of result.1))
+        (command_of (texts words.now)) result.0 outside.office result.1.office
+        (doors_by L.Hall I.Inbox outside.doors) (doors_by L.Hall I.Inbox result.1.doors)
         (W.wires witness.old) (W.wires witness.new) logged
         × IsNoted (K.faults outside.notes) (K.faults result.1.notes) (K.output outside.notes)
         (K.output result.1.notes) logged result.0 }
     ensures may_end { MayEnd (command_of (texts words.now)) result.0 }
-    ensures disks { names_of result.1.disks.items ≡ names_of outside.disks.items }
-    ensures clock { C.moment result.1.clock ≡ C.moment outside.clock }
+    ensures disks { names_of result.1.office.disks.items ≡ names_of outside.office.disks.items }
+    ensures clock { C.moment result.1.office.clock ≡ C.moment outside.office.clock }
     ensures passed_on { IsPassedOn (seeing S.Source K.Sink D.Disk C.Clock A.Dial I.Inbox T.Texts) result.0
-        (office_of outside) (office_of result.1) }
+        outside.office result.1.office }
 {
     match parse(alloc, words) {
         Ok(command) => run_command(alloc, rt, command, outside, witness),
@@ -421,14 +333,14 @@ where
     I: Inbox + Send + Drop,
     T: Texts + Send + Drop,
     R: Threads + Wait + RandomSource + time::Clock + Sync,
-    requires disks { names_of outside.disks.items ≡ disk_names (texts words.now) }
+    requires disks { names_of outside.office.disks.items ≡ disk_names (texts words.now) }
 
     // What is done for the words, by the one relation of their command, over the wires that a witness of the run saw
     // behind its answered records. What it logs stands in the notes, and then the status is told there.
     ensures does { (wires : List Wire) × (logged : List ℕ)
         × Does (seeing S.Source K.Sink D.Disk C.Clock A.Dial I.Inbox T.Texts)
-        (command_of (texts words.now)) result.0 (office_of outside) (office_of result.1)
-        (doors_by L.Hall I.Inbox (doors_of outside)) (doors_by L.Hall I.Inbox (doors_of result.1)) [] wires logged
+        (command_of (texts words.now)) result.0 outside.office result.1.office
+        (doors_by L.Hall I.Inbox outside.doors) (doors_by L.Hall I.Inbox result.1.doors) [] wires logged
         × IsNoted (K.faults outside.notes) (K.faults result.1.notes) (K.output outside.notes)
         (K.output result.1.notes) logged result.0 }
 
@@ -436,12 +348,12 @@ where
     ensures may_end { MayEnd (command_of (texts words.now)) result.0 }
 
     // The disks and the clock come back.
-    ensures disks { names_of result.1.disks.items ≡ names_of outside.disks.items }
-    ensures clock { C.moment result.1.clock ≡ C.moment outside.clock }
+    ensures disks { names_of result.1.office.disks.items ≡ names_of outside.office.disks.items }
+    ensures clock { C.moment result.1.office.clock ≡ C.moment outside.office.clock }
 
     // What was taken was passed on, but for a write fault.
     ensures passed_on { IsPassedOn (seeing S.Source K.Sink D.Disk C.Clock A.Dial I.Inbox T.Texts) result.0
-        (office_of outside) (office_of result.1) }
+        outside.office result.1.office }
 {
     let mut trail = Trail::new();
     run_watched(alloc, rt, words, outside, &mut trail)

@@ -2,6 +2,7 @@ pub mod Standing
 pub mod Keeping
 pub mod Installs
 pub mod Opens
+pub mod Stats
 pub mod Rising
 pub mod Grown
 pub mod Begins

@@ -6,6 +6,9 @@
 //! [`Publisher::reopen`] say it of each moment inside them, and of each refusal its cause; they rest on the calls of
 //! `yp_map_file`. [`laws`] say that the orders of each map rise in the log.
 //!
+//! What a caller is told of a fault stands in one table, [`slot_stat`], [`InstallFault::stat`] and
+//! [`ShareFault::stat`](sharing::ShareFault::stat).
+//!
 //! [`sharing`] has a publisher that threads share, under one lock.
 #![tactic(auto)]
 
@@ -17,9 +20,11 @@ mod publisher;
 mod same;
 pub mod sharing;
 mod spelled;
+mod stat;
 mod stored;
 
 pub use install::{InstallFault, Installed, Origin};
 pub use loaded::{Loaded, StartRefused, load_all};
 pub use open::{OpenFault, OpenRefused, open_publisher};
 pub use publisher::{Publisher, Standing};
+pub use stat::slot_stat;

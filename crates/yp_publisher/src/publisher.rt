@@ -26,7 +26,7 @@ use std::alloc::Global;
 use std::marker::Model;
 use std::random::RandomSource;
 use std::sync::Arc;
-use yp_board::{Catalog, Show, Tell};
+use yp_board::{Catalog, Show, Tell, View};
 use yp_io::{Disk, NoMemory};
 use yp_map_file::SlotFault;
 use yp_version::Version;
@@ -250,6 +250,42 @@ impl<D: Disk, B: Show> Publisher<D, B> {
         yp_map_file::laws::file_is_bounded();
         let stored = &mut self.maps[map as usize];
         stored.reopen(alloc, rt, &mut self.board, map)
+    }
+}
+
+/// It knows all that was shown. It doesn't count its read steps: their count stands at its last value.
+impl<D: Disk, B: Show> View for Publisher<D, B> {
+    ghost use Rattle.yp_publisher.specs.inside.Standing.{knows_all};
+
+    ghost seen = { knows_all B.log };
+
+    ghost stepped = { λ old new. new ≡ old };
+
+    fn catalog(&self) -> &Catalog {
+        &self.catalog
+    }
+
+    fn refresh(&mut self) {}
+
+    fn held(&self, map: u32) -> Option<&Version> {
+        // Each map of the catalogue is kept.
+        let _catalog = self.catalog();
+        match self.shown(map) {
+            None => None,
+            Some(version) => Some(&**version),
+        }
+    }
+
+    fn share(&self, map: u32) -> Result<Option<Arc<Version>>, NoMemory> {
+        // Each map of the catalogue is kept.
+        let _catalog = self.catalog();
+        match self.shown(map) {
+            None => Ok(None),
+            Some(version) => match Arc::try_clone(version) {
+                Ok(version) => Ok(Some(version)),
+                Err(_) => Err(NoMemory),
+            },
+        }
     }
 }
 

@@ -71,6 +71,7 @@ pub(crate) struct Auth<'a> {
     body: &'a [u8],
 }
 
+#[inline(always)]
 pub(crate) fn read_auth<'a>(cursor: &mut Cursor<'a>) -> Result<Auth<'a>, XdrFault>
     ensures read { Reads auth_kind (λ a. (a.flavor, a.body.now)) result (unread cursor.old) (unread cursor.new) }
     ensures end { end_of (unread cursor.new) ≡ end_of (unread cursor.old) }
@@ -92,6 +93,7 @@ struct Procedure<'a> {
     verifier: Auth<'a>,
 }
 
+#[inline(always)]
 fn read_procedure<'a>(cursor: &mut Cursor<'a>) -> Result<Procedure<'a>, XdrFault>
     ensures read { Reads procedure_kind
         (λ p. (

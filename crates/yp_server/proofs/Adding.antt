@@ -29,18 +29,18 @@ all_inboxes done (x ∷ xs) whole none is = absurd (omega (arith, none))
 
 module _ {J E H G I R M F N : Type 0} where
   -- one of the workers of connections that are still to come has come
-  pub one_of_those : (held one : Passed) (now new whole : List (ServerWorker J E H G I R M F N)) (before after : ℕ) → before ≡ after + 1
+  pub one_of_those : (held one : Passed) (now new whole : List (ServerWorker J E H F G I R M F N)) (before after : ℕ) → before ≡ after + 1
       → now ++ connections_of before held ≡ whole → new ≡ now ++ Connections one ∷ [] → one ≡ held
       → new ++ connections_of after held ≡ whole
   one_of_those held one now new whole before after count was is same =
       let more : suc after ≡ before = omega (arith, count) in
-      ap (λ (l : List (ServerWorker J E H G I R M F N)). l ++ connections_of after held) (is ∙ ap (λ (h : Passed). now ++ Connections h ∷ []) same)
+      ap (λ (l : List (ServerWorker J E H F G I R M F N)). l ++ connections_of after held) (is ∙ ap (λ (h : Passed). now ++ Connections h ∷ []) same)
       ∙ append_assoc now (Connections held ∷ []) (connections_of after held)
       ∙ ap (λ (n : ℕ). now ++ connections_of n held) more
       ∙ was
 
   -- all of them have come
-  pub none_to_come : (held : Passed) (now whole : List (ServerWorker J E H G I R M F N)) (left : ℕ) → left ≡ 0
+  pub none_to_come : (held : Passed) (now whole : List (ServerWorker J E H F G I R M F N)) (left : ℕ) → left ≡ 0
       → now ++ connections_of left held ≡ whole → now ≡ whole
   none_to_come held now whole zero none is = sym (append-nil now) ∙ is
   none_to_come held now whole (suc n) none is = absurd (omega (arith, none))

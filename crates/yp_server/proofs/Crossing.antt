@@ -36,6 +36,7 @@ use Rattle.yp_answer.specs.declared.session.host.Host as host
 use Rattle.yp_answer.specs.contracts.session.conversation.Conversation as Conversation
 use Rattle.yp_worker.specs.declared.catch_up.CatchUp as catch_up
 use Rattle.yp_worker.specs.declared.catch_up.HandsOver as hands_over
+use Rattle.yp_worker.specs.declared.catch_up.Known as known
 use Rattle.yp_worker.specs.declared.listening.Reception as reception
 use Rattle.yp_worker.specs.contracts.gated.Gated as Gated
 use Rattle.yp_worker.specs.contracts.guest.Guest as Guest
@@ -43,16 +44,18 @@ use Rattle.yp_worker.specs.contracts.waiting.Waiting as Waiting
 use Rattle.yp_worker.specs.contracts.listening.Listening as Listening
 use Rattle.yp_worker.specs.contracts.listening.Pass as Pass
 use Rattle.yp_worker.specs.contracts.worker.Worker as Worker
-use Rattle.yp_worker.specs.contracts.datagrams.pending.PendingTransfers as PendingTransfers
-use Rattle.yp_worker.specs.contracts.datagrams.pending.TransferPass as TransferPass
+use Rattle.yp_worker.specs.contracts.datagrams.deferred.Deferred as Deferred
+use Rattle.yp_worker.specs.contracts.datagrams.pending.DeferredQueue as DeferredQueue
+use Rattle.yp_worker.specs.contracts.datagrams.pending.DeferredPass as DeferredPass
 use Rattle.yp_worker.specs.contracts.datagrams.server.MailServer as MailServer
-use Rattle.yp_worker.specs.contracts.datagrams.carrier.TransferCarrier as TransferCarrier
+use Rattle.yp_worker.specs.contracts.datagrams.carrier.Carrier as Carrier
 use Rattle.yp_host.specs.contracts.workers.call_backs.PendingCallBacks as PendingCallBacks
 use Rattle.yp_host.specs.contracts.workers.call_backs.CallBackPass as CallBackPass
 use Rattle.yp_host.specs.declared.workers.supplies.Supplies as supplies
 use Rattle.yp_host.specs.contracts.workers.charges.Account as Account
 use Rattle.yp_host.specs.contracts.workers.charges.Charges as Charges
 use Rattle.yp_host.specs.contracts.workers.dial.SharedDial as SharedDial
+use Rattle.yp_host.specs.contracts.workers.front.BoardFront as BoardFront
 use Rattle.yp_host.specs.contracts.workers.host.WorkerHost as WorkerHost
 use Rattle.yp_host.specs.contracts.workers.journal.Journal as Journal
 use Rattle.yp_host.specs.contracts.workers.texts.SharedTexts as SharedTexts
@@ -77,13 +80,13 @@ module _ (S K G F : RattleType) (s : IsSend S) (k : IsSend K) (gate : IsSend G) 
 pub listening_send : (I E H L G Sum Front Count In Out Closer Waker Watch : RattleType) (receptions : reception.Ghosts I.Denot)
     (sites : site.Ghosts I.Denot) (out : ledger.Ghosts I.Denot) (ended : ledger.Ghosts E.Denot)
     (sums : hands_over.Ghosts H.Denot Sum.Denot Front.Denot Count.Denot) (learners : catch_up.Ghosts H.Denot Count.Denot)
-    (hosts : host.Ghosts H.Denot) (views : view.Ghosts H.Denot)
+    (hosts : host.Ghosts H.Denot) (views : view.Ghosts H.Denot) (fronts : known.Ghosts Front.Denot)
     (halls : hall.Ghosts L.Denot In.Denot Out.Denot Closer.Denot Waker.Denot Watch.Denot) (source : try_source.Ghosts In.Denot)
     (sink : try_sink.Ghosts Out.Denot) (watches : watch.Ghosts Watch.Denot In.Denot Waker.Denot) → IsSend I → IsSend E → IsSend L
     → IsSend G → IsSend Sum → IsSend Front → IsSend In → IsSend Out → IsSend Waker
     → IsSend (Listening.the_row I E H L G Sum Front Count In Out Closer Waker Watch receptions sites out ended sums learners hosts
-    views halls source sink watches)
-listening_send I E H L G Sum Front Count In Out Closer Waker Watch receptions sites out ended sums learners hosts views halls source sink watches j e l gate sum
+    views fronts halls source sink watches)
+listening_send I E H L G Sum Front Count In Out Closer Waker Watch receptions sites out ended sums learners hosts views fronts halls source sink watches j e l gate sum
     front in' out' waker =
     search (sendable, crosses, waiting_send, share_send, book_send) depth 60 fits 50000
 
@@ -93,11 +96,15 @@ pass_send I E out ended = search (sendable, crosses, share_send) depth 60 fits 5
 pub worker_send : (H G : RattleType) → IsSend H → IsSend G → IsSend (Worker.the_row H G)
 worker_send H G host gate = search (sendable, crosses) depth 60 fits 50000
 
-transfer_pass_send : IsSend TransferPass.the_row
-transfer_pass_send = search (sendable, crosses, seat_send) depth 60 fits 50000
+deferred_send : (F : RattleType) (knowns : known.Ghosts F.Denot) → IsSend F → IsSend (Deferred.the_row F knowns)
+deferred_send F knowns front = search (sendable, crosses) depth 60 fits 50000
 
-pending_sync : (I : RattleType) (sites : site.Ghosts I.Denot) → IsSync (PendingTransfers.the_row I sites)
-pending_sync I sites = search (sendable, crosses, table_sync, lease_sync) depth 60 fits 50000
+deferred_pass_send : (F : RattleType) (knowns : known.Ghosts F.Denot) → IsSend F → IsSend (DeferredPass.the_row F knowns)
+deferred_pass_send F knowns front = search (sendable, crosses, seat_send, deferred_send) depth 60 fits 50000
+
+pending_sync : (I F : RattleType) (sites : site.Ghosts I.Denot) (knowns : known.Ghosts F.Denot) → IsSend F
+    → IsSync (DeferredQueue.the_row I F sites knowns)
+pending_sync I F sites knowns front = search (sendable, crosses, table_sync, lease_sync, deferred_send) depth 60 fits 50000
 
 call_back_pass_send : IsSend CallBackPass.the_row
 call_back_pass_send = search (sendable, crosses, seat_send) depth 60 fits 50000
@@ -105,55 +112,55 @@ call_back_pass_send = search (sendable, crosses, seat_send) depth 60 fits 50000
 call_backs_sync : IsSync PendingCallBacks.the_row
 call_backs_sync = search (sendable, crosses, table_sync, lease_sync) depth 60 fits 50000
 
-mail_server_send : (a : NamedLft) (I H R Count : RattleType) (sites : site.Ghosts I.Denot) (learners : catch_up.Ghosts H.Denot Count.Denot)
-    (hosts : host.Ghosts H.Denot) (views : view.Ghosts H.Denot) → IsSend H → IsSync R
-    → IsSend (MailServer.the_row a I H R Count sites learners hosts views)
-mail_server_send a I H R Count sites learners hosts views host rt =
-    search (sendable, crosses, transfer_pass_send, pending_sync) depth 60 fits 50000
+mail_server_send : (a : NamedLft) (I H F R : RattleType) (sites : site.Ghosts I.Denot) (views : view.Ghosts H.Denot)
+    (knowns : known.Ghosts F.Denot) → IsSend H → IsSend F → IsSync R
+    → IsSend (MailServer.the_row a I H F R sites views knowns)
+mail_server_send a I H F R sites views knowns host front rt =
+    search (sendable, crosses, deferred_pass_send, pending_sync) depth 60 fits 50000
 
-pub transfer_carrier_send : (a : NamedLft) (I H R Count : RattleType) (sites : site.Ghosts I.Denot)
-    (learners : catch_up.Ghosts H.Denot Count.Denot) (hosts : host.Ghosts H.Denot) (views : view.Ghosts H.Denot)
-    → IsSend H → IsSync R → IsSend (TransferCarrier.the_row a I H R Count sites learners hosts views)
-transfer_carrier_send a I H R Count sites learners hosts views host rt =
-    search (sendable, crosses, transfer_pass_send, pending_sync) depth 60 fits 50000
+pub carrier_send : (a : NamedLft) (B I H F R : RattleType) (sites : site.Ghosts I.Denot) (views : view.Ghosts H.Denot)
+    (knowns : known.Ghosts F.Denot) → IsSend B → IsSend H → IsSend F → IsSync R
+    → IsSend (Carrier.the_row a B I H F R sites views knowns)
+carrier_send a B I H F R sites views knowns inbox host front rt =
+    search (sendable, crosses, deferred_pass_send, pending_sync) depth 60 fits 50000
 
-pub datagram_worker_send : (a : NamedLft) (B I H R Count : RattleType) (sites : site.Ghosts I.Denot)
-    (learners : catch_up.Ghosts H.Denot Count.Denot) (hosts : host.Ghosts H.Denot)
-    (views : view.Ghosts H.Denot) → IsSend B → IsSend H → IsSync R
-    → IsSend (DatagramWorker.the_row a B I H R Count sites learners hosts views)
-datagram_worker_send a B I H R Count sites learners hosts views inbox host rt =
+pub datagram_worker_send : (a : NamedLft) (B I H F R : RattleType) (sites : site.Ghosts I.Denot)
+    (views : view.Ghosts H.Denot) (knowns : known.Ghosts F.Denot) → IsSend B → IsSend H → IsSend F → IsSync R
+    → IsSend (DatagramWorker.the_row a B I H F R sites views knowns)
+datagram_worker_send a B I H F R sites views knowns inbox host front rt =
     search (sendable, crosses, mail_server_send) depth 60 fits 50000
 
 pub connection_worker_send : (I E H G Sum Front Count : RattleType) (receptions : reception.Ghosts I.Denot)
     (sites : site.Ghosts I.Denot) (out : ledger.Ghosts I.Denot) (ended : ledger.Ghosts E.Denot)
     (sums : hands_over.Ghosts H.Denot Sum.Denot Front.Denot Count.Denot) (learners : catch_up.Ghosts H.Denot Count.Denot)
-    (hosts : host.Ghosts H.Denot) (views : view.Ghosts H.Denot) → IsSend H → IsSend G
-    → IsSend (ConnectionWorker.the_row I E H G Sum Front Count receptions sites out ended sums learners hosts views)
-connection_worker_send I E H G Sum Front Count receptions sites out ended sums learners hosts views h gate =
+    (hosts : host.Ghosts H.Denot) (views : view.Ghosts H.Denot) (fronts : known.Ghosts Front.Denot) → IsSend H → IsSend G
+    → IsSend (ConnectionWorker.the_row I E H G Sum Front Count receptions sites out ended sums learners hosts views fronts)
+connection_worker_send I E H G Sum Front Count receptions sites out ended sums learners hosts views fronts h gate =
     search (sendable, crosses, pass_send, worker_send) depth 60 fits 50000
 
-pub server_worker_send : (a : NamedLft) (I E H G B R Sum Front Count : RattleType) (receptions : reception.Ghosts I.Denot)
+pub server_worker_send : (a : NamedLft) (I E H F G B R Sum Front Count : RattleType) (receptions : reception.Ghosts I.Denot)
     (sites : site.Ghosts I.Denot) (out : ledger.Ghosts I.Denot) (ended : ledger.Ghosts E.Denot)
     (sums : hands_over.Ghosts H.Denot Sum.Denot Front.Denot Count.Denot) (learners : catch_up.Ghosts H.Denot Count.Denot)
-    (hosts : host.Ghosts H.Denot) (views : view.Ghosts H.Denot) → IsSend H → IsSend G → IsSend B → IsSync R
-    → IsSend (ServerWorker.the_row a I E H G B R Sum Front Count receptions sites out ended sums learners hosts views)
-server_worker_send a I E H G B R Sum Front Count receptions sites out ended sums learners hosts views h gate inbox rt =
-    let connections = connection_worker_send I E H G Sum Front Count receptions sites out ended sums learners hosts views h gate in
-    let datagrams = datagram_worker_send a B I H R Count sites learners hosts views inbox h rt in
-    variants_send (ServerWorker.enum a I E H G B R Sum Front Count receptions sites out ended sums learners hosts views)
+    (hosts : host.Ghosts H.Denot) (views : view.Ghosts H.Denot) (fronts : known.Ghosts Front.Denot) (knowns : known.Ghosts F.Denot)
+    → IsSend H → IsSend G → IsSend F → IsSend B → IsSync R
+    → IsSend (ServerWorker.the_row a I E H F G B R Sum Front Count receptions sites out ended sums learners hosts views fronts knowns)
+server_worker_send a I E H F G B R Sum Front Count receptions sites out ended sums learners hosts views fronts knowns h gate front inbox rt =
+    let connections = connection_worker_send I E H G Sum Front Count receptions sites out ended sums learners hosts views fronts h gate in
+    let datagrams = datagram_worker_send a B I H F R sites views knowns inbox h front rt in
+    variants_send (ServerWorker.enum a I E H F G B R Sum Front Count receptions sites out ended sums learners hosts views fronts knowns)
     ((connections, tt), ((datagrams, tt), tt))
 
 pub lent_sync : (a : NamedLft) (I E H G L R Sum Front Count In Out Closer Waker Watch : RattleType)
     (receptions : reception.Ghosts I.Denot)
     (sites : site.Ghosts I.Denot) (out : ledger.Ghosts I.Denot) (ended : ledger.Ghosts E.Denot)
     (sums : hands_over.Ghosts H.Denot Sum.Denot Front.Denot Count.Denot) (learners : catch_up.Ghosts H.Denot Count.Denot)
-    (hosts : host.Ghosts H.Denot) (views : view.Ghosts H.Denot)
+    (hosts : host.Ghosts H.Denot) (views : view.Ghosts H.Denot) (fronts : known.Ghosts Front.Denot)
     (halls : hall.Ghosts L.Denot In.Denot Out.Denot Closer.Denot Waker.Denot Watch.Denot) (source : try_source.Ghosts In.Denot)
     (sink : try_sink.Ghosts Out.Denot) (watches : watch.Ghosts Watch.Denot In.Denot Waker.Denot) → IsSend I → IsSend E → IsSend L
     → IsSend G → IsSend Sum → IsSend Front → IsSend In → IsSend Out → IsSend Waker → IsSync R
     → IsSync (Lent.the_row a I E H G L R Sum Front Count In Out Closer Waker Watch receptions sites out ended sums learners hosts
-    views halls source sink watches)
-lent_sync a I E H G L R Sum Front Count In Out Closer Waker Watch receptions sites out ended sums learners hosts views halls source sink watches j e l gate sum
+    views fronts halls source sink watches)
+lent_sync a I E H G L R Sum Front Count In Out Closer Waker Watch receptions sites out ended sums learners hosts views fronts halls source sink watches j e l gate sum
     front in' out' waker rt =
     search (sendable, crosses, listening_send) depth 60 fits 50000
 
@@ -167,6 +174,12 @@ charges_send : (I : RattleType) (site : accounts.Ghosts I.Denot) (supplied : sup
     → IsSend (Charges.the_row I site supplied)
 charges_send I site supplied j =
     search (sendable, crosses, share_send, front_send, call_back_pass_send) depth 60 fits 50000
+
+pub board_front_send : (B Reader Front Knowledge : RattleType)
+    (tells : tell.Ghosts B.Denot Reader.Denot Front.Denot Knowledge.Denot) (shows : show.Ghosts B.Denot)
+    (views : view.Ghosts Reader.Denot) → IsSend Knowledge
+    → IsSend (BoardFront.the_row B Reader Front Knowledge tells shows views)
+board_front_send B Reader Front Knowledge tells shows views knowledge = search (sendable, crosses) depth 60 fits 50000
 
 pub account_send : (I B Reader Front Knowledge : RattleType) (accounted : accounts.Ghosts I.Denot)
     (supplied : supplies.Ghosts I.Denot) (tells : tell.Ghosts B.Denot Reader.Denot Front.Denot Knowledge.Denot)

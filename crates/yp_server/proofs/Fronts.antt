@@ -1,5 +1,5 @@
 -- What workers of datagrams knew, in the log of the writer.
-use Rattle.std.proofs.Common.{◌≡◌, inl, inr, Bool, true, false, ℕ, ◌<◌, List, [], ◌∷◌, ◌++◌, ◌||◌, length, map, get_or, refl, sym, ap, ◌∙◌, subst, append_assoc, arith}
+use Rattle.std.proofs.Common.{◌≡◌, inl, inr, Bool, true, false, ℕ, ◌<◌, List, [], ◌∷◌, ◌++◌, ◌||◌, length, map, refl, sym, ap, ◌∙◌, subst, append_assoc, arith}
 use Rattle.std.specs.List.{AllZip, AllByRecursion, list_any}
 use Rattle.std.proofs.lemmas.List.{append-nil}
 use Rattle.yp_io.specs.Counts.{HasRisen}
@@ -8,7 +8,7 @@ use Rattle.yp_board.specs.Logs.{Log}
 use Rattle.yp_board.specs.Views.{IsFront}
 use Rattle.yp_answer.specs.session.Hosts.{Conduct}
 use Rattle.yp_rpc.specs.Turns.{InboxTells}
-use Rattle.yp_worker.specs.datagrams.Mailing.{QueueName, Awaited, Holding, Mailing, CarriesAll}
+use Rattle.yp_worker.specs.datagrams.Mailing.{QueueName, Deferred, Holding, Mailing}
 use Rattle.yp_worker.specs.datagrams.Serving.{ServesMail}
 use Rattle.yp_server.specs.declared.datagrams.DatagramWorker.{DatagramWorker}
 use Rattle.yp_server.specs.inside.Workers.{AnswersDatagrams}
@@ -16,7 +16,7 @@ use Rattle.yp_worker.specs.Summing.{Counting}
 use Rattle.yp_server.specs.Serving.{at_rest, EachServes, ServesInboxes, SomeHasRisen}
 use Rattle.yp_server.specs.Counting.{CountsDatagrams, EachCounts, CountsInboxes}
 use Rattle.yp_server.specs.inside.Counting.{BeginsMail}
-use Rattle.yp_server.specs.inside.Handing.{Handed, left_by, carried_by, parts_of}
+use Rattle.yp_server.specs.inside.Handing.{left_by, took_by, parts_of}
 
 pub front_then : (a b c : Log) → IsFront a b → IsFront b c → IsFront a c
 front_then a b c first second =
@@ -32,116 +32,96 @@ fronts_then known short long [] more fronts = tt
 fronts_then known short long (x ∷ xs) more fronts =
     (front_then (known x) short long fronts.0 more, fronts_then known short long xs more fronts.1)
 
+pub one_of_both : {P : Type 0} (a b : Bool) → (a || b) ≡ true → (a ≡ true → P) → (b ≡ true → P) → P
+one_of_both true b some first second = first refl
+one_of_both false b some first second = second some
+
 module _ {H T : Type 0} (conduct : Conduct H) (counting : Counting H T) (catalogue : Catalogue) (starts log : Log)
     (turns : ℕ) where
-  all_grown : (transfers : List Awaited) (old new : H) → CarriesAll conduct transfers old new
-      → IsFront (conduct.seen old).known (conduct.seen new).known
-  all_grown [] old new carries =
-      subst (λ (h : H). IsFront (conduct.seen old).known (conduct.seen h).known) (sym carries) (front_self (conduct.seen old).known)
-  all_grown (one ∷ more) old new carries =
-      front_then (conduct.seen old).known (conduct.seen carries.0).known (conduct.seen new).known carries.1.grown
-      (all_grown more carries.0 new carries.2)
-
   -- the log of the writer begins with what was shown at the start
-  started : (fault : Bool) (before after : InboxTells) (left carried : List Awaited) (count : T)
-      → CountsDatagrams conduct counting catalogue starts log turns fault before after left carried count → IsFront starts log
-  started fault before after left carried count counts =
+  started : (fault : Bool) (before after : InboxTells) (left : List Deferred) (count : T)
+      → CountsDatagrams conduct counting catalogue starts log turns fault before after left count → IsFront starts log
+  started fault before after left count counts =
       let mail = counts.served in
       let begun = subst (λ (l : Log). IsFront l (conduct.seen mail.ended.host).known) mail.start.known mail.serves.grown in
-      let behind = all_grown mail.rest mail.ended.host mail.new mail.carries in
-      front_then starts (conduct.seen mail.new).known log
-      (front_then starts (conduct.seen mail.ended.host).known (conduct.seen mail.new).known begun behind) mail.shown
+      front_then starts (conduct.seen mail.ended.host).known log begun mail.shown
 
-  each_starts : (fault : Bool) (before after : List InboxTells) (left carried : List Awaited) (counts : List T) → 0 < length before
-      → EachCounts conduct counting catalogue starts log turns fault before after left carried counts → IsFront starts log
-  each_starts fault [] after left carried counts some all = absurd (omega (arith, some))
-  each_starts fault (old ∷ before) [] left carried counts some all = absurd all
-  each_starts fault (old ∷ before) (new ∷ after) left carried [] some all = absurd all
-  each_starts fault (old ∷ before) (new ∷ after) left carried (count ∷ counts) some
-      (failed, others, is, left_here, left_there, left_is, carried_here, carried_there, carried_is, one, rest) =
-      started failed old new left_here carried_here count one
+  each_starts : (fault : Bool) (before after : List InboxTells) (left : List Deferred) (counts : List T) → 0 < length before
+      → EachCounts conduct counting catalogue starts log turns fault before after left counts → IsFront starts log
+  each_starts fault [] after left counts some all = absurd (omega (arith, some))
+  each_starts fault (old ∷ before) [] left counts some all = absurd all
+  each_starts fault (old ∷ before) (new ∷ after) left [] some all = absurd all
+  each_starts fault (old ∷ before) (new ∷ after) left (count ∷ counts) some
+      (failed, others, is, left_here, left_there, left_is, one, rest) =
+      started failed old new left_here count one
 
-  pub starts_in : (fault : Bool) (before after : List InboxTells) (of_carrier : T) (counts : List T) → 0 < length before
-      → CountsInboxes conduct counting catalogue starts log turns fault before after of_carrier counts → IsFront starts log
-  starts_in fault before after of_carrier counts some all =
-      each_starts fault before after all.left all.carried counts some all.each
+  pub starts_in : (fault : Bool) (before after : List InboxTells) (out out' : InboxTells) (counts : List T) (of_carrier : T)
+      → 0 < length before → CountsInboxes conduct counting catalogue starts log turns fault before after out out' counts of_carrier
+      → IsFront starts log
+  starts_in fault before after out out' counts of_carrier some all =
+      each_starts all.failed before after all.left counts some all.each
 
   -- what was served, but for what was counted
-  each_served : (fault : Bool) (before after : List InboxTells) (left carried : List Awaited) (counts : List T)
-      → EachCounts conduct counting catalogue starts log turns fault before after left carried counts
-      → EachServes conduct counting.counted catalogue starts log turns fault before after left carried
-  each_served fault [] [] left carried [] all = all
-  each_served fault [] [] left carried (count ∷ counts) all = absurd all
-  each_served fault [] (new ∷ after) left carried counts all = absurd all
-  each_served fault (old ∷ before) [] left carried counts all = absurd all
-  each_served fault (old ∷ before) (new ∷ after) left carried [] all = absurd all
-  each_served fault (old ∷ before) (new ∷ after) left carried (count ∷ counts)
-      (failed, others, is, left_here, left_there, left_is, carried_here, carried_there, carried_is, one, rest) = (
+  each_served : (fault : Bool) (before after : List InboxTells) (left : List Deferred) (counts : List T)
+      → EachCounts conduct counting catalogue starts log turns fault before after left counts
+      → EachServes conduct counting.counted catalogue starts log turns fault before after left
+  each_served fault [] [] left [] all = all
+  each_served fault [] [] left (count ∷ counts) all = absurd all
+  each_served fault [] (new ∷ after) left counts all = absurd all
+  each_served fault (old ∷ before) [] left counts all = absurd all
+  each_served fault (old ∷ before) (new ∷ after) left [] all = absurd all
+  each_served fault (old ∷ before) (new ∷ after) left (count ∷ counts)
+      (failed, others, is, left_here, left_there, left_is, one, rest) = (
         failed,
         others,
         is,
         left_here,
         left_there,
         left_is,
-        carried_here,
-        carried_there,
-        carried_is,
         one.served,
-        each_served others before after left_there carried_there counts rest,
+        each_served others before after left_there counts rest,
       )
 
-  pub served_of : (fault : Bool) (before after : List InboxTells) (of_carrier : T) (counts : List T)
-      → CountsInboxes conduct counting catalogue starts log turns fault before after of_carrier counts
-      → ServesInboxes conduct counting.counted catalogue starts log turns fault before after
-  served_of fault before after of_carrier counts all = record {
+  pub served_of : (fault : Bool) (before after : List InboxTells) (out out' : InboxTells) (counts : List T) (of_carrier : T)
+      → CountsInboxes conduct counting catalogue starts log turns fault before after out out' counts of_carrier
+      → ServesInboxes conduct counting.counted catalogue starts log turns fault before after out out'
+  served_of fault before after out out' counts of_carrier all = record {
+    failed = all.failed;
+    lost = all.lost;
+    fault_is = all.fault_is;
     left = all.left;
-    carried = all.carried;
-    beside = all.beside;
+    took = all.took;
+    each = each_served all.failed before after all.left counts all.each;
     carrier = all.carrier.carries;
-    each = each_served fault before after all.left all.carried counts all.each;
     all = all.all;
   }
 
-first_same : {X : Type 0} (x y : X) (xs ys : List X) → x ∷ xs ≡ y ∷ ys → x ≡ y
-first_same x y xs ys e = ap (λ (l : List _). get_or l 0 x) e
-
-abbrev tail_of : {X : Type 0} → List X → List X
-tail_of [] = []
-tail_of (x ∷ xs) = xs
-
 -- what a worker of datagrams made of its turns, from a host that knew the start
-module _ {I J H R T : Type 0} (conduct : Conduct H) (counting : Counting H T) (box : I → InboxTells) (faults : I → ℕ)
+module _ {I J H F R T : Type 0} (conduct : Conduct H) (counting : Counting H T) (box : I → InboxTells) (faults : I → ℕ)
     (catalogue : Catalogue) (starts : Log) (queue : QueueName) (turns : ℕ) where
-  mailed : (log : Log) (inbox : I) (first last : DatagramWorker I J H R T) (handed : Handed H)
+  mailed : (log : Log) (inbox : I) (first last : DatagramWorker I J H F R)
       → AnswersDatagrams conduct counting.counted box faults first last
-      → BeginsMail conduct counting catalogue starts queue turns inbox first → last.server ≡ handed.server
-      → CarriesAll conduct handed.rest handed.server.host handed.host → IsFront (conduct.seen handed.host).known log
+      → BeginsMail conduct counting catalogue starts queue turns inbox first → IsFront (conduct.seen last.server.host).known log
       → CountsDatagrams conduct counting catalogue starts log turns last.fault (box inbox) (box last.inbox)
-      handed.server.holding.left (handed.server.holding.took ++ handed.rest) (counting.counted handed.host)
-  mailed log inbox first last handed mails begins same carries front =
+      last.server.holding.left (counting.counted last.server.host)
+  mailed log inbox first last mails begins front =
       let old = begins.host in record {
         served = record {
           queue = queue;
           old = old;
-          ended = handed.server;
-          rest = handed.rest;
-          new = handed.host;
+          ended = last.server;
           start = begins.start;
           fresh = begins.fresh;
           end = mails.end;
           fault_is = mails.fault_is;
           serves =
-              subst (λ (n : ℕ). ServesMail conduct counting.counted n mails.end (at_rest queue old) handed.server (box inbox) (box last.inbox))
+              subst (λ (n : ℕ). ServesMail conduct counting.counted n mails.end (at_rest queue old) last.server (box inbox) (box last.inbox))
               begins.turns_are
-              (subst (λ (i : I). ServesMail conduct counting.counted first.turns mails.end (at_rest queue old) handed.server (box i) (box last.inbox))
+              (subst (λ (i : I). ServesMail conduct counting.counted first.turns mails.end (at_rest queue old) last.server (box i) (box last.inbox))
               begins.inbox_is
-              (subst (λ (m : Mailing H). ServesMail conduct counting.counted first.turns mails.end m handed.server (box first.inbox) (box last.inbox))
-              begins.server_is
-              (subst (λ (m : Mailing H). ServesMail conduct counting.counted first.turns mails.end first.server m (box first.inbox) (box last.inbox))
-              same mails.serves)));
-          carries = carries;
+              (subst (λ (m : Mailing H). ServesMail conduct counting.counted first.turns mails.end m last.server (box first.inbox) (box last.inbox))
+              begins.server_is mails.serves));
           left_is = refl;
-          carried_is = refl;
           shown = front;
         };
         from_none = begins.from_none;
@@ -149,43 +129,35 @@ module _ {I J H R T : Type 0} (conduct : Conduct H) (counting : Counting H T) (b
       }
 
   -- the same of all of them
-  pub each_mailed : (log : Log) (inboxes : List I) (firsts lasts : List (DatagramWorker I J H R T)) (handed : List (Handed H))
+  pub each_mailed : (log : Log) (inboxes : List I) (firsts lasts : List (DatagramWorker I J H F R))
       → AllZip (BeginsMail conduct counting catalogue starts queue turns) inboxes firsts
       → AllZip (AnswersDatagrams conduct counting.counted box faults) firsts lasts
-      → map (λ (m : DatagramWorker I J H R T). m.server) lasts ≡ map (λ (h : Handed H). h.server) handed
-      → AllByRecursion (λ (h : Handed H). CarriesAll conduct h.rest h.server.host h.host) handed
-      → AllByRecursion (λ (h : Handed H). IsFront (conduct.seen h.host).known log) handed
-      → EachCounts conduct counting catalogue starts log turns (list_any (λ (m : DatagramWorker I J H R T). m.fault) lasts)
-      (map box inboxes) (map box (map (λ (m : DatagramWorker I J H R T). m.inbox) lasts)) (left_by handed) (carried_by handed)
-      (map (λ (h : Handed H). counting.counted h.host) handed)
-  each_mailed log [] [] [] [] begin mails same carries fronts = (refl, refl, refl)
-  each_mailed log [] [] [] (h ∷ hs) begin mails same carries fronts = absurd cc
-  each_mailed log [] [] (m ∷ ms) handed begin mails same carries fronts = absurd mails
-  each_mailed log [] (n ∷ ns) lasts handed begin mails same carries fronts = absurd begin
-  each_mailed log (i ∷ is) [] lasts handed begin mails same carries fronts = absurd begin
-  each_mailed log (i ∷ is) (n ∷ ns) [] handed begin mails same carries fronts = absurd mails
-  each_mailed log (i ∷ is) (n ∷ ns) (m ∷ ms) [] begin mails same carries fronts = absurd cc
-  each_mailed log (i ∷ is) (n ∷ ns) (m ∷ ms) (h ∷ hs) begin mails same carries fronts =
-      let servers = map (λ (m : DatagramWorker I J H R T). m.server) ms in
-      let those = map (λ (h : Handed H). h.server) hs in (
-        m.fault,
-        list_any (λ (m : DatagramWorker I J H R T). m.fault) ms,
-        refl,
-        h.server.holding.left,
-        left_by hs,
-        refl,
-        h.server.holding.took ++ h.rest,
-        carried_by hs,
-        refl,
-        mailed log i n m h mails.0 begin.0 (first_same m.server h.server servers those same) carries.0 fronts.0,
-        each_mailed log is ns ms hs begin.1 mails.1 (ap tail_of same) carries.1 fronts.1,
-      )
+      → AllByRecursion (λ (m : Mailing H). IsFront (conduct.seen m.host).known log) (map (λ (m : DatagramWorker I J H F R). m.server) lasts)
+      → EachCounts conduct counting catalogue starts log turns (list_any (λ (m : DatagramWorker I J H F R). m.fault) lasts)
+      (map box inboxes) (map box (map (λ (m : DatagramWorker I J H F R). m.inbox) lasts))
+      (left_by (map (λ (m : DatagramWorker I J H F R). m.server) lasts))
+      (map (λ (m : Mailing H). counting.counted m.host) (map (λ (m : DatagramWorker I J H F R). m.server) lasts))
+  each_mailed log [] [] [] begin mails fronts = (refl, refl)
+  each_mailed log [] [] (m ∷ ms) begin mails fronts = absurd mails
+  each_mailed log [] (n ∷ ns) lasts begin mails fronts = absurd begin
+  each_mailed log (i ∷ is) [] lasts begin mails fronts = absurd begin
+  each_mailed log (i ∷ is) (n ∷ ns) [] begin mails fronts = absurd mails
+  each_mailed log (i ∷ is) (n ∷ ns) (m ∷ ms) begin mails fronts = (
+    m.fault,
+    list_any (λ (m : DatagramWorker I J H F R). m.fault) ms,
+    refl,
+    m.server.holding.left,
+    left_by (map (λ (m : DatagramWorker I J H F R). m.server) ms),
+    refl,
+    mailed log i n m mails.0 begin.0 fronts.0,
+    each_mailed log is ns ms begin.1 mails.1 fronts.1,
+  )
 
   -- each had one part of the queue, and has it still
-  pub queues : (inboxes : List I) (firsts lasts : List (DatagramWorker I J H R T))
+  pub queues : (inboxes : List I) (firsts lasts : List (DatagramWorker I J H F R))
       → AllZip (BeginsMail conduct counting catalogue starts queue turns) inboxes firsts
       → AllZip (AnswersDatagrams conduct counting.counted box faults) firsts lasts
-      → AllByRecursion (λ (m : DatagramWorker I J H R T). m.server.holding.queue ≡ queue) lasts
+      → AllByRecursion (λ (m : DatagramWorker I J H F R). m.server.holding.queue ≡ queue) lasts
   queues [] [] [] begin mails = tt
   queues [] [] (m ∷ ms) begin mails = absurd mails
   queues [] (n ∷ ns) lasts begin mails = absurd begin
@@ -196,37 +168,45 @@ module _ {I J H R T : Type 0} (conduct : Conduct H) (counting : Counting H T) (b
     queues is ns ms begin.1 mails.1,
   )
 
-  pub parts_are : (inboxes : List I) (firsts lasts : List (DatagramWorker I J H R T)) (handed : List (Handed H))
+  pub parts_are : (inboxes : List I) (firsts lasts : List (DatagramWorker I J H F R))
       → AllZip (BeginsMail conduct counting catalogue starts queue turns) inboxes firsts
       → AllZip (AnswersDatagrams conduct counting.counted box faults) firsts lasts
-      → map (λ (m : DatagramWorker I J H R T). m.server) lasts ≡ map (λ (h : Handed H). h.server) handed
-      → (parts_of handed ≡ length inboxes) × (length handed ≡ length inboxes)
-  parts_are [] [] [] [] begin mails same = (refl, refl)
-  parts_are [] [] [] (h ∷ hs) begin mails same = absurd cc
-  parts_are [] [] (m ∷ ms) handed begin mails same = absurd mails
-  parts_are [] (n ∷ ns) lasts handed begin mails same = absurd begin
-  parts_are (i ∷ is) [] lasts handed begin mails same = absurd begin
-  parts_are (i ∷ is) (n ∷ ns) [] handed begin mails same = absurd mails
-  parts_are (i ∷ is) (n ∷ ns) (m ∷ ms) [] begin mails same = absurd cc
-  parts_are (i ∷ is) (n ∷ ns) (m ∷ ms) (h ∷ hs) begin mails same =
-      let servers = map (λ (m : DatagramWorker I J H R T). m.server) ms in
-      let those = map (λ (h : Handed H). h.server) hs in
-      let is_same : h.server ≡ m.server = sym (first_same m.server h.server servers those same) in
-      let one : h.server.holding.parts ≡ 1 =
-      ap (λ (s : Mailing H). s.holding.parts) is_same
-      ∙ ap (λ (k : Holding). k.parts) mails.0.serves.serves.holding
+      → parts_of (map (λ (m : DatagramWorker I J H F R). m.server) lasts) ≡ length inboxes
+  parts_are [] [] [] begin mails = refl
+  parts_are [] [] (m ∷ ms) begin mails = absurd mails
+  parts_are [] (n ∷ ns) lasts begin mails = absurd begin
+  parts_are (i ∷ is) [] lasts begin mails = absurd begin
+  parts_are (i ∷ is) (n ∷ ns) [] begin mails = absurd mails
+  parts_are (i ∷ is) (n ∷ ns) (m ∷ ms) begin mails =
+      let one : m.server.holding.parts ≡ 1 =
+      ap (λ (k : Holding). k.parts) mails.0.serves.serves.holding
       ∙ ap (λ (s : Mailing H). s.holding.parts) begin.0.server_is in
-      let more = parts_are is ns ms hs begin.1 mails.1 (ap tail_of same) in
-      let p = more.0 in
-      let q = more.1 in
-      (omega (arith, one, p), omega (arith, q))
+      let more = parts_are is ns ms begin.1 mails.1 in
+      omega (arith, one, more)
+
+  -- none has taken anything over from there
+  pub took_none : (inboxes : List I) (firsts lasts : List (DatagramWorker I J H F R))
+      → AllZip (BeginsMail conduct counting catalogue starts queue turns) inboxes firsts
+      → AllZip (AnswersDatagrams conduct counting.counted box faults) firsts lasts
+      → took_by (map (λ (m : DatagramWorker I J H F R). m.server) lasts) ≡ []
+  took_none [] [] [] begin mails = refl
+  took_none [] [] (m ∷ ms) begin mails = absurd mails
+  took_none [] (n ∷ ns) lasts begin mails = absurd begin
+  took_none (i ∷ is) [] lasts begin mails = absurd begin
+  took_none (i ∷ is) (n ∷ ns) [] begin mails = absurd mails
+  took_none (i ∷ is) (n ∷ ns) (m ∷ ms) begin mails =
+      let none : m.server.holding.took ≡ [] =
+      ap (λ (k : Holding). k.took) mails.0.serves.serves.holding
+      ∙ ap (λ (l : List Deferred). l ++ []) (ap (λ (s : Mailing H). s.holding.took) begin.0.server_is) in
+      ap (λ (l : List Deferred). l ++ took_by (map (λ (m : DatagramWorker I J H F R). m.server) ms)) none
+      ∙ took_none is ns ms begin.1 mails.1
 
   -- where one has failed, the count of its inbox rose
-  pub some_fails : (inboxes : List I) (firsts lasts : List (DatagramWorker I J H R T))
+  pub some_fails : (inboxes : List I) (firsts lasts : List (DatagramWorker I J H F R))
       → AllZip (BeginsMail conduct counting catalogue starts queue turns) inboxes firsts
       → AllZip (AnswersDatagrams conduct counting.counted box faults) firsts lasts
-      → list_any (λ (m : DatagramWorker I J H R T). m.fault) lasts ≡ true
-      → SomeHasRisen (map faults inboxes) (map faults (map (λ (m : DatagramWorker I J H R T). m.inbox) lasts))
+      → list_any (λ (m : DatagramWorker I J H F R). m.fault) lasts ≡ true
+      → SomeHasRisen (map faults inboxes) (map faults (map (λ (m : DatagramWorker I J H F R). m.inbox) lasts))
   some_fails [] [] [] begin mails fails = absurd cc
   some_fails [] [] (m ∷ ms) begin mails fails = absurd mails
   some_fails [] (n ∷ ns) lasts begin mails fails = absurd begin
@@ -235,9 +215,9 @@ module _ {I J H R T : Type 0} (conduct : Conduct H) (counting : Counting H T) (b
   some_fails (i ∷ is) (n ∷ ns) (m ∷ ms) begin mails fails =
       by m.fault refl fails (λ some. some_fails is ns ms begin.1 mails.1 some)
     where
-      by : (failed : Bool) → m.fault ≡ failed → (failed || list_any (λ (m : DatagramWorker I J H R T). m.fault) ms) ≡ true
-          → (list_any (λ (m : DatagramWorker I J H R T). m.fault) ms ≡ true
-          → SomeHasRisen (map faults is) (map faults (map (λ (m : DatagramWorker I J H R T). m.inbox) ms)))
-          → SomeHasRisen (map faults (i ∷ is)) (map faults (map (λ (m : DatagramWorker I J H R T). m.inbox) (m ∷ ms)))
+      by : (failed : Bool) → m.fault ≡ failed → (failed || list_any (λ (m : DatagramWorker I J H F R). m.fault) ms) ≡ true
+          → (list_any (λ (m : DatagramWorker I J H F R). m.fault) ms ≡ true
+          → SomeHasRisen (map faults is) (map faults (map (λ (m : DatagramWorker I J H F R). m.inbox) ms)))
+          → SomeHasRisen (map faults (i ∷ is)) (map faults (map (λ (m : DatagramWorker I J H F R). m.inbox) (m ∷ ms)))
       by true is_failed some rest = inl (subst (λ (x : I). HasRisen (faults x) (faults m.inbox)) begin.0.inbox_is (mails.0.cause is_failed))
       by false is_failed some rest = inr (rest some)

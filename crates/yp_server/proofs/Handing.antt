@@ -6,10 +6,10 @@ use Rattle.yp_board.specs.Logs.{Log}
 use Rattle.yp_board.specs.Views.{IsFront}
 use Rattle.yp_answer.specs.session.Hosts.{Conduct}
 use Rattle.yp_worker.specs.Summing.{Counting}
-use Rattle.yp_worker.specs.datagrams.Mailing.{Awaited, Holding, Mailing, CarriesAll}
+use Rattle.yp_worker.specs.datagrams.Mailing.{Deferred, Holding, Mailing, held_behind}
 use Rattle.yp_worker.specs.datagrams.Queues.{weigh}
 use Rattle.yp_server.specs.declared.datagrams.DatagramWorker.{DatagramWorker}
-use Rattle.yp_server.specs.inside.Handing.{Handed, left_by, carried_by, parts_of, HandsOverMail, HandsOverMails}
+use Rattle.yp_server.specs.inside.Handing.{left_by, took_by, parts_of, HandsOverMail, HandsOverMails}
 use Rattle.yp_server.proofs.Fronts.{front_self, front_then, fronts_then}
 
 -- ---- what holds of all of a list
@@ -33,122 +33,105 @@ fold_push f from (y ∷ xs) x = fold_push f (f from y) xs x
 
 -- ---- what was handed over
 
-pub weigh_append : (h : Awaited → ℕ) (xs ys : List Awaited) → weigh h (xs ++ ys) ≡ weigh h xs + weigh h ys
+pub weigh_append : (h : Deferred → ℕ) (xs ys : List Deferred) → weigh h (xs ++ ys) ≡ weigh h xs + weigh h ys
 weigh_append h [] ys = omega arith
 weigh_append h (x ∷ xs) ys = let more = weigh_append h xs ys in omega (arith, more)
 
 module _ {H : Type 0} where
-  left_push : (xs : List (Handed H)) (x : Handed H) (weight : Awaited → ℕ)
-      → weigh weight (left_by (xs ++ x ∷ [])) ≡ weigh weight (left_by xs) + weigh weight x.server.holding.left
-  left_push [] x weight = weigh_append weight x.server.holding.left [] ∙ omega arith
-  left_push (y ∷ xs) x weight =
-      let more = left_push xs x weight in
-      omega (arith, more, weigh_append weight y.server.holding.left (left_by (xs ++ x ∷ [])), weigh_append weight y.server.holding.left (left_by xs))
+  left_push : (xs : List (Mailing H)) (x : Mailing H) → left_by (xs ++ x ∷ []) ≡ left_by xs ++ x.holding.left
+  left_push [] x = append-nil x.holding.left
+  left_push (y ∷ xs) x =
+      ap (λ (l : List Deferred). y.holding.left ++ l) (left_push xs x) ∙ sym (append_assoc y.holding.left (left_by xs) x.holding.left)
 
-  carried_push : (xs : List (Handed H)) (x : Handed H) (weight : Awaited → ℕ)
-      → weigh weight (carried_by (xs ++ x ∷ [])) ≡ weigh weight (carried_by xs) + weigh weight (x.server.holding.took ++ x.rest)
-  carried_push [] x weight = weigh_append weight (x.server.holding.took ++ x.rest) [] ∙ omega arith
-  carried_push (y ∷ xs) x weight =
-      let more = carried_push xs x weight in
-      omega (arith, more, weigh_append weight (y.server.holding.took ++ y.rest) (carried_by (xs ++ x ∷ [])), weigh_append weight (y.server.holding.took ++ y.rest) (carried_by xs))
+  took_push : (xs : List (Mailing H)) (x : Mailing H) → took_by (xs ++ x ∷ []) ≡ took_by xs ++ x.holding.took
+  took_push [] x = append-nil x.holding.took
+  took_push (y ∷ xs) x =
+      ap (λ (l : List Deferred). y.holding.took ++ l) (took_push xs x) ∙ sym (append_assoc y.holding.took (took_by xs) x.holding.took)
 
-  parts_push : (xs : List (Handed H)) (x : Handed H) → parts_of (xs ++ x ∷ []) ≡ parts_of xs + x.server.holding.parts
+  parts_push : (xs : List (Mailing H)) (x : Mailing H) → parts_of (xs ++ x ∷ []) ≡ parts_of xs + x.holding.parts
   parts_push [] x = omega arith
   parts_push (y ∷ xs) x = let more = parts_push xs x in omega (arith, more)
 
 module _ {H S T : Type 0} (conduct : Conduct H) (counting : Counting H T) (summed : S → T) (reached : S → Log) where
-  pub none_handed : (others : Holding) (old : S) → HandsOverMails conduct counting summed reached [] others others old old
-  none_handed others old = record {
-    handed = [];
-    servers_are = refl;
-    carries = tt;
+  pub none_handed : (held : Holding) (old : S) → HandsOverMails conduct counting summed reached [] held held old old
+  none_handed held old = record {
     added = refl;
     covered = tt;
     kept = front_self (reached old);
     queue = refl;
     parts = omega arith;
-    left = λ weight. omega arith;
-    took = λ weight. omega arith;
-    all = λ some. absurd (omega (arith, some));
+    left = sym (append-nil held.left);
+    took = sym (append-nil held.took);
   }
 
-  pub one_handed : (servers : List (Mailing H)) (server : Mailing H) (others held now : Holding) (old mid new : S)
-      → HandsOverMails conduct counting summed reached servers others held old mid
-      → HandsOverMail conduct counting summed reached server held now mid new
-      → HandsOverMails conduct counting summed reached (servers ++ server ∷ []) others now old new
-  one_handed servers server others held now old mid new before one =
-      let this : Handed H = record { server = server; rest = one.rest; host = one.host } in record {
-        handed = before.handed ++ this ∷ [];
-        servers_are =
-            ap (λ (l : List (Mailing H)). l ++ server ∷ []) before.servers_are
-            ∙ sym (map-append (λ (h : Handed H). h.server) before.handed (this ∷ []));
-        carries = rec_append (λ (h : Handed H). CarriesAll conduct h.rest h.server.host h.host) before.handed (this ∷ [])
-            before.carries (one.carries, tt);
-        added =
-            one.added ∙ ap (λ (s : T). counting.plus s (counting.counted one.host)) before.added
-            ∙ sym (fold_push counting.plus (summed old) (map (λ (h : Handed H). counting.counted h.host) before.handed) (counting.counted one.host))
-            ∙ ap (fold counting.plus (summed old)) (sym (map-append (λ (h : Handed H). counting.counted h.host) before.handed (this ∷ [])));
-        covered = rec_append (λ (h : Handed H). IsFront (conduct.seen h.host).known (reached new)) before.handed (this ∷ [])
-            (fronts_then (λ (h : Handed H). (conduct.seen h.host).known) (reached mid) (reached new) before.handed one.kept before.covered)
-            (one.covered, tt);
-        kept = front_then (reached old) (reached mid) (reached new) before.kept one.kept;
-        queue = one.queue ∙ before.queue;
-        parts = let p = one.parts in let q = before.parts in let r = parts_push before.handed this in omega (arith, p, q, r);
-        left = λ weight.
-            let p = ap (weigh weight) one.left in
-            let q = before.left weight in
-            let r = left_push before.handed this weight in
-            omega (arith, p, q, r, weigh_append weight server.holding.left held.left);
-        took = λ weight.
-            let p = ap (weigh weight) one.took in
-            let q = before.took weight in
-            let r = carried_push before.handed this weight in
-            omega (
-              arith,
-              p,
-              q,
-              r,
-              weigh_append weight (server.holding.took ++ held.took) one.rest,
-              weigh_append weight server.holding.took held.took,
-              weigh_append weight server.holding.took one.rest,
-            );
-        all = λ some whole. one.all whole;
-      }
+  pub one_handed : (servers : List (Mailing H)) (server : Mailing H) (before held part now : Holding) (old mid new : S)
+      → HandsOverMails conduct counting summed reached servers before held old mid
+      → HandsOverMail conduct counting summed reached server part mid new
+      → now.parts ≡ held.parts + part.parts → now ≡ record (held_behind held part.left part.took) { parts = now.parts }
+      → HandsOverMails conduct counting summed reached (servers ++ server ∷ []) before now old new
+  one_handed servers server before held part now old mid new first one parts merged = record {
+    added =
+        one.added ∙ ap (λ (s : T). counting.plus s (counting.counted server.host)) first.added
+        ∙ sym (fold_push counting.plus (summed old) (map (λ (m : Mailing H). counting.counted m.host) servers) (counting.counted server.host))
+        ∙ ap (fold counting.plus (summed old)) (sym (map-append (λ (m : Mailing H). counting.counted m.host) servers (server ∷ [])));
+    covered = rec_append (λ (m : Mailing H). IsFront (conduct.seen m.host).known (reached new)) servers (server ∷ [])
+        (fronts_then (λ (m : Mailing H). (conduct.seen m.host).known) (reached mid) (reached new) servers one.kept first.covered)
+        (one.covered, tt);
+    kept = front_then (reached old) (reached mid) (reached new) first.kept one.kept;
+    queue = ap (λ (h : Holding). h.queue) merged ∙ first.queue;
+    parts =
+        let own = ap (λ (h : Holding). h.parts) one.held_is in
+        let so_far = first.parts in
+        let more = parts_push servers server in
+        omega (arith, parts, own, so_far, more);
+    left =
+        ap (λ (h : Holding). h.left) merged
+        ∙ ap (λ (l : List Deferred). l ++ part.left) first.left
+        ∙ ap (λ (l : List Deferred). (before.left ++ left_by servers) ++ l) (ap (λ (h : Holding). h.left) one.held_is)
+        ∙ append_assoc before.left (left_by servers) server.holding.left
+        ∙ ap (λ (l : List Deferred). before.left ++ l) (sym (left_push servers server));
+    took =
+        ap (λ (h : Holding). h.took) merged
+        ∙ ap (λ (l : List Deferred). l ++ part.took) first.took
+        ∙ ap (λ (l : List Deferred). (before.took ++ took_by servers) ++ l) (ap (λ (h : Holding). h.took) one.held_is)
+        ∙ append_assoc before.took (took_by servers) server.holding.took
+        ∙ ap (λ (l : List Deferred). before.took ++ l) (sym (took_push servers server));
+  }
 
-module _ {I J H R N : Type 0} (all front : List (DatagramWorker I J H R N)) (m : DatagramWorker I J H R N) (is : all ≡ front ++ m ∷ []) where
+module _ {I J H F R : Type 0} (all front : List (DatagramWorker I J H F R)) (m : DatagramWorker I J H F R) (is : all ≡ front ++ m ∷ []) where
   turned : reverse all ≡ m ∷ reverse front
   turned = ap reverse is ∙ reverse-append front (m ∷ [])
 
-  pub one_inbox : (done whole : List I) → done ++ map (λ (m : DatagramWorker I J H R N). m.inbox) (reverse all) ≡ whole
+  pub one_inbox : (done whole : List I) → done ++ map (λ (m : DatagramWorker I J H F R). m.inbox) (reverse all) ≡ whole
       → (new : List I) (inbox : I) → new ≡ done ++ inbox ∷ [] → inbox ≡ m.inbox
-      → new ++ map (λ (m : DatagramWorker I J H R N). m.inbox) (reverse front) ≡ whole
+      → new ++ map (λ (m : DatagramWorker I J H F R). m.inbox) (reverse front) ≡ whole
   one_inbox done whole before new inbox pushed same =
-      ap (λ (l : List I). l ++ map (λ (m : DatagramWorker I J H R N). m.inbox) (reverse front)) (pushed ∙ ap (λ (i : I). done ++ i ∷ []) same)
-      ∙ append_assoc done (m.inbox ∷ []) (map (λ (m : DatagramWorker I J H R N). m.inbox) (reverse front))
-      ∙ ap (λ (l : List (DatagramWorker I J H R N)). done ++ map (λ (m : DatagramWorker I J H R N). m.inbox) l) (sym turned)
+      ap (λ (l : List I). l ++ map (λ (m : DatagramWorker I J H F R). m.inbox) (reverse front)) (pushed ∙ ap (λ (i : I). done ++ i ∷ []) same)
+      ∙ append_assoc done (m.inbox ∷ []) (map (λ (m : DatagramWorker I J H F R). m.inbox) (reverse front))
+      ∙ ap (λ (l : List (DatagramWorker I J H F R)). done ++ map (λ (m : DatagramWorker I J H F R). m.inbox) l) (sym turned)
       ∙ before
 
   or_then : (a b c : Bool) → ((a || b) || c) ≡ (a || (b || c))
   or_then true b c = refl
   or_then false b c = refl
 
-  pub one_fault : (done whole : Bool) → (done || list_any (λ (m : DatagramWorker I J H R N). m.fault) (reverse all)) ≡ whole
-      → (fault : Bool) → fault ≡ m.fault → ((done || fault) || list_any (λ (m : DatagramWorker I J H R N). m.fault) (reverse front)) ≡ whole
+  pub one_fault : (done whole : Bool) → (done || list_any (λ (m : DatagramWorker I J H F R). m.fault) (reverse all)) ≡ whole
+      → (fault : Bool) → fault ≡ m.fault → ((done || fault) || list_any (λ (m : DatagramWorker I J H F R). m.fault) (reverse front)) ≡ whole
   one_fault done whole before fault same =
-      ap (λ b. (done || b) || list_any (λ (m : DatagramWorker I J H R N). m.fault) (reverse front)) same
-      ∙ or_then done m.fault (list_any (λ (m : DatagramWorker I J H R N). m.fault) (reverse front))
-      ∙ ap (λ (l : List (DatagramWorker I J H R N)). done || list_any (λ (m : DatagramWorker I J H R N). m.fault) l) (sym turned)
+      ap (λ b. (done || b) || list_any (λ (m : DatagramWorker I J H F R). m.fault) (reverse front)) same
+      ∙ or_then done m.fault (list_any (λ (m : DatagramWorker I J H F R). m.fault) (reverse front))
+      ∙ ap (λ (l : List (DatagramWorker I J H F R)). done || list_any (λ (m : DatagramWorker I J H F R). m.fault) l) (sym turned)
       ∙ before
 
-  pub one_server : (done whole : List (Mailing H)) → done ++ map (λ (m : DatagramWorker I J H R N). m.server) (reverse all) ≡ whole
-      → (done ++ m.server ∷ []) ++ map (λ (m : DatagramWorker I J H R N). m.server) (reverse front) ≡ whole
+  pub one_server : (done whole : List (Mailing H)) → done ++ map (λ (m : DatagramWorker I J H F R). m.server) (reverse all) ≡ whole
+      → (done ++ m.server ∷ []) ++ map (λ (m : DatagramWorker I J H F R). m.server) (reverse front) ≡ whole
   one_server done whole before =
-      append_assoc done (m.server ∷ []) (map (λ (m : DatagramWorker I J H R N). m.server) (reverse front))
-      ∙ ap (λ (l : List (DatagramWorker I J H R N)). done ++ map (λ (m : DatagramWorker I J H R N). m.server) l) (sym turned)
+      append_assoc done (m.server ∷ []) (map (λ (m : DatagramWorker I J H F R). m.server) (reverse front))
+      ∙ ap (λ (l : List (DatagramWorker I J H F R)). done ++ map (λ (m : DatagramWorker I J H F R). m.server) l) (sym turned)
       ∙ before
 
 -- where none is left, all servers have handed over
-pub all_servers : {I J H R N : Type 0} (done whole : List (Mailing H)) (all : List (DatagramWorker I J H R N)) → length all ≡ 0
-    → done ++ map (λ (m : DatagramWorker I J H R N). m.server) (reverse all) ≡ whole → done ≡ whole
+pub all_servers : {I J H F R : Type 0} (done whole : List (Mailing H)) (all : List (DatagramWorker I J H F R)) → length all ≡ 0
+    → done ++ map (λ (m : DatagramWorker I J H F R). m.server) (reverse all) ≡ whole → done ≡ whole
 all_servers done whole [] none is = sym (append-nil done) ∙ is
 all_servers done whole (x ∷ xs) none is = absurd (omega (arith, none))

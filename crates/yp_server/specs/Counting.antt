@@ -13,7 +13,7 @@ use Rattle.yp_answer.specs.session.Hosts.{Conduct}
 use Rattle.yp_rpc.specs.Turns.{InboxTells}
 use Rattle.yp_publisher.specs.sharing.Failures.{faults_over}
 use Rattle.yp_worker.specs.Receptions.{Terms, ListenTells}
-use Rattle.yp_worker.specs.datagrams.Mailing.{Awaited}
+use Rattle.yp_worker.specs.datagrams.Mailing.{Deferred}
 use Rattle.yp_worker.specs.datagrams.Queues.{WeighTheSame}
 use Rattle.yp_worker.specs.Summing.{Counting, SumsUp, counting_of}
 use Rattle.yp_host.specs.declared.workers.outcome.Totals.{Totals}
@@ -33,68 +33,69 @@ count_told = counting_of counted_of nothing_counted counted_plus
 
 -- Datagrams were served by a host that had counted nothing yet, and has counted this then.
 pub record CountsDatagrams {H T : Type 0} (conduct : Conduct H) (counting : Counting H T) (catalogue : Catalogue)
-    (starts log : Log) (turns : ℕ) (fault : Bool) (before after : InboxTells) (left carried : List Awaited) (count : T)
+    (starts log : Log) (turns : ℕ) (fault : Bool) (before after : InboxTells) (left : List Deferred) (count : T)
     : Type 0 where
-  pub served : ServesDatagrams conduct counting.counted catalogue starts log turns fault before after left carried
+  pub served : ServesDatagrams conduct counting.counted catalogue starts log turns fault before after left
   pub from_none : counting.counted served.old ≡ counting.none
-  pub counted : counting.counted served.new ≡ count
+  pub counted : counting.counted served.ended.host ≡ count
 
 -- Inboxes were served, each so, by a host that has counted this then. One of them has failed exactly where that is
 -- said.
 abbrev pub EachCounts : {H T : Type 0} → Conduct H → Counting H T → Catalogue → (starts log : Log) → (turns : ℕ)
-    → (fault : Bool) → (before after : List InboxTells) → (left carried : List Awaited) → (counts : List T) → Type 0
-EachCounts conduct counting catalogue starts log turns fault [] [] left carried [] =
-    (fault ≡ false) × (left ≡ []) × (carried ≡ [])
-EachCounts conduct counting catalogue starts log turns fault (old ∷ before) (new ∷ after) left carried
-    (count ∷ counts) =
+    → (fault : Bool) → (before after : List InboxTells) → (left : List Deferred) → (counts : List T) → Type 0
+EachCounts conduct counting catalogue starts log turns fault [] [] left [] = (fault ≡ false) × (left ≡ [])
+EachCounts conduct counting catalogue starts log turns fault (old ∷ before) (new ∷ after) left (count ∷ counts) =
     (failed : Bool) × (others : Bool) × (fault ≡ failed || others)
-    × (left_here : List Awaited) × (left_there : List Awaited) × (left ≡ left_here ++ left_there)
-    × (carried_here : List Awaited) × (carried_there : List Awaited) × (carried ≡ carried_here ++ carried_there)
-    × CountsDatagrams conduct counting catalogue starts log turns failed old new left_here carried_here count
-    × EachCounts conduct counting catalogue starts log turns others before after left_there carried_there counts
-EachCounts conduct counting catalogue starts log turns fault before after left carried counts = ⊥
+    × (left_here : List Deferred) × (left_there : List Deferred) × (left ≡ left_here ++ left_there)
+    × CountsDatagrams conduct counting catalogue starts log turns failed old new left_here count
+    × EachCounts conduct counting catalogue starts log turns others before after left_there counts
+EachCounts conduct counting catalogue starts log turns fault before after left counts = ⊥
 
--- Transfers were carried out by a host that had counted nothing yet, and has counted this then.
+-- What was left was done by a host that had counted nothing yet, and has counted this then: transfers, and the maps
+-- that were made for calls.
 pub record CountsBeside {H T : Type 0} (conduct : Conduct H) (counting : Counting H T) (catalogue : Catalogue)
-    (starts log : Log) (carried : List Awaited) (count : T) : Type 0 where
-  pub carries : CarriesBeside conduct catalogue starts log carried
+    (starts log : Log) (fault : Bool) (before after : InboxTells) (took : List Deferred) (count : T) : Type 0 where
+  pub carries : CarriesBeside conduct counting.counted catalogue starts log fault before after took
   pub from_none : counting.counted carries.old ≡ counting.none
   pub counted : counting.counted carries.new ≡ count
 
--- Inboxes were served, each so by a host of its own, and one host more carried out transfers beside them. All transfers
--- that were left by one of the hosts were carried out by one of them, or beside them.
+-- Inboxes were served, each so by a host of its own, and one host more did what those left, beside them, and replied
+-- from an inbox of its own. One of all inboxes has failed exactly where that is said. All that was left was done, as
+-- often as it was left.
 pub record CountsInboxes {H T : Type 0} (conduct : Conduct H) (counting : Counting H T) (catalogue : Catalogue)
-    (starts log : Log) (turns : ℕ) (fault : Bool) (before after : List InboxTells) (of_carrier : T) (counts : List T)
-    : Type 0 where
-  pub left : List Awaited
-  pub carried : List Awaited
-  pub beside : List Awaited
-  pub each : EachCounts conduct counting catalogue starts log turns fault before after left carried counts
-  pub carrier : CountsBeside conduct counting catalogue starts log beside of_carrier
-  pub all : WeighTheSame left (carried ++ beside)
+    (starts log : Log) (turns : ℕ) (fault : Bool) (before after : List InboxTells) (out out' : InboxTells)
+    (counts : List T) (of_carrier : T) : Type 0 where
+  pub failed : Bool
+  pub lost : Bool
+  pub fault_is : fault ≡ failed || lost
+  pub left : List Deferred
+  pub took : List Deferred
+  pub each : EachCounts conduct counting catalogue starts log turns failed before after left counts
+  pub carrier : CountsBeside conduct counting catalogue starts log lost out out' took of_carrier
+  pub all : WeighTheSame left took
 
 -- What all hosts did and counted: in the connections that workers served, of which so many records were read, in the
--- turns of the datagrams of each inbox, and in the transfers that one more carried out for these. What was known at the
--- end of each is a front of this log.
+-- turns of the datagrams of each inbox, and in what one more did that these left. What was known at the end of each is
+-- a front of this log.
 pub record CountsAll {H T : Type 0} (conduct : Conduct H) (counting : Counting H T) (terms : Terms)
     (door door' : ListenTells) (calls : ℕ) (log : Log) (turns : ℕ) (fault : Bool) (before after : List InboxTells)
-    (all : T) : Type 0 where
+    (out out' : InboxTells) (all : T) : Type 0 where
   pub connections : T
-  pub transfers : T
   pub datagrams : List T
+  pub deferred : T
   pub of_connections : SumsUp conduct counting terms door door' calls connections log
-  pub of_datagrams : CountsInboxes conduct counting terms.catalogue terms.starts log turns fault before after transfers
-      datagrams
-  pub all_is : all ≡ fold counting.plus connections (transfers ∷ datagrams)
+  pub of_datagrams : CountsInboxes conduct counting terms.catalogue terms.starts log turns fault before after out out'
+      datagrams deferred
+  pub all_is : all ≡ counting.plus (fold counting.plus connections datagrams) deferred
 
 -- What all hosts did and counted, in these totals, and what a dial was used for meanwhile: transfers of these maps
 -- alone. Each caller was told what a host left it, and each that a host left something was told it, as often as it was
 -- left; and each version that was shown by a transfer whose caller was told so came by a wire.
 pub record CountsAndTells {V : Type 0} (conduct : Conduct (WorkerState V)) (terms : Terms) (door door' : ListenTells)
-    (calls : ℕ) (log : Log) (turns : ℕ) (fault : Bool) (before after : List InboxTells) (totals : Totals)
-    (hosts : HostList) (dial dial' : DialTells) : Type 0 where
+    (calls : ℕ) (log : Log) (turns : ℕ) (fault : Bool) (before after : List InboxTells) (out out' : InboxTells)
+    (totals : Totals) (hosts : HostList) (dial dial' : DialTells) : Type 0 where
   pub told : List CallBack
-  pub counted : CountsAll conduct count_told terms door door' calls log turns fault before after
+  pub counted : CountsAll conduct count_told terms door door' calls log turns fault before after out out'
       (record { totals = totals; told = told })
   pub posted : List CallBack
   pub used : IsUsedForTransfers hosts terms.catalogue.maps posted dial dial'

@@ -12,9 +12,10 @@ use Rattle.yp_transfer.specs.HostTable.{HostList}
 use Rattle.yp_answer.specs.session.Hosts.{Counts, Conduct, conduct_of}
 use Rattle.yp_rpc.specs.Turns.{InboxTells}
 use Rattle.yp_rpc.specs.declared.turns.Ended.{Ended}
-use Rattle.yp_worker.specs.datagrams.Mailing.{QueueName, Awaited, Mailing, CarriesAll, nothing_held}
+use Rattle.yp_worker.specs.datagrams.Mailing.{QueueName, Deferred, Mailing, nothing_held}
 use Rattle.yp_worker.specs.datagrams.Queues.{WeighTheSame}
 use Rattle.yp_worker.specs.datagrams.Serving.{ServesMail}
+use Rattle.yp_worker.specs.datagrams.Carrying.{CarrierStep, Delivers, left_for}
 use Rattle.yp_host.specs.workers.Desks.{texts_alone}
 use Rattle.yp_host.specs.workers.Workers.{WorkerState, counts_of, Stepped, WorkerMakesMap, WorkerTransfersMap}
 
@@ -31,7 +32,7 @@ pub record IsAtStart (catalogue : Catalogue) (starts : Log) (seen : Seen) : Type
   pub catalogue_is : seen.catalogue ≡ catalogue
   pub known : seen.known ≡ starts
 
--- a server of datagrams for which no transfer waits, with one part of a queue of transfers, in which it has left none
+-- a server of datagrams for which no transfer waits, with one part of a queue, in which it has left nothing
 abbrev pub at_rest : {H : Type 0} → QueueName → H → Mailing H
 at_rest queue host = record { host = host; waiting = None; holding = nothing_held queue 1 }
 
@@ -40,65 +41,66 @@ abbrev pub no_counts : Counts
 no_counts = record { files = 0; transfers = 0 }
 
 -- A host that knew these maps at the start, and had counted nothing, had so many turns of an inbox at most: each
--- datagram of at most 8,192 bytes got its reply, or silence, on what the host then knew, before the next turn. All
--- turns were taken, or the inbox has failed, exactly where that is said. Each transfer that a datagram took whose reply
--- went out was left in a queue of all servers, and the host carried out these ones, of which some may have been carried
--- out behind the turns. What the host knew then is a front of this log.
+-- datagram of at most 8,192 bytes got its reply, or silence, on what the host then knew, before the next turn, unless a
+-- map may be made for it and it was left for a carrier. All turns were taken, or the inbox has failed, exactly where
+-- that is said. Each transfer that a datagram took whose reply went out was carried out by the host behind that, or
+-- left. What the host knew then is a front of this log.
 pub record ServesDatagrams {H T : Type 0} (conduct : Conduct H) (counted : H → T) (catalogue : Catalogue)
-    (starts log : Log) (turns : ℕ) (fault : Bool) (before after : InboxTells) (left carried : List Awaited)
-    : Type 0 where
+    (starts log : Log) (turns : ℕ) (fault : Bool) (before after : InboxTells) (left : List Deferred) : Type 0 where
   pub queue : QueueName
   pub old : H
   pub ended : Mailing H
-  pub rest : List Awaited
-  pub new : H
   pub start : IsAtStart catalogue starts (conduct.seen old)
   pub fresh : conduct.counts old ≡ no_counts
   pub end : Result Ended Failed
   pub fault_is : fault ≡ is_err end
   pub serves : ServesMail conduct counted turns end (at_rest queue old) ended before after
-  pub carries : CarriesAll conduct rest ended.host new
   pub left_is : left ≡ ended.holding.left
-  pub carried_is : carried ≡ ended.holding.took ++ rest
-  pub shown : IsFront (conduct.seen new).known log
+  pub shown : IsFront (conduct.seen ended.host).known log
 
--- Inboxes were served, each so by a host of its own, with the transfers that were left and carried out at each. One of
--- them has failed exactly where that is said.
+-- Inboxes were served, each so by a host of its own, with what was left at each. One of them has failed exactly where
+-- that is said.
 abbrev pub EachServes : {H T : Type 0} → Conduct H → (H → T) → Catalogue → (starts log : Log) → (turns : ℕ)
-    → (fault : Bool) → (before after : List InboxTells) → (left carried : List Awaited) → Type 0
-EachServes conduct counted catalogue starts log turns fault [] [] left carried =
-    (fault ≡ false) × (left ≡ []) × (carried ≡ [])
-EachServes conduct counted catalogue starts log turns fault [] (new ∷ after) left carried = ⊥
-EachServes conduct counted catalogue starts log turns fault (old ∷ before) [] left carried = ⊥
-EachServes conduct counted catalogue starts log turns fault (old ∷ before) (new ∷ after) left carried =
+    → (fault : Bool) → (before after : List InboxTells) → (left : List Deferred) → Type 0
+EachServes conduct counted catalogue starts log turns fault [] [] left = (fault ≡ false) × (left ≡ [])
+EachServes conduct counted catalogue starts log turns fault [] (new ∷ after) left = ⊥
+EachServes conduct counted catalogue starts log turns fault (old ∷ before) [] left = ⊥
+EachServes conduct counted catalogue starts log turns fault (old ∷ before) (new ∷ after) left =
     (failed : Bool) × (others : Bool) × (fault ≡ failed || others)
-    × (left_here : List Awaited) × (left_there : List Awaited) × (left ≡ left_here ++ left_there)
-    × (carried_here : List Awaited) × (carried_there : List Awaited) × (carried ≡ carried_here ++ carried_there)
-    × ServesDatagrams conduct counted catalogue starts log turns failed old new left_here carried_here
-    × EachServes conduct counted catalogue starts log turns others before after left_there carried_there
+    × (left_here : List Deferred) × (left_there : List Deferred) × (left ≡ left_here ++ left_there)
+    × ServesDatagrams conduct counted catalogue starts log turns failed old new left_here
+    × EachServes conduct counted catalogue starts log turns others before after left_there
 
--- A host that knew these maps at the start, and had counted nothing, carried out these transfers, which datagrams took.
--- What the host knew then is a front of this log.
-pub record CarriesBeside {H : Type 0} (conduct : Conduct H) (catalogue : Catalogue) (starts log : Log)
-    (carried : List Awaited) : Type 0 where
+-- A host that knew these maps at the start, and had counted nothing, did this, which was left for it: it carried out
+-- transfers, and answered calls, each on no less than was known when it was left, and sent the replies from an inbox,
+-- in their order. Where the inbox has failed, as is said, it sent no more. What the host knew then is a front of this
+-- log.
+pub record CarriesBeside {H T : Type 0} (conduct : Conduct H) (counted : H → T) (catalogue : Catalogue)
+    (starts log : Log) (fault : Bool) (before after : InboxTells) (took : List Deferred) : Type 0 where
   pub old : H
   pub new : H
   pub start : IsAtStart catalogue starts (conduct.seen old)
   pub fresh : conduct.counts old ≡ no_counts
-  pub carries : CarriesAll conduct carried old new
+  pub steps : List CarrierStep
+  pub unsent : List CarrierStep
+  pub delivers : Delivers conduct counted steps unsent fault old new before after
+  pub took_is : took ≡ map left_for (steps ++ unsent)
   pub shown : IsFront (conduct.seen new).known log
 
--- Inboxes were served, each so by a host of its own, and one of them has failed exactly where that is said. Beside them
--- one host more carried out transfers. All transfers that were left by one of the hosts were carried out by one of
--- them, or beside them.
+-- Inboxes were served, each so by a host of its own, and beside them one host more did what those left, and replied
+-- from an inbox of its own. One of all inboxes has failed exactly where that is said. All that was left was done, as
+-- often as it was left.
 pub record ServesInboxes {H T : Type 0} (conduct : Conduct H) (counted : H → T) (catalogue : Catalogue)
-    (starts log : Log) (turns : ℕ) (fault : Bool) (before after : List InboxTells) : Type 0 where
-  pub left : List Awaited
-  pub carried : List Awaited
-  pub beside : List Awaited
-  pub each : EachServes conduct counted catalogue starts log turns fault before after left carried
-  pub carrier : CarriesBeside conduct catalogue starts log beside
-  pub all : WeighTheSame left (carried ++ beside)
+    (starts log : Log) (turns : ℕ) (fault : Bool) (before after : List InboxTells) (out out' : InboxTells)
+    : Type 0 where
+  pub failed : Bool
+  pub lost : Bool
+  pub fault_is : fault ≡ failed || lost
+  pub left : List Deferred
+  pub took : List Deferred
+  pub each : EachServes conduct counted catalogue starts log turns failed before after left
+  pub carrier : CarriesBeside conduct counted catalogue starts log lost out out' took
+  pub all : WeighTheSame left took
 
 -- One of these counts has risen.
 abbrev pub SomeHasRisen : (before after : List ℕ) → Type 0

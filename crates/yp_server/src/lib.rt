@@ -5,8 +5,9 @@
 //! takes them apart again once all workers have ended. A map is made under the lock of the texts, and fetched under
 //! that of the dial, so no source holds up a make of another worker. Each worker serves many connections at once, and
 //! waits for none of them. Beside them is a worker for each inbox, which it has for itself and whose datagrams it
-//! answers. What each worker did, step by step, how each connection stood as it was closed, that all were closed, what
-//! was counted, what went out for each datagram, and how each map stands then are its clauses.
+//! answers, and a carrier, which does what takes long for these: transfers, and calls for which a map may have to be
+//! made. What each worker did, step by step, how each connection stood as it was closed, that all were closed, what was
+//! counted, what went out for each datagram, and how each map stands then are its clauses.
 #![tactic(auto)]
 
 mod datagrams;

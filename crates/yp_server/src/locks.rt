@@ -1,6 +1,6 @@
 //! The three locks under which workers share what they are lent.
 
-ghost use Rattle.std.specs.Prelude.{◌≡◌, ◌+◌, ◌-◌, ◌^◌, ◌<◌, ◌≤◌, [], map};
+ghost use Rattle.std.specs.Prelude.{◌≡◌, ◌+◌, ◌-◌, ◌^◌, ◌<◌, ◌≤◌, [], map, IfOk};
 ghost use Rattle.yp_worker.specs.inside.Queues.{all_parts};
 ghost use Rattle.std.specs.List.{All};
 ghost use Rattle.yp_io.specs.Counts.{last_count};
@@ -22,6 +22,7 @@ ghost use Rattle.yp_server.specs.Origins.{ComesFrom, EachComesFrom};
 ghost use Rattle.yp_server.specs.Serving.{DisksStand};
 
 use crate::resources::take_apart;
+use std::alloc::Global;
 use std::sync::ledger::{Blank, Book, Share};
 use std::sync::{Mutex, Wait};
 use yp_board::Tell;
@@ -30,43 +31,50 @@ use yp_host::workers::{
     Account, CallBackPass, Charges, Dialer, FailedSources, Materials, PendingCallBacks,
     ReachedOrders, SharedDial, SharedTexts, Supplies, Totals, UnreadTexts,
 };
-use yp_io::{Clock, Dial, Disk, Texts};
+use yp_io::{Clock, Dial, Disk, NoMemory, Texts};
 use yp_publisher::Publisher;
 use yp_publisher::sharing::{
     Accounts, BuiltVersions, Debits, FailedFiles, FetchedVersions, Fetches, FetchesFront, Locked,
     OpenedFetches, Site,
 };
 
-/// Ledgers that nothing stands for yet: those of a listener, and those of what is counted under the locks; and the log
-/// of what is fetched.
+/// Ledgers that nothing stands for yet: those of a listener, and those of what is counted under the locks; the log of
+/// what is fetched; and the queue of those who are to be told what transfers came to, with all parts of it.
 #[derive(Drop)]
 pub(crate) struct Blanks {
     pub(crate) listener: ListenerBlanks,
     pub(crate) charges: ChargeBlanks,
     pub(crate) fetches: OpenedFetches,
+    pub(crate) call_backs: PendingCallBacks,
+    pub(crate) pass: CallBackPass,
 }
 
 impl Blanks {
     /// Ledgers for so many workers of connections, the one that does what takes long among them, for so many of
-    /// datagrams, and for a carrier.
-    pub(crate) fn new(workers: u64, inboxes: u64) -> Blanks
+    /// datagrams, and for a carrier; and an empty log and an empty queue.
+    pub(crate) fn new(alloc: Global, workers: u64, inboxes: u64) -> Result<Blanks, NoMemory>
         requires { workers + inboxes + 4 < 2 ^ 64 }
-        ensures listener { (result.listener.out.parts ≡ workers + 2) × (result.listener.ended.parts ≡ workers + 1) }
-        ensures unread { result.charges.unread.parts ≡ workers + inboxes + 3 }
-        ensures orders { result.charges.orders.parts ≡ workers + inboxes + 3 }
-        ensures sources { result.charges.sources.parts ≡ workers + inboxes + 3 }
-        ensures failures { result.charges.failures.parts ≡ workers + inboxes + 3 }
-        ensures made { result.charges.made.parts ≡ workers + inboxes + 3 }
-        ensures versions { result.charges.versions.parts ≡ workers + inboxes + 4 }
+        ensures listener { IfOk result (λ blanks. (blanks.listener.out.parts ≡ workers + 2)
+            × (blanks.listener.ended.parts ≡ workers + 1)) }
+        ensures unread { IfOk result (λ blanks. blanks.charges.unread.parts ≡ workers + inboxes + 3) }
+        ensures orders { IfOk result (λ blanks. blanks.charges.orders.parts ≡ workers + inboxes + 3) }
+        ensures sources { IfOk result (λ blanks. blanks.charges.sources.parts ≡ workers + inboxes + 3) }
+        ensures failures { IfOk result (λ blanks. blanks.charges.failures.parts ≡ workers + inboxes + 3) }
+        ensures made { IfOk result (λ blanks. blanks.charges.made.parts ≡ workers + inboxes + 3) }
+        ensures versions { IfOk result (λ blanks. blanks.charges.versions.parts ≡ workers + inboxes + 4) }
+        ensures pass { IfOk result (λ blanks. blanks.pass ≡ holds_none blanks.call_backs all_parts) }
     {
-        Blanks {
+        let (call_backs, pass) = PendingCallBacks::new(alloc)?;
+        Ok(Blanks {
             listener: ListenerBlanks {
                 out: Blank::new(workers + 2),
                 ended: Blank::new(workers + 1),
             },
             charges: ChargeBlanks::new(workers + inboxes + 3),
             fetches: OpenedFetches::new(),
-        }
+            call_backs,
+            pass,
+        })
     }
 }
 
@@ -138,6 +146,20 @@ impl CallBackParts {
     }
 }
 
+/// The locks of the publisher, of the texts and of the dial.
+pub(crate) struct Locks<
+    S: Site + Accounts + Supplies,
+    D: Disk,
+    B: Tell,
+    A: Dial,
+    T: Texts,
+    C: Clock,
+> {
+    pub(crate) publisher: Mutex<Locked<S, D, B>>,
+    pub(crate) texts: Mutex<SharedTexts<S, T, C>>,
+    pub(crate) dial: Mutex<SharedDial<S, A>>,
+}
+
 /// The locks of the publisher, of the texts and of the dial, and what all workers are charged by.
 pub(crate) fn lock_up<S, D, B, A, T, C>(
     publisher: Publisher<D, B>,
@@ -145,12 +167,7 @@ pub(crate) fn lock_up<S, D, B, A, T, C>(
     blanks: ChargeBlanks,
     fetches: Fetches<S>,
     call_backs: CallBackParts,
-) -> (
-    Mutex<Locked<S, D, B>>,
-    Mutex<SharedTexts<S, T, C>>,
-    Mutex<SharedDial<S, A>>,
-    Charges<S>,
-)
+) -> (Locks<S, D, B, A, T, C>, Charges<S>)
 where
     S: Site + Accounts + Supplies,
     D: Disk,
@@ -177,7 +194,7 @@ where
         × (call_backs.dial.parts + S.shares ≡ all_parts) }
     requires leaves { call_backs.workers ≡ holds_none S.call_backs S.shares }
     requires some { 0 < S.shares }
-    ensures charges { result.3 ≡ free_of_charge S.shares }
+    ensures charges { result.1 ≡ free_of_charge S.shares }
 {
     let (fetched, mut own) = blanks.versions.open::<FetchedVersions<S>>();
     let installed = own.split_off(1, 0);
@@ -199,7 +216,12 @@ where
         debits,
         call_backs,
     );
-    (publisher, texts, dial, charges)
+    let locks = Locks {
+        publisher,
+        texts,
+        dial,
+    };
+    (locks, charges)
 }
 
 /// The lock of the publisher, with what stands for the fetched versions that are installed, none yet, and what all
@@ -298,9 +320,7 @@ fn lock_desk<S: Site + Accounts + Supplies, A: Dial, T: Texts, C: Clock>(
 /// is what was left to be told.
 pub(crate) fn unlock<S, D, B, A, T, C, R: Wait>(
     rt: &R,
-    publisher: Mutex<Locked<S, D, B>>,
-    texts: Mutex<SharedTexts<S, T, C>>,
-    dial: Mutex<SharedDial<S, A>>,
+    locks: Locks<S, D, B, A, T, C>,
     call_backs: &PendingCallBacks,
     account: Account<S, B>,
     others: Charges<S>,
@@ -333,6 +353,11 @@ where
         (holds_more (holds_none S.call_backs S.shares) account.told [])
         (dial_told S.wires S.letters S.dial_faults) (dial_by A.Dial result.2.dial) }
 {
+    let Locks {
+        publisher,
+        texts,
+        dial,
+    } = locks;
     let (totals, mut charges, front) = account.into_parts();
     charges.merge(call_backs, others);
     let (mut unread, mut reached, mut failed, mut debits, left, known) = charges.into_shares();

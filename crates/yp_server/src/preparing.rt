@@ -1,6 +1,6 @@
 //! Where workers work.
 
-ghost use Rattle.std.specs.Prelude.{◌≡◌, ◌≤◌, ◌<◌, ◌+◌, ◌^◌, ℕ, [], ◌++◌, List, length, map, true, vec_capacity};
+ghost use Rattle.std.specs.Prelude.{◌≡◌, ◌≤◌, ◌<◌, ◌+◌, ◌^◌, ℕ, [], ◌∷◌, ◌++◌, List, length, map, true, vec_capacity};
 ghost use Rattle.std.specs.List.{All, AllZip};
 ghost use Rattle.yp_board.specs.Logs.{Log};
 ghost use Rattle.yp_board.specs.Views.{IsFront};
@@ -8,13 +8,13 @@ ghost use Rattle.yp_board.specs.readers.Boards.{workers_max};
 ghost use Rattle.yp_worker.specs.Receptions.{IsListenerState, IsUnder, opening_by};
 ghost use Rattle.yp_worker.specs.inside.Receptions.{terms_by};
 ghost use Rattle.yp_worker.specs.datagrams.Mailing.{nothing_held};
-ghost use Rattle.yp_worker.specs.inside.Mailing.{resting};
+ghost use Rattle.yp_worker.specs.inside.Mailing.{carrier_of};
 ghost use Rattle.yp_worker.specs.inside.Queues.{all_parts};
 ghost use Rattle.yp_host.specs.inside.workers.Makings.{SiteBuilds};
 ghost use Rattle.yp_host.specs.workers.Charges.{counted_of, nothing_counted};
 ghost use Rattle.yp_host.specs.inside.workers.Charges.{counted_by, free_of_charge};
 ghost use Rattle.yp_host.specs.workers.Workers.{WorkerState};
-ghost use Rattle.yp_host.specs.declared.workers.charges.Counted.{Counted};
+ghost use Rattle.yp_rpc.specs.Turns.{datagram_max};
 ghost use Rattle.yp_rpc.specs.inside.Turns.{box_by};
 ghost use Rattle.yp_server.specs.Serving.{conduct_at, IsAtStart, SomeHasRisen};
 ghost use Rattle.yp_server.specs.declared.datagrams.DatagramWorker.{DatagramWorker};
@@ -24,26 +24,25 @@ ghost use Rattle.yp_server.specs.inside.Shares.{SharesFor};
 ghost use Rattle.yp_server.specs.inside.Workers.{workers_of, connections_of, datagram_worker_of};
 ghost use Rattle.yp_server.specs.Counting.{CountsAll, count_told};
 
-use crate::datagrams::{DatagramResources, DatagramWorker, EndedInboxes};
+use crate::datagrams::{CarrierResources, DatagramResources, DatagramWorker, EndedMail};
 use crate::hosts::charges_of;
-use crate::locks::ListenerBlanks;
+use crate::locks::{ListenerBlanks, Locks};
 use crate::resources::WorkerMemory;
+use crate::serving::Setting;
 use crate::workers::{ConnectionWorker, ServerWorker, Staff, run_workers};
-use std::alloc::Global;
 use std::random::RandomSource;
+use std::sync::Wait;
 use std::sync::ledger::{Ledger, Share};
-use std::sync::{Mutex, Wait};
 use std::thread::Threads;
 use yp_answer::session::{Buffers, CALLS_MAX};
 use yp_board::Tell;
 use yp_host::workers::{
-    Account, Charges, Journal, PendingCallBacks, SharedDial, SharedTexts, Supplies, WorkerHost,
-    WorkerSetting,
+    Account, BoardFront, Charges, PendingCallBacks, Supplies, WorkerHost, WorkerSetting,
 };
 use yp_io::{Clock, Dial, Disk, Hall, Inbox, Texts};
-use yp_publisher::sharing::{Accounts, Locked};
+use yp_publisher::sharing::Accounts;
 use yp_rpc::Room;
-use yp_worker::datagrams::{MailServer, PendingTransfers, TransferCarrier, TransferPass};
+use yp_worker::datagrams::{Carrier, DeferredPass, DeferredQueue, MailServer};
 use yp_worker::{Gate, Listening, Pass, Reception, Tally, Worker};
 
 /// What workers work with: their memory, a reader for each and for the carrier, and the inboxes of those of datagrams,
@@ -56,19 +55,17 @@ pub(crate) struct WorkerResources<I, V> {
     pub(crate) turns: u64,
 }
 
-/// What is left for workers that aren't made yet: of what they are charged by, of what they hold of a listener, and of
-/// the queue of transfers.
+/// What is left for workers that aren't made yet: of what they are charged by, and of what they hold of a listener.
 #[derive(Drop)]
 pub(crate) struct WorkerShares<J: Reception + Accounts + Supplies, E: Ledger> {
     charges: Charges<J>,
     out: Share<J>,
     ended: Share<E>,
-    transfers: TransferPass,
 }
 
-/// What each worker is lent: the locks of the publisher, of the texts and of the dial, the queue of transfers that
-/// datagrams took, that of those who are to be told what transfers came to, the journal, where there is one, the gate,
-/// and the most records of a connection.
+/// What each worker is lent: what the server has all the time that it serves, the locks of the publisher, of the texts
+/// and of the dial, the queue of what those of datagrams leave, and that of those who are to be told what transfers
+/// came to.
 #[derive(Drop)]
 pub(crate) struct WorkerMaker<
     'a,
@@ -81,16 +78,10 @@ pub(crate) struct WorkerMaker<
     G: Gate,
     R: RandomSource + Wait,
 > {
-    pub(crate) alloc: Global,
-    pub(crate) rt: &'a R,
-    pub(crate) publisher: &'a Mutex<Locked<J, D, B>>,
-    pub(crate) texts: &'a Mutex<SharedTexts<J, T, C>>,
-    pub(crate) dial: &'a Mutex<SharedDial<J, A>>,
-    pub(crate) pending: &'a PendingTransfers<J>,
+    pub(crate) setting: Setting<'a, G, R>,
+    pub(crate) locks: &'a Locks<J, D, B, A, T, C>,
+    pub(crate) pending: &'a DeferredQueue<J, BoardFront<B>>,
     pub(crate) call_backs: &'a PendingCallBacks,
-    pub(crate) journal: Option<&'a Mutex<Journal>>,
-    pub(crate) gate: &'a G,
-    pub(crate) most: u64,
 }
 
 impl<
@@ -108,14 +99,15 @@ impl<
     fn setting(&self) -> WorkerSetting<'a, J, D, B, A, T, C, &'a R>
         ensures { result.call_backs.now ≡ self.now.call_backs.now }
     {
+        let locks = self.locks;
         WorkerSetting {
-            alloc: self.alloc,
-            rt: self.rt,
-            publisher: self.publisher,
-            texts: self.texts,
-            dial: self.dial,
+            alloc: self.setting.alloc,
+            rt: self.setting.rt,
+            publisher: &locks.publisher,
+            texts: &locks.texts,
+            dial: &locks.dial,
             call_backs: self.call_backs,
-            journal: self.journal,
+            journal: self.setting.journal,
         }
     }
 
@@ -128,7 +120,7 @@ impl<
         charges: Charges<J>,
         carries: bool,
     ) -> Worker<WorkerHost<'a, J, D, B, A, T, C, &'a R>, &'a G>
-        requires most { (self.now.most ≡ J.most) × (self.now.most ≤ CALLS_MAX) }
+        requires most { (self.now.setting.spec.most ≡ J.most) × (self.now.setting.spec.most ≤ CALLS_MAX) }
         requires knows { IsAtStart J.catalogue J.starts (B.Reader.seen reader) }
         requires builds { SiteBuilds J.text J.catalogue J.built }
         requires queue { self.now.call_backs.now ≡ J.call_backs }
@@ -138,7 +130,13 @@ impl<
         ensures none { counted_of result.host ≡ nothing_counted }
     {
         let host = WorkerHost::new(self.setting(), reader, charges);
-        Worker::new(host, buffers, self.gate, self.most, carries)
+        Worker::new(
+            host,
+            buffers,
+            self.setting.gate,
+            self.setting.spec.most,
+            carries,
+        )
     }
 
     /// A worker with a part of the listener and of the charges.
@@ -149,7 +147,7 @@ impl<
         carries: bool,
         shares: &mut WorkerShares<J, E>,
     ) -> ConnectionWorker<J, E, WorkerHost<'a, J, D, B, A, T, C, &'a R>, &'a G>
-        requires most { (self.now.most ≡ J.most) × (self.now.most ≤ CALLS_MAX) }
+        requires most { (self.now.setting.spec.most ≡ J.most) × (self.now.setting.spec.most ≤ CALLS_MAX) }
         requires knows { IsAtStart J.catalogue J.starts (B.Reader.seen reader) }
         requires builds { SiteBuilds J.text J.catalogue J.built }
         requires queue { self.now.call_backs.now ≡ J.call_backs }
@@ -161,7 +159,6 @@ impl<
         ensures ended { (shares.new.ended.parts + 1 ≡ shares.old.ended.parts) × (shares.new.ended.amount ≡ 0) }
         ensures charges { (shares.new.charges.parts + 1 ≡ shares.old.charges.parts)
             × (shares.new.charges.left ≡ shares.old.charges.left) }
-        ensures transfers { shares.new.transfers ≡ shares.old.transfers }
     {
         let charges = shares.charges.split_off(self.call_backs);
         let worker = self.worker(reader, buffers, charges, carries);
@@ -171,17 +168,18 @@ impl<
         )
     }
 
-    /// A worker of datagrams with these resources, and a part of the charges.
+    /// A worker of datagrams with these resources, a part of the charges, and a part of the queue.
     fn datagram_worker<I: Inbox>(
         &self,
         datagram_resources: DatagramResources<I, B::Reader>,
         charges: Charges<J>,
-    ) -> DatagramWorker<'a, I, J, WorkerHost<'a, J, D, B, A, T, C, &'a R>, R>
+        part: DeferredPass<BoardFront<B>>,
+    ) -> DatagramWorker<'a, I, J, WorkerHost<'a, J, D, B, A, T, C, &'a R>, BoardFront<B>, R>
         requires knows { IsAtStart J.catalogue J.starts (B.Reader.seen datagram_resources.reader) }
         requires builds { SiteBuilds J.text J.catalogue J.built }
         requires queue { self.now.call_backs.now ≡ J.call_backs }
         requires charges { charges ≡ free_of_charge 1 }
-        requires transfers { datagram_resources.transfers ≡ nothing_held self.now.pending.now 1 }
+        requires part { part ≡ nothing_held self.now.pending.now 1 }
         ensures { result ≡ datagram_worker_of self.now.pending.now datagram_resources }
     {
         let DatagramResources {
@@ -189,43 +187,63 @@ impl<
             turns,
             reader,
             room,
-            transfers,
         } = datagram_resources;
         let host = WorkerHost::new(self.setting(), reader, charges);
-        let server = MailServer::new(host, self.pending, transfers, self.rt);
+        let server = MailServer::new(
+            self.setting.alloc,
+            host,
+            self.pending,
+            part,
+            self.setting.rt,
+        );
         DatagramWorker::new(inbox, server, room, turns)
     }
 
-    /// A carrier with this reader, a part of the charges, and these parts of the queue of transfers.
-    fn carrier(
+    /// A carrier with this reader, these resources, and a part of the charges.
+    fn carrier<I: Inbox>(
         &self,
         reader: B::Reader,
+        carrier_resources: CarrierResources<I, BoardFront<B>>,
         charges: Charges<J>,
-        transfers: TransferPass,
-    ) -> TransferCarrier<'a, J, WorkerHost<'a, J, D, B, A, T, C, &'a R>, R>
+    ) -> Carrier<'a, I, J, WorkerHost<'a, J, D, B, A, T, C, &'a R>, BoardFront<B>, R>
         requires knows { IsAtStart J.catalogue J.starts (B.Reader.seen reader) }
         requires builds { SiteBuilds J.text J.catalogue J.built }
         requires queue { self.now.call_backs.now ≡ J.call_backs }
         requires charges { charges ≡ free_of_charge 1 }
-        requires transfers { transfers.queue ≡ self.now.pending.now }
-        ensures { result ≡ resting (fresh_worker reader) transfers }
+        requires parts { carrier_resources.parts.queue ≡ self.now.pending.now }
+        requires letter { datagram_max ≤ length carrier_resources.letter.items }
+        ensures { result ≡ carrier_of (fresh_worker reader) carrier_resources.parts carrier_resources.outbox }
     {
+        let CarrierResources {
+            parts,
+            outbox,
+            letter,
+        } = carrier_resources;
         let host = WorkerHost::new(self.setting(), reader, charges);
-        TransferCarrier::new(host, self.pending, transfers, self.rt)
+        Carrier::new(host, self.pending, parts, outbox, letter, self.setting.rt)
     }
 
     /// Makes a worker of each inbox, in their order.
     fn add_datagram_workers<E: Ledger, I: Inbox + Drop>(
         &self,
         all_workers: &mut Vec<
-            ServerWorker<'a, J, E, WorkerHost<'a, J, D, B, A, T, C, &'a R>, &'a G, I, R>,
+            ServerWorker<
+                'a,
+                J,
+                E,
+                WorkerHost<'a, J, D, B, A, T, C, &'a R>,
+                BoardFront<B>,
+                &'a G,
+                I,
+                R,
+            >,
         >,
         mut rooms: Vec<Room>,
         mut inboxes: Vec<I>,
         turns: u64,
         readers: &mut Vec<B::Reader>,
         charges: &mut Charges<J>,
-        transfers: &mut TransferPass,
+        parts: &mut DeferredPass<BoardFront<B>>,
     )
     where
         B::Reader: Drop,
@@ -237,10 +255,10 @@ impl<
         requires builds { SiteBuilds J.text J.catalogue J.built }
         requires queue { self.now.call_backs.now ≡ J.call_backs }
         requires charges { length inboxes.items < charges.old.parts }
-        requires transfers { (transfers.old ≡ nothing_held self.now.pending.now transfers.old.parts)
-            × (length inboxes.items < transfers.old.parts) }
-        ensures workers { (datagram_workers : List (DatagramWorker I J (WorkerState B.Reader) R Counted))
-            × (all_workers.new.items ≡ workers_of datagram_workers 0 before_work)
+        requires parts { (parts.old ≡ nothing_held self.now.pending.now parts.old.parts)
+            × (length inboxes.items < parts.old.parts) }
+        ensures workers { (datagram_workers : List (DatagramWorker I J (WorkerState B.Reader)
+            B.Knowledge R)) × (all_workers.new.items ≡ workers_of datagram_workers 0 before_work)
             × AllZip (BeginsMail (conduct_at B.Reader.seen B.Reader.stepped J.text J.hosts) count_told J.catalogue
             J.starts self.now.pending.now turns) inboxes.items datagram_workers }
         ensures count { length all_workers.new.items ≡ length inboxes.items }
@@ -249,8 +267,8 @@ impl<
         ensures knows { All (λ reader. IsAtStart J.catalogue J.starts (B.Reader.seen reader)) readers.new.items }
         ensures charges { (charges.new.parts + length inboxes.items ≡ charges.old.parts)
             × (charges.new.left ≡ charges.old.left) }
-        ensures transfers { (transfers.new ≡ nothing_held self.now.pending.now transfers.new.parts)
-            × (transfers.new.parts + length inboxes.items ≡ transfers.old.parts) }
+        ensures parts { (parts.new ≡ nothing_held self.now.pending.now parts.new.parts)
+            × (parts.new.parts + length inboxes.items ≡ parts.old.parts) }
     {
         inboxes.reverse();
         while let Some(inbox) = inboxes.pop() {
@@ -265,10 +283,10 @@ impl<
                 turns,
                 reader,
                 room,
-                transfers: self.pending.split_off(transfers),
             };
             let charges = charges.split_off(self.call_backs);
-            let datagram_worker = self.datagram_worker(datagram_resources, charges);
+            let part = self.pending.split_off(parts);
+            let datagram_worker = self.datagram_worker(datagram_resources, charges, part);
             all_workers.push_reserved(ServerWorker::Datagrams(datagram_worker));
         }
     }
@@ -278,7 +296,16 @@ impl<
     fn add_connection_workers<E: Ledger, I>(
         &self,
         all_workers: &mut Vec<
-            ServerWorker<'a, J, E, WorkerHost<'a, J, D, B, A, T, C, &'a R>, &'a G, I, R>,
+            ServerWorker<
+                'a,
+                J,
+                E,
+                WorkerHost<'a, J, D, B, A, T, C, &'a R>,
+                BoardFront<B>,
+                &'a G,
+                I,
+                R,
+            >,
         >,
         mut all_buffers: Vec<Buffers>,
         mut readers: Vec<B::Reader>,
@@ -286,7 +313,7 @@ impl<
     )
     where
         B::Reader: Drop,
-        requires most { (self.now.most ≡ J.most) × (self.now.most ≤ CALLS_MAX) }
+        requires most { (self.now.setting.spec.most ≡ J.most) × (self.now.setting.spec.most ≤ CALLS_MAX) }
         requires readers { length readers.items ≡ length all_buffers.items }
         requires knows { All (λ reader. IsAtStart J.catalogue J.starts (B.Reader.seen reader)) readers.items }
         requires builds { SiteBuilds J.text J.catalogue J.built }
@@ -296,7 +323,6 @@ impl<
         ensures all_workers { all_workers.new.items
             ≡ all_workers.old.items ++ connections_of (length all_buffers.items) before_work }
         ensures shares { SharesFor 0 0 shares.new }
-        ensures transfers { shares.new.transfers ≡ shares.old.transfers }
     {
         while let Some(buffers) = all_buffers.pop() {
             let Some(reader) = readers.pop() else {
@@ -312,14 +338,24 @@ impl<
     fn add_workers<E: Ledger, I: Inbox + Drop>(
         &self,
         all_workers: &mut Vec<
-            ServerWorker<'a, J, E, WorkerHost<'a, J, D, B, A, T, C, &'a R>, &'a G, I, R>,
+            ServerWorker<
+                'a,
+                J,
+                E,
+                WorkerHost<'a, J, D, B, A, T, C, &'a R>,
+                BoardFront<B>,
+                &'a G,
+                I,
+                R,
+            >,
         >,
         worker_resources: WorkerResources<I, B::Reader>,
         shares: &mut WorkerShares<J, E>,
+        parts: &mut DeferredPass<BoardFront<B>>,
     )
     where
         B::Reader: Drop,
-        requires most { (self.now.most ≡ J.most) × (self.now.most ≤ CALLS_MAX) }
+        requires most { (self.now.setting.spec.most ≡ J.most) × (self.now.setting.spec.most ≤ CALLS_MAX) }
         requires rooms { length worker_resources.memory.rooms.items ≡ length worker_resources.inboxes.items }
         requires readers { length worker_resources.readers.items
             ≡ length worker_resources.memory.all_buffers.items + length worker_resources.inboxes.items }
@@ -332,18 +368,18 @@ impl<
             ≤ vec_capacity all_workers.old }
         requires shares { SharesFor (length worker_resources.memory.all_buffers.items)
             (length worker_resources.inboxes.items) shares.old }
-        requires transfers { (shares.old.transfers ≡ nothing_held self.now.pending.now shares.old.transfers.parts)
-            × (length worker_resources.inboxes.items < shares.old.transfers.parts) }
-        ensures workers { (datagram_workers : List (DatagramWorker I J (WorkerState B.Reader) R Counted))
-            × (all_workers.new.items ≡ workers_of datagram_workers
+        requires parts { (parts.old ≡ nothing_held self.now.pending.now parts.old.parts)
+            × (length worker_resources.inboxes.items < parts.old.parts) }
+        ensures workers { (datagram_workers : List (DatagramWorker I J (WorkerState B.Reader)
+            B.Knowledge R)) × (all_workers.new.items ≡ workers_of datagram_workers
             (length worker_resources.memory.all_buffers.items) before_work)
             × AllZip (BeginsMail (conduct_at B.Reader.seen B.Reader.stepped J.text J.hosts) count_told J.catalogue
             J.starts self.now.pending.now worker_resources.turns) worker_resources.inboxes.items datagram_workers }
         ensures count { length all_workers.new.items
             ≡ length worker_resources.memory.all_buffers.items + length worker_resources.inboxes.items }
         ensures shares { SharesFor 0 0 shares.new }
-        ensures transfers { (shares.new.transfers ≡ nothing_held self.now.pending.now shares.new.transfers.parts)
-            × (shares.new.transfers.parts + length worker_resources.inboxes.items ≡ shares.old.transfers.parts) }
+        ensures parts { (parts.new ≡ nothing_held self.now.pending.now parts.new.parts)
+            × (parts.new.parts + length worker_resources.inboxes.items ≡ parts.old.parts) }
     {
         let WorkerResources {
             memory,
@@ -359,7 +395,7 @@ impl<
             turns,
             &mut readers,
             &mut shares.charges,
-            &mut shares.transfers,
+            parts,
         );
         self.add_connection_workers(all_workers, all_buffers, readers, shares);
     }
@@ -377,16 +413,25 @@ impl<
     R: Threads + Wait + RandomSource + Sync,
 > WorkerMaker<'a, J, D, B, A, T, C, G, R> {
     /// Serves the connections of a listener and the datagrams of inboxes by workers in threads, which have room here.
-    /// One of the workers does what takes long for the others, and a carrier what datagrams ask for.
+    /// One of the workers does what takes long for those of connections, and a carrier for those of datagrams.
     pub(crate) fn serve<E: Ledger + Send + Sync, L: Hall + Send, I: Inbox + Send + Drop>(
         &self,
-        mut staff: Staff<'a, J, E, WorkerHost<'a, J, D, B, A, T, C, &'a R>, &'a G, I, R>,
+        mut staff: Staff<
+            'a,
+            J,
+            E,
+            WorkerHost<'a, J, D, B, A, T, C, &'a R>,
+            BoardFront<B>,
+            &'a G,
+            I,
+            R,
+        >,
         mut worker_resources: WorkerResources<I, B::Reader>,
+        mut carrier_resources: CarrierResources<I, BoardFront<B>>,
         listen: L,
         blanks: ListenerBlanks,
         charges: Charges<J>,
-        transfers: TransferPass,
-    ) -> (L, Tally, EndedInboxes<I>, Account<J, B>, Charges<J>)
+    ) -> (L, Tally, EndedMail<I>, Account<J, B>, Charges<J>)
     where
         B::Reader: Send + Drop,
         B::Front: Send,
@@ -398,7 +443,7 @@ impl<
         L::Waker: Send,
         A::In: Send,
         A::Out: Send,
-        requires most { (self.now.most ≡ J.most) × (self.now.most ≤ CALLS_MAX) }
+        requires most { (self.now.setting.spec.most ≡ J.most) × (self.now.setting.spec.most ≤ CALLS_MAX) }
         requires rooms { length worker_resources.memory.rooms.items ≡ length worker_resources.inboxes.items }
         requires readers { length worker_resources.readers.items
             ≡ length worker_resources.memory.all_buffers.items + length worker_resources.inboxes.items + 1 }
@@ -423,7 +468,8 @@ impl<
             × (blanks.ended.parts ≡ length worker_resources.memory.all_buffers.items + 1) }
         requires charges { (charges.parts ≡ length worker_resources.memory.all_buffers.items
             + length worker_resources.inboxes.items + 3) × (charges.left ≡ []) }
-        requires transfers { transfers ≡ nothing_held self.now.pending.now all_parts }
+        requires parts { carrier_resources.parts ≡ nothing_held self.now.pending.now all_parts }
+        requires letter { datagram_max ≤ length carrier_resources.letter.items }
         requires inboxes { (0 < length worker_resources.inboxes.items)
             × (length worker_resources.inboxes.items < 2 ^ 32) }
         ensures kept { IsListenerState J.opening (opening_by L.Hall result.0) result.1.connections
@@ -432,9 +478,11 @@ impl<
             → CountsAll (conduct_at B.Reader.seen B.Reader.stepped J.text J.hosts) count_told
             (terms_by J.Reception) J.opening (opening_by L.Hall result.0) result.1.calls log
             worker_resources.turns result.2.fault (map (box_by I.Inbox) worker_resources.inboxes.items)
-            (map (box_by I.Inbox) result.2.inboxes.items) (counted_by result.3) }
+            (map (box_by I.Inbox) result.2.inboxes.items)
+            (box_by I.Inbox carrier_resources.outbox) (box_by I.Inbox result.2.outbox) (counted_by result.3) }
         ensures cause { result.2.fault ≡ true
-            → SomeHasRisen (map I.faults worker_resources.inboxes.items) (map I.faults result.2.inboxes.items) }
+            → SomeHasRisen (map I.faults (carrier_resources.outbox ∷ worker_resources.inboxes.items))
+            (map I.faults (result.2.outbox ∷ result.2.inboxes.items)) }
         ensures others { (result.4.parts ≡ length worker_resources.memory.all_buffers.items
             + length worker_resources.inboxes.items + 1) × (result.4.left ≡ []) }
     {
@@ -449,21 +497,33 @@ impl<
             charges,
             out,
             ended,
-            transfers,
         };
-        self.add_workers(&mut staff.all_workers, worker_resources, &mut shares);
+        self.add_workers(
+            &mut staff.all_workers,
+            worker_resources,
+            &mut shares,
+            &mut carrier_resources.parts,
+        );
         let WorkerShares {
             mut charges,
             mut out,
             ended,
-            transfers,
         } = shares;
         let held = out.split_off(1, 0);
-        let carrier = self.carrier(reader, charges.split_off(self.call_backs), transfers);
+        let charged = charges.split_off(self.call_backs);
+        let carrier = self.carrier(reader, carrier_resources, charged);
         let account = Account::new(charges, front);
-        let listening = Listening::new(self.alloc, listen, book, ends, account, held, workers);
+        let listening = Listening::new(
+            self.setting.alloc,
+            listen,
+            book,
+            ends,
+            account,
+            held,
+            workers,
+        );
         let (listen, tally, mailed, account, hosts) = run_workers(
-            self.rt,
+            self.setting.rt,
             listening,
             staff,
             Pass::new(out, ended),

@@ -11,6 +11,7 @@ ghost use Rattle.yp_publisher.specs.Rising.{IsRisingLog};
 ghost use Rattle.yp_publisher.specs.inside.Rising.{IsStart};
 ghost use Rattle.yp_publisher.specs.Grown.{AreTold};
 ghost use Rattle.yp_publisher.specs.sharing.Failures.{disks_of, faults_over};
+ghost use Rattle.yp_rpc.specs.Turns.{datagram_max};
 ghost use Rattle.yp_server.specs.Origins.{LeavesTraced, Stems};
 
 use crate::spec::{ServeRefused, ServerResources};
@@ -19,10 +20,10 @@ use std::sync::ledger::Share;
 use yp_answer::session::Buffers;
 use yp_board::{Show, Tell};
 use yp_host::Desk;
-use yp_io::{Disk, NoMemory};
+use yp_io::{Disk, NoMemory, zeros};
 use yp_publisher::Publisher;
 use yp_publisher::sharing::{Accounts, Debits, FetchedVersions, FetchesFront, Locked, Site};
-use yp_rpc::Room;
+use yp_rpc::{DATAGRAM_MAX, Room};
 
 /// What is handed back where memory has run out.
 pub(crate) fn refuse<D: Disk, B: Tell + Drop, A, T, C, L, I>(
@@ -32,7 +33,7 @@ where
     B::Reader: Drop,
     ensures desk { result.desk ≡ resources.desk }
     ensures listen { result.listen ≡ resources.listen }
-    ensures inboxes { result.inboxes ≡ resources.inboxes }
+    ensures inboxes { (result.inboxes ≡ resources.inboxes) × (result.outbox ≡ resources.outbox) }
     ensures disks { result.disks.items ≡ disks_of resources.publisher.maps }
 {
     let ServerResources {
@@ -41,6 +42,7 @@ where
         desk,
         listen,
         inboxes,
+        outbox,
     } = resources;
     let (disks, _) = disassemble(publisher);
     ServeRefused {
@@ -48,6 +50,7 @@ where
         desk,
         listen,
         inboxes,
+        outbox,
     }
 }
 
@@ -109,6 +112,30 @@ impl WorkerMemory {
         let all_buffers = buffers_of(alloc, workers)?;
         let rooms = rooms_of(alloc, inboxes)?;
         Ok(WorkerMemory { all_buffers, rooms })
+    }
+}
+
+/// The memory of a server: that of its workers, and that of a reply of its carrier.
+#[derive(Drop)]
+pub(crate) struct ServerMemory {
+    pub(crate) workers: WorkerMemory,
+    pub(crate) letter: Vec<u8>,
+}
+
+impl ServerMemory {
+    /// The memory of a server with so many workers of connections, and so many of datagrams.
+    pub(crate) fn new(
+        alloc: Global,
+        workers: usize,
+        inboxes: usize,
+    ) -> Result<ServerMemory, NoMemory>
+        ensures all_buffers { IfOk result (λ memory. length memory.workers.all_buffers.items ≡ workers) }
+        ensures rooms { IfOk result (λ memory. length memory.workers.rooms.items ≡ inboxes) }
+        ensures letter { IfOk result (λ memory. datagram_max ≤ length memory.letter.items) }
+    {
+        let workers = WorkerMemory::new(alloc, workers, inboxes)?;
+        let letter = zeros(alloc, DATAGRAM_MAX)?;
+        Ok(ServerMemory { workers, letter })
     }
 }
 

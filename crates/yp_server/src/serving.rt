@@ -1,13 +1,15 @@
 //! Serving, from what is lent to workers to what comes back.
 
-ghost use Rattle.std.specs.Prelude.{◌≡◌, ◌≤◌, ◌<◌, ◌+◌, ◌^◌, true, false, length, map, vec_len, IfOk, IfErr};
+ghost use Rattle.std.specs.Prelude.{◌≡◌, ◌≤◌, ◌<◌, ◌+◌, ◌^◌, ◌∷◌, true, false, length, map, vec_len, IfOk, IfErr};
 ghost use Rattle.std.specs.List.{All};
 ghost use Rattle.yp_board.specs.Views.{IsFront};
 ghost use Rattle.yp_board.specs.readers.Boards.{workers_max};
 ghost use Rattle.yp_host.specs.inside.workers.Desks.{IsSupplied};
 ghost use Rattle.yp_worker.specs.Receptions.{IsListenerState, opening_by, terms_of};
+ghost use Rattle.yp_worker.specs.datagrams.Mailing.{nothing_held};
 ghost use Rattle.yp_worker.specs.inside.Queues.{all_parts};
 ghost use Rattle.yp_worker.specs.inside.Receptions.{terms_by};
+ghost use Rattle.yp_rpc.specs.Turns.{datagram_max};
 ghost use Rattle.yp_rpc.specs.inside.Turns.{box_by};
 ghost use Rattle.yp_publisher.specs.Grown.{AreTold};
 ghost use Rattle.yp_publisher.specs.Rising.{publisher_state, IsRisingLog};
@@ -24,9 +26,10 @@ ghost use Rattle.yp_host.specs.inside.workers.Uses.{dial_told};
 ghost use Rattle.yp_server.specs.Counting.{CountsAndTells, FilesAreCovered};
 ghost use Rattle.yp_server.specs.Origins.{ComesFrom, EachComesFrom};
 
+use crate::datagrams::CarrierResources;
 use crate::locks::{Blanks, CallBackParts, lock_up, unlock};
 use crate::preparing::{WorkerMaker, WorkerResources};
-use crate::resources::{WorkerMemory, refuse};
+use crate::resources::{ServerMemory, refuse};
 use crate::spec::{ServeRefused, ServeSpec, Served, ServerResources};
 use crate::workers::Staff;
 use std::alloc::Global;
@@ -37,17 +40,18 @@ use std::sync::{Mutex, Wait};
 use std::thread::Threads;
 use yp_answer::session::CALLS_MAX;
 use yp_board::Tell;
-use yp_host::workers::{CallBackPass, Journal, PendingCallBacks, Supplies};
+use yp_host::workers::{BoardFront, Journal, Supplies};
 use yp_io::{Clock, Dial, Disk, Hall, Inbox, Texts};
 use yp_publisher::sharing::Accounts;
-use yp_worker::datagrams::PendingTransfers;
+use yp_worker::datagrams::{DeferredPass, DeferredQueue};
 use yp_worker::{Gate, Reception};
 
 /// Serves the connections of a listener and the datagrams of inboxes, over maps and a desk that all workers share:
 /// connections until as many were accepted as are to be or the listener has failed, the datagrams of an inbox until all
 /// its turns are taken or it has failed. Each worker has a thread of its own, and each inbox has one more. One worker
 /// more, in a thread of its own, too, does for those of connections what takes long: makes and transfers, in the
-/// connections that they leave to it. Where a thread can't be started, its work is done in another's.
+/// connections that they leave to it. A carrier, in one more, does so for those of datagrams. Where a thread can't be
+/// started, its work is done in another's.
 ///
 /// Where there is a journal, the workers tell it what they do.
 pub fn serve<D, B, A, T, C, L, I, G, R>(
@@ -94,14 +98,18 @@ where
     ensures all { IfOk result (λ served. served.tally.listen_fault ≡ false
         → L.accepted served.listen ≡ L.most resources.listen) }
 
-    // What was sent of each inbox for what came, on what a worker knew that began with the start.
+    // What was sent of each inbox for what came, on what a worker knew that began with the start, and what was sent by
+    // the carrier of the calls that those workers left. Each that was left was answered once, as often as it was left,
+    // on no less than was known then.
     ensures datagrams { IfOk result (λ served. ServesInboxes
         (conduct_at B.Reader.seen B.Reader.stepped (T.text resources.desk.texts) resources.desk.hosts) counted_of
         resources.publisher.catalogue (B.log resources.publisher.board) (B.log served.writer)
         spec.now.turns served.inbox_fault
-        (map (box_by I.Inbox) resources.inboxes.items) (map (box_by I.Inbox) served.inboxes.items)) }
+        (map (box_by I.Inbox) resources.inboxes.items) (map (box_by I.Inbox) served.inboxes.items)
+        (box_by I.Inbox resources.outbox) (box_by I.Inbox served.outbox)) }
     ensures inbox_fault { IfOk result (λ served. served.inbox_fault ≡ true
-        → SomeHasRisen (map I.faults resources.inboxes.items) (map I.faults served.inboxes.items)) }
+        → SomeHasRisen (map I.faults (resources.outbox ∷ resources.inboxes.items))
+        (map I.faults (served.outbox ∷ served.inboxes.items))) }
 
     // How each map stands then. From a start the orders of each map rise, where the disks tell what a crash may leave.
     ensures maps { IfOk result (λ served. DisksStand D.history resources.publisher.catalogue (B.log served.writer)
@@ -120,7 +128,8 @@ where
         (terms_of resources.publisher.catalogue (B.log resources.publisher.board) spec.now.most)
         (opening_by L.Hall resources.listen) (opening_by L.Hall served.listen)
         served.tally.calls (B.log served.writer) spec.now.turns served.inbox_fault
-        (map (box_by I.Inbox) resources.inboxes.items) (map (box_by I.Inbox) served.inboxes.items) served.totals
+        (map (box_by I.Inbox) resources.inboxes.items) (map (box_by I.Inbox) served.inboxes.items)
+        (box_by I.Inbox resources.outbox) (box_by I.Inbox served.outbox) served.totals
         resources.desk.hosts (dial_by A.Dial resources.desk.dial) (dial_by A.Dial served.desk.dial)) }
 
     // What bounds what was counted: FILEs are at most as many as the faults of the texts and of the disks, orders that
@@ -153,12 +162,15 @@ where
 
     // Want of memory, before a connection was accepted or a turn was taken. Nothing has changed.
     ensures refused { IfErr result (λ refused. (refused.desk ≡ resources.desk) × (refused.listen ≡ resources.listen)
-        × (refused.inboxes ≡ resources.inboxes)) }
+        × (refused.inboxes ≡ resources.inboxes) × (refused.outbox ≡ resources.outbox)) }
     ensures disks { IfErr result (λ refused. refused.disks.items ≡ disks_of resources.publisher.maps) }
 {
     let workers = spec.workers as usize + 1;
     let inboxes = resources.inboxes.len();
-    let Ok(memory) = WorkerMemory::new(alloc, workers, inboxes) else {
+    let Ok(memory) = ServerMemory::new(alloc, workers, inboxes) else {
+        return Err(refuse(resources));
+    };
+    let Ok(blanks) = Blanks::new(alloc, workers as u64, inboxes as u64) else {
         return Err(refuse(resources));
     };
     let setting = Setting {
@@ -168,33 +180,25 @@ where
         journal,
         gate,
     };
-    let blanks = Blanks::new(workers as u64, inboxes as u64);
-    let Ok((call_backs, pass)) = PendingCallBacks::new(alloc) else {
-        return Err(refuse(resources));
-    };
-    under_locks::<Brand, Brand, D, B, A, T, C, L, I, G, R>(
-        setting, resources, memory, blanks, call_backs, pass,
-    )
+    with_queue::<Brand, Brand, D, B, A, T, C, L, I, G, R>(setting, resources, memory, blanks)
 }
 
 /// What a server has all the time that it serves: what it is to do, the journal, where there is one, and the gate.
 #[derive(Drop)]
-struct Setting<'a, G, R> {
-    alloc: Global,
-    rt: &'a R,
-    spec: ServeSpec,
-    journal: Option<&'a Mutex<Journal>>,
-    gate: &'a G,
+pub(crate) struct Setting<'a, G, R> {
+    pub(crate) alloc: Global,
+    pub(crate) rt: &'a R,
+    pub(crate) spec: ServeSpec,
+    pub(crate) journal: Option<&'a Mutex<Journal>>,
+    pub(crate) gate: &'a G,
 }
 
-/// Lends all to workers, under three locks, and takes it apart again.
-fn under_locks<J, E, D, B, A, T, C, L, I, G, R>(
+/// Makes the queue of what servers of datagrams leave, and serves with it.
+fn with_queue<J, E, D, B, A, T, C, L, I, G, R>(
     setting: Setting<'_, G, R>,
     resources: ServerResources<D, B, A, T, C, L, I>,
-    memory: WorkerMemory,
+    memory: ServerMemory,
     blanks: Blanks,
-    call_backs: PendingCallBacks,
-    pass: CallBackPass,
 ) -> Result<Served<D, B, A, T, C, L, I>, ServeRefused<D, A, T, C, L, I>>
 where
     J: Reception + Accounts + Supplies + Send + Sync,
@@ -223,20 +227,21 @@ where
     requires supplied { IsSupplied T.Texts J.text J.hosts resources.desk }
     requires opening { opening_by L.Hall resources.listen ≡ J.opening }
     requires most { (setting.spec.most ≡ J.most) × (setting.spec.most ≤ CALLS_MAX) }
-    requires some { (0 < length memory.all_buffers.items)
-        × (length memory.all_buffers.items ≤ workers_max + 1) }
+    requires some { (0 < length memory.workers.all_buffers.items)
+        × (length memory.workers.all_buffers.items ≤ workers_max + 1) }
     requires inboxes { (0 < length resources.inboxes.items) × (length resources.inboxes.items < 2 ^ 32) }
-    requires rooms { length memory.rooms.items ≡ length resources.inboxes.items }
+    requires rooms { length memory.workers.rooms.items ≡ length resources.inboxes.items }
+    requires letter { datagram_max ≤ length memory.letter.items }
     requires readers { length resources.readers.items
-        ≡ length memory.all_buffers.items + length resources.inboxes.items + 1 }
+        ≡ length memory.workers.all_buffers.items + length resources.inboxes.items + 1 }
     requires know { All (λ reader. IsAtStart J.catalogue J.starts (B.Reader.seen reader)) resources.readers.items }
     requires out { (blanks.listener.out.name ≡ J.name) × (blanks.listener.out.parts ≡ J.parts)
-        × (J.parts ≡ length memory.all_buffers.items + 2) }
+        × (J.parts ≡ length memory.workers.all_buffers.items + 2) }
     requires ended { (blanks.listener.ended.name ≡ E.name) × (blanks.listener.ended.parts ≡ E.parts)
-        × (E.parts ≡ length memory.all_buffers.items + 1) }
+        × (E.parts ≡ length memory.workers.all_buffers.items + 1) }
     requires builds { SiteBuilds J.text J.catalogue J.built }
     requires unread { (blanks.charges.unread.name ≡ J.unread) × (blanks.charges.unread.parts ≡ J.shares)
-        × (J.shares ≡ length memory.all_buffers.items + length resources.inboxes.items + 3) }
+        × (J.shares ≡ length memory.workers.all_buffers.items + length resources.inboxes.items + 3) }
     requires orders { (blanks.charges.orders.name ≡ J.orders) × (blanks.charges.orders.parts ≡ J.shares) }
     requires sources { (blanks.charges.sources.name ≡ J.sources) × (blanks.charges.sources.parts ≡ J.shares) }
     requires failures { (blanks.charges.failures.name ≡ J.failures) × (blanks.charges.failures.parts ≡ J.shares) }
@@ -249,15 +254,18 @@ where
     requires first { publisher_state B.log resources.publisher ≡ J.first }
     requires histories { map D.history (disks_of resources.publisher.maps) ≡ J.histories }
     requires fetches { blanks.fetches ≡ J.fetched }
-    requires call_backs { (call_backs ≡ J.call_backs) × (pass ≡ holds_none J.call_backs all_parts) }
+    requires call_backs { (blanks.call_backs ≡ J.call_backs)
+        × (blanks.pass ≡ holds_none J.call_backs all_parts) }
     ensures gone { IfOk result (λ served. IsListenerState J.opening (opening_by L.Hall served.listen)
         served.tally.connections served.tally.listen_fault 0 1) }
     ensures datagrams { IfOk result (λ served. ServesInboxes
         (conduct_at B.Reader.seen B.Reader.stepped J.text J.hosts) counted_of
         J.catalogue J.starts (B.log served.writer) setting.entry.spec.turns served.inbox_fault
-        (map (box_by I.Inbox) resources.inboxes.items) (map (box_by I.Inbox) served.inboxes.items)) }
+        (map (box_by I.Inbox) resources.inboxes.items) (map (box_by I.Inbox) served.inboxes.items)
+        (box_by I.Inbox resources.outbox) (box_by I.Inbox served.outbox)) }
     ensures inbox_fault { IfOk result (λ served. served.inbox_fault ≡ true
-        → SomeHasRisen (map I.faults resources.inboxes.items) (map I.faults served.inboxes.items)) }
+        → SomeHasRisen (map I.faults (resources.outbox ∷ resources.inboxes.items))
+        (map I.faults (served.outbox ∷ served.inboxes.items))) }
     ensures maps { IfOk result (λ served. DisksStand D.history J.catalogue (B.log served.writer) served.disks.items) }
     ensures grown { IfOk result (λ served. IsFront J.starts (B.log served.writer)) }
     ensures rises { IfOk result (λ served. IsStart J.first → AreTold D.history served.disks.items
@@ -267,7 +275,8 @@ where
         (conduct_at B.Reader.seen B.Reader.stepped J.text J.hosts) (terms_by J.Reception) J.opening
         (opening_by L.Hall served.listen) served.tally.calls (B.log served.writer)
         setting.entry.spec.turns served.inbox_fault
-        (map (box_by I.Inbox) resources.inboxes.items) (map (box_by I.Inbox) served.inboxes.items) served.totals
+        (map (box_by I.Inbox) resources.inboxes.items) (map (box_by I.Inbox) served.inboxes.items)
+        (box_by I.Inbox resources.outbox) (box_by I.Inbox served.outbox) served.totals
         J.hosts (dial_told J.wires J.letters J.dial_faults) (dial_by A.Dial served.desk.dial)) }
     ensures files { IfOk result (λ served. FilesAreCovered D.history D.faults
         (T.faults resources.desk.texts) (T.faults served.desk.texts)
@@ -282,20 +291,136 @@ where
     ensures traced { IfOk result (λ served. IsStart J.first → EachComesFrom D.history J.built J.catalogue J.first.log
         (B.log served.writer) J.histories served.disks.items J.wires (A.past served.desk.dial)) }
     ensures refused { IfErr result (λ refused. (refused.desk ≡ resources.desk) × (refused.listen ≡ resources.listen)
-        × (refused.inboxes ≡ resources.inboxes)) }
+        × (refused.inboxes ≡ resources.inboxes) × (refused.outbox ≡ resources.outbox)) }
     ensures disks { IfErr result (λ refused. refused.disks.items ≡ disks_of resources.publisher.maps) }
 {
-    let inboxes = memory.rooms.len();
-    let Ok((pending, transfers)) = PendingTransfers::<J>::new(setting.alloc, inboxes as u64) else {
+    let inboxes = memory.workers.rooms.len() as u64;
+    let Ok((pending, all_held)) = DeferredQueue::<J, BoardFront<B>>::new(setting.alloc, inboxes)
+    else {
         return Err(refuse(resources));
     };
-    let Ok(staff) = Staff::new(setting.alloc, memory.all_buffers.len(), inboxes) else {
+    under_locks::<J, E, D, B, A, T, C, L, I, G, R>(
+        setting, resources, memory, blanks, &pending, all_held,
+    )
+}
+
+/// Lends all to workers, under three locks, and takes it apart again.
+fn under_locks<J, E, D, B, A, T, C, L, I, G, R>(
+    setting: Setting<'_, G, R>,
+    resources: ServerResources<D, B, A, T, C, L, I>,
+    memory: ServerMemory,
+    blanks: Blanks,
+    pending: &DeferredQueue<J, BoardFront<B>>,
+    all_held: DeferredPass<BoardFront<B>>,
+) -> Result<Served<D, B, A, T, C, L, I>, ServeRefused<D, A, T, C, L, I>>
+where
+    J: Reception + Accounts + Supplies + Send + Sync,
+    E: Ledger + Send + Sync,
+    D: Disk + Send + Drop,
+    B: Tell + Send + Drop,
+    B::Reader: Send + Drop,
+    B::Front: Send,
+    B::Knowledge: Send,
+    A: Dial + Send + Drop,
+    T: Texts + Send + Drop,
+    C: Clock + Send + Drop,
+    L: Hall + Send + Drop,
+    I: Inbox + Send + Drop,
+    L::In: Send,
+    L::Out: Send,
+    L::Closer: Send,
+    L::Watch: Send,
+    L::Waker: Send,
+    A::In: Send,
+    A::Out: Send,
+    G: Gate + Sync,
+    R: Threads + Wait + RandomSource + Sync,
+    requires site { resources.publisher.catalogue ≡ J.catalogue }
+    requires starts { B.log resources.publisher.board ≡ J.starts }
+    requires supplied { IsSupplied T.Texts J.text J.hosts resources.desk }
+    requires opening { opening_by L.Hall resources.listen ≡ J.opening }
+    requires most { (setting.spec.most ≡ J.most) × (setting.spec.most ≤ CALLS_MAX) }
+    requires some { (0 < length memory.workers.all_buffers.items)
+        × (length memory.workers.all_buffers.items ≤ workers_max + 1) }
+    requires inboxes { (0 < length resources.inboxes.items) × (length resources.inboxes.items < 2 ^ 32) }
+    requires rooms { length memory.workers.rooms.items ≡ length resources.inboxes.items }
+    requires letter { datagram_max ≤ length memory.letter.items }
+    requires readers { length resources.readers.items
+        ≡ length memory.workers.all_buffers.items + length resources.inboxes.items + 1 }
+    requires know { All (λ reader. IsAtStart J.catalogue J.starts (B.Reader.seen reader)) resources.readers.items }
+    requires out { (blanks.listener.out.name ≡ J.name) × (blanks.listener.out.parts ≡ J.parts)
+        × (J.parts ≡ length memory.workers.all_buffers.items + 2) }
+    requires ended { (blanks.listener.ended.name ≡ E.name) × (blanks.listener.ended.parts ≡ E.parts)
+        × (E.parts ≡ length memory.workers.all_buffers.items + 1) }
+    requires builds { SiteBuilds J.text J.catalogue J.built }
+    requires unread { (blanks.charges.unread.name ≡ J.unread) × (blanks.charges.unread.parts ≡ J.shares)
+        × (J.shares ≡ length memory.workers.all_buffers.items + length resources.inboxes.items + 3) }
+    requires orders { (blanks.charges.orders.name ≡ J.orders) × (blanks.charges.orders.parts ≡ J.shares) }
+    requires sources { (blanks.charges.sources.name ≡ J.sources) × (blanks.charges.sources.parts ≡ J.shares) }
+    requires failures { (blanks.charges.failures.name ≡ J.failures) × (blanks.charges.failures.parts ≡ J.shares) }
+    requires made { (blanks.charges.made.name ≡ J.made) × (blanks.charges.made.parts ≡ J.shares) }
+    requires versions { (blanks.charges.versions.name ≡ J.versions) × (blanks.charges.versions.parts ≡ J.shares + 1) }
+    requires texts { T.faults resources.desk.texts ≡ J.text_faults }
+    requires dial { (A.past resources.desk.dial ≡ J.wires) × (A.faults resources.desk.dial ≡ J.dial_faults)
+        × (A.letters resources.desk.dial ≡ J.letters) }
+    requires disks { faults_over D.faults (disks_of resources.publisher.maps) ≡ J.disk_faults }
+    requires first { publisher_state B.log resources.publisher ≡ J.first }
+    requires histories { map D.history (disks_of resources.publisher.maps) ≡ J.histories }
+    requires fetches { blanks.fetches ≡ J.fetched }
+    requires parts { all_held ≡ nothing_held pending.now all_parts }
+    requires call_backs { (blanks.call_backs ≡ J.call_backs)
+        × (blanks.pass ≡ holds_none J.call_backs all_parts) }
+    ensures gone { IfOk result (λ served. IsListenerState J.opening (opening_by L.Hall served.listen)
+        served.tally.connections served.tally.listen_fault 0 1) }
+    ensures datagrams { IfOk result (λ served. ServesInboxes
+        (conduct_at B.Reader.seen B.Reader.stepped J.text J.hosts) counted_of
+        J.catalogue J.starts (B.log served.writer) setting.entry.spec.turns served.inbox_fault
+        (map (box_by I.Inbox) resources.inboxes.items) (map (box_by I.Inbox) served.inboxes.items)
+        (box_by I.Inbox resources.outbox) (box_by I.Inbox served.outbox)) }
+    ensures inbox_fault { IfOk result (λ served. served.inbox_fault ≡ true
+        → SomeHasRisen (map I.faults (resources.outbox ∷ resources.inboxes.items))
+        (map I.faults (served.outbox ∷ served.inboxes.items))) }
+    ensures maps { IfOk result (λ served. DisksStand D.history J.catalogue (B.log served.writer) served.disks.items) }
+    ensures grown { IfOk result (λ served. IsFront J.starts (B.log served.writer)) }
+    ensures rises { IfOk result (λ served. IsStart J.first → AreTold D.history served.disks.items
+        → IsRisingLog (B.log served.writer)) }
+    ensures desk { IfOk result (λ served. IsSupplied T.Texts J.text J.hosts served.desk) }
+    ensures counted { IfOk result (λ served. CountsAndTells
+        (conduct_at B.Reader.seen B.Reader.stepped J.text J.hosts) (terms_by J.Reception) J.opening
+        (opening_by L.Hall served.listen) served.tally.calls (B.log served.writer)
+        setting.entry.spec.turns served.inbox_fault
+        (map (box_by I.Inbox) resources.inboxes.items) (map (box_by I.Inbox) served.inboxes.items)
+        (box_by I.Inbox resources.outbox) (box_by I.Inbox served.outbox) served.totals
+        J.hosts (dial_told J.wires J.letters J.dial_faults) (dial_by A.Dial served.desk.dial)) }
+    ensures files { IfOk result (λ served. FilesAreCovered D.history D.faults
+        (T.faults resources.desk.texts) (T.faults served.desk.texts)
+        (disks_of resources.publisher.maps) served.disks.items served.totals) }
+    ensures orders { IfOk result (λ served. CoversOrders J.wires (A.past served.desk.dial)
+        served.totals.outcomes.reached) }
+    ensures sources { IfOk result (λ served. CoversSources J.wires (A.past served.desk.dial)
+        J.dial_faults (A.faults served.desk.dial) served.totals.outcomes.source) }
+    ensures origins { IfOk result (λ served. IsStart J.first → AreTold D.history served.disks.items
+        → ComesFrom D.history J.built J.first J.catalogue (B.log served.writer) served.disks.items
+        served.totals.made J.wires (A.past served.desk.dial)) }
+    ensures traced { IfOk result (λ served. IsStart J.first → EachComesFrom D.history J.built J.catalogue J.first.log
+        (B.log served.writer) J.histories served.disks.items J.wires (A.past served.desk.dial)) }
+    ensures refused { IfErr result (λ refused. (refused.desk ≡ resources.desk) × (refused.listen ≡ resources.listen)
+        × (refused.inboxes ≡ resources.inboxes) × (refused.outbox ≡ resources.outbox)) }
+    ensures disks { IfErr result (λ refused. refused.disks.items ≡ disks_of resources.publisher.maps) }
+{
+    let ServerMemory {
+        workers: memory,
+        letter,
+    } = memory;
+    let Ok(staff) = Staff::new(setting.alloc, memory.all_buffers.len(), memory.rooms.len()) else {
         return Err(refuse(resources));
     };
     let Blanks {
         listener,
         charges,
         fetches,
+        call_backs,
+        pass,
     } = blanks;
     let Some(fetches) = fetches.named::<J>() else {
         return Err(refuse(resources));
@@ -306,51 +431,44 @@ where
         desk,
         listen,
         inboxes,
+        outbox,
     } = resources;
     let parts = CallBackParts::split::<J>(&call_backs, pass);
-    let (publisher, texts, dial, charges) = lock_up::<J, D, B, A, T, C>(
-        publisher, desk, charges, fetches, parts,
-    );
+    let (locks, charges) = lock_up::<J, D, B, A, T, C>(publisher, desk, charges, fetches, parts);
+    let rt = setting.rt;
+    let turns = setting.spec.turns;
     let place = WorkerMaker {
-        alloc: setting.alloc,
-        rt: setting.rt,
-        publisher: &publisher,
-        texts: &texts,
-        dial: &dial,
-        pending: &pending,
+        setting,
+        locks: &locks,
+        pending,
         call_backs: &call_backs,
-        journal: setting.journal,
-        gate: setting.gate,
-        most: setting.spec.most,
     };
     let worker_resources = WorkerResources {
         memory,
         readers,
         inboxes,
-        turns: setting.spec.turns,
+        turns,
+    };
+    let carrier_resources = CarrierResources {
+        parts: all_held,
+        outbox,
+        letter,
     };
     let (listen, tally, mailed, account, others) = place.serve::<E, L, I>(
         staff,
         worker_resources,
+        carrier_resources,
         listen,
         listener,
         charges,
-        transfers,
     );
-    let (disks, writer, desk, totals) = unlock(
-        setting.rt,
-        publisher,
-        texts,
-        dial,
-        &call_backs,
-        account,
-        others,
-    );
+    let (disks, writer, desk, totals) = unlock(rt, locks, &call_backs, account, others);
     Ok(Served {
         disks,
         desk,
         listen,
         inboxes: mailed.inboxes,
+        outbox: mailed.outbox,
         writer,
         tally,
         totals,

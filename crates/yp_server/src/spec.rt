@@ -30,6 +30,8 @@ pub struct ServerResources<D: Disk, B: Tell, A, T, C, L, I> {
     pub listen: L,
     /// Ends of one port, at least one. Each has a worker for itself.
     pub inboxes: Vec<I>,
+    /// One more end of that port, of which no turn is taken. The carrier of what datagrams ask for replies from it.
+    pub outbox: I,
 }
 
 /// What comes back once all workers have ended.
@@ -41,13 +43,15 @@ pub struct Served<D, B, A, T, C, L, I> {
     pub listen: L,
     /// The inboxes, in their order.
     pub inboxes: Vec<I>,
+    /// The inbox of the carrier.
+    pub outbox: I,
     /// The writer of the board.
     pub writer: B,
     /// What was served by all workers of connections together.
     pub tally: Tally,
     /// What all workers counted of maps that were made and of transfers.
     pub totals: Totals,
-    /// Whether an inbox failed before all its turns were taken.
+    /// Whether an inbox failed before all its turns were taken, or that of the carrier at a reply.
     pub inbox_fault: bool,
 }
 
@@ -60,4 +64,6 @@ pub struct ServeRefused<D, A, T, C, L, I> {
     pub listen: L,
     /// The inboxes, in their order.
     pub inboxes: Vec<I>,
+    /// The inbox of the carrier.
+    pub outbox: I,
 }

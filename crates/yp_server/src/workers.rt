@@ -19,7 +19,7 @@ ghost use Rattle.yp_server.specs.inside.Serving.{before_work, after_work};
 ghost use Rattle.yp_server.specs.inside.Workers.{AnswersDatagrams, Works, AllWork, workers_of, IsManned};
 ghost use Rattle.yp_server.specs.inside.Workers.{mails_in, held_in};
 
-use crate::datagrams::{DatagramWorker, EndedInboxes, hand_over_all, hand_over_carrier};
+use crate::datagrams::{DatagramWorker, EndedMail, hand_over_all, hand_over_carrier};
 use crate::hosts::RetiredHost;
 use std::alloc::Global;
 use std::marker::Model;
@@ -28,9 +28,9 @@ use std::sync::{Mutex, Wait};
 use std::thread::{Threads, for_each_mut, join_mut};
 use yp_io::{Hall, Inbox, NoMemory};
 use yp_publisher::sharing::Site;
-use yp_worker::datagrams::TransferCarrier;
-use yp_worker::laws::sums_reach_further;
-use yp_worker::{CatchUp, Gate, HandsOver, Listening, Pass, Reception, Tally, Worker};
+use yp_worker::datagrams::Carrier;
+use yp_worker::laws::{carriers_go_on, sums_reach_further};
+use yp_worker::{Gate, HandsOver, Known, Listening, Pass, Reception, Tally, Worker};
 
 /// A worker of a listener, with what it holds of that. It is seen as this.
 #[derive(Drop)]
@@ -110,17 +110,26 @@ impl<J: Reception, E: Ledger, H: HandsOver + Drop, G: Gate + Copy + Drop> Connec
 
 /// A place at which a server works: one of its connections, or one of its datagrams.
 #[derive(Drop)]
-pub(crate) enum ServerWorker<'a, J: Reception, E: Ledger, H: HandsOver, G: Gate + Copy, I, R> {
+pub(crate) enum ServerWorker<
+    'a,
+    J: Reception,
+    E: Ledger,
+    H: HandsOver,
+    F: Known,
+    G: Gate + Copy,
+    I,
+    R,
+> {
     Connections(ConnectionWorker<J, E, H, G>),
-    Datagrams(DatagramWorker<'a, I, J, H, R>),
+    Datagrams(DatagramWorker<'a, I, J, H, F, R>),
 }
 
 /// The workers of a server, with room for all of them, for what comes back of those of datagrams, and for the hosts of
 /// all and of a carrier.
 #[derive(Drop)]
-pub(crate) struct Staff<'a, J: Reception, E: Ledger, H: HandsOver, G: Gate + Copy, I, R> {
-    pub(crate) all_workers: Vec<ServerWorker<'a, J, E, H, G, I, R>>,
-    pub(crate) datagram_workers: Vec<DatagramWorker<'a, I, J, H, R>>,
+pub(crate) struct Staff<'a, J: Reception, E: Ledger, H: HandsOver, F: Known, G: Gate + Copy, I, R> {
+    pub(crate) all_workers: Vec<ServerWorker<'a, J, E, H, F, G, I, R>>,
+    pub(crate) datagram_workers: Vec<DatagramWorker<'a, I, J, H, F, R>>,
     pub(crate) inboxes: Vec<I>,
     pub(crate) hosts: Vec<RetiredHost<H>>,
 }
@@ -130,16 +139,17 @@ impl<
     J: Reception,
     E: Ledger,
     H: HandsOver + Drop,
+    F: Known,
     G: Gate + Copy + Drop,
     I: Drop,
     R: Wait,
-> Staff<'a, J, E, H, G, I, R> {
+> Staff<'a, J, E, H, F, G, I, R> {
     /// No workers yet, with room for so many of connections and so many of datagrams.
     pub(crate) fn new(
         alloc: Global,
         workers: usize,
         inboxes: usize,
-    ) -> Result<Staff<'a, J, E, H, G, I, R>, NoMemory>
+    ) -> Result<Staff<'a, J, E, H, F, G, I, R>, NoMemory>
         requires { workers + inboxes + 1 < 2 ^ 64 }
         ensures none { IfOk result (λ staff. (staff.all_workers.items ≡ []) × (staff.datagram_workers.items ≡ [])
             × (staff.inboxes.items ≡ []) × (staff.hosts.items ≡ [])) }
@@ -185,8 +195,9 @@ trait Beside {
         ensures { does self.old self.new };
 }
 
-impl<'a, J: Site, H: CatchUp, R: Wait> Beside for TransferCarrier<'a, J, H, R> {
-    ghost does = { CarriesOn (conduct_by H.Host) [] };
+impl<'a, I: Inbox, J: Site, F: Known, H: HandsOver<Front = F>, R: Wait> Beside
+    for Carrier<'a, I, J, H, F, R> {
+    ghost does = { CarriesOn (conduct_by H.Host) H.counted (box_by I.Inbox) I.faults };
 
     fn run(&mut self) {
         self.carry_all_that_come();
@@ -205,15 +216,16 @@ impl<
     'b,
     J: Reception,
     E: Ledger,
-    H: HandsOver,
+    F: Known,
+    H: HandsOver<Front = F>,
     G: Gate + Copy + Drop,
     L: Hall,
     I: Inbox,
     R: Wait,
-> Work<ServerWorker<'b, J, E, H, G, I, R>> for Lent<'a, J, E, H, G, L, R> {
+> Work<ServerWorker<'b, J, E, H, F, G, I, R>> for Lent<'a, J, E, H, G, L, R> {
     ghost works = { Works (AnswersDatagrams (conduct_by H.Host) H.counted (box_by I.Inbox) I.faults) };
 
-    fn work(&self, place: &mut ServerWorker<'b, J, E, H, G, I, R>) {
+    fn work(&self, place: &mut ServerWorker<'b, J, E, H, F, G, I, R>) {
         match place {
             ServerWorker::Connections(connection_worker) => {
                 connection_worker.work(self.rt, self.listening)
@@ -225,15 +237,15 @@ impl<
 
 /// Serves the datagrams of inboxes at the first workers, one for each inbox, and the connections of a listener at all
 /// others, side by side, until all have ended. The last one does for the others what takes long, and a carrier beside
-/// them the transfers that datagrams ask for. What came of the connections and of the datagrams, the sum of what was
-/// counted, and the hosts of all.
+/// them what those of datagrams leave. What came of the connections and of the datagrams, the sum of what was counted,
+/// and the hosts of all.
 pub(crate) fn run_workers<J, E, H, G, L, I, R: Threads + Wait + Sync>(
     rt: &R,
     listening: Listening<J, E, H, L, G>,
-    staff: Staff<'_, J, E, H, G, I, R>,
+    staff: Staff<'_, J, E, H, H::Front, G, I, R>,
     mut pass: Pass<J, E>,
-    mut carrier: TransferCarrier<'_, J, H, R>,
-) -> (L, Tally, EndedInboxes<I>, H::Sum, Vec<RetiredHost<H>>)
+    mut carrier: Carrier<'_, I, J, H, H::Front, R>,
+) -> (L, Tally, EndedMail<I>, H::Sum, Vec<RetiredHost<H>>)
 where
     J: Reception + Send + Sync,
     E: Ledger + Send + Sync,
@@ -248,7 +260,7 @@ where
     L::Closer: Send,
     L::Watch: Send,
     L::Waker: Send,
-    requires manned { (datagram_workers : List (DatagramWorker I J H R H.Count))
+    requires manned { (datagram_workers : List (DatagramWorker I J H H.Front R))
         × IsManned datagram_workers before_work J.parts staff.all_workers.items
         × (length datagram_workers ≤ vec_capacity staff.datagram_workers)
         × (length datagram_workers ≤ vec_capacity staff.inboxes)
@@ -264,19 +276,21 @@ where
     requires pass { pass ≡ before_work }
     ensures kept { IsListenerState J.opening (opening_by L.Hall result.0) result.1.connections result.1.listen_fault
         0 1 }
-    ensures counted { (inboxes : List I) → (datagram_workers : List (DatagramWorker I J H R H.Count))
+    ensures counted { (inboxes : List I) → (datagram_workers : List (DatagramWorker I J H H.Front R))
         → IsManned datagram_workers before_work J.parts staff.entry.all_workers.items → (turns : ℕ)
         → AllZip (BeginsMail (conduct_by H.Host) (counting_of H.counted H.none H.plus) J.catalogue J.starts
         carrier.entry.holding.queue turns) inboxes datagram_workers
         → (log : Log) → IsFront (H.reached result.3) log
         → CountsAll (conduct_by H.Host) (counting_of H.counted H.none H.plus) (terms_by J.Reception)
         J.opening (opening_by L.Hall result.0) result.1.calls log turns result.2.fault
-        (map (box_by I.Inbox) inboxes) (map (box_by I.Inbox) result.2.inboxes.items) (H.summed result.3) }
-    ensures cause { (inboxes : List I) → (datagram_workers : List (DatagramWorker I J H R H.Count))
+        (map (box_by I.Inbox) inboxes) (map (box_by I.Inbox) result.2.inboxes.items)
+        (box_by I.Inbox carrier.entry.inbox) (box_by I.Inbox result.2.outbox) (H.summed result.3) }
+    ensures cause { (inboxes : List I) → (datagram_workers : List (DatagramWorker I J H H.Front R))
         → IsManned datagram_workers before_work J.parts staff.entry.all_workers.items → (turns : ℕ)
         → AllZip (BeginsMail (conduct_by H.Host) (counting_of H.counted H.none H.plus) J.catalogue J.starts
         carrier.entry.holding.queue turns) inboxes datagram_workers
-        → result.2.fault ≡ true → SomeHasRisen (map I.faults inboxes) (map I.faults result.2.inboxes.items) }
+        → result.2.fault ≡ true → SomeHasRisen (map I.faults (carrier.entry.inbox ∷ inboxes))
+        (map I.faults (result.2.outbox ∷ result.2.inboxes.items)) }
     ensures hosts { length result.4.items ≡ length staff.entry.all_workers.items + 1 }
 {
     let Staff {
@@ -294,20 +308,33 @@ where
     hosts.push_reserved(host);
     let datagram_workers = gather(&mut pass, &mut hosts, all_workers, datagram_workers);
     let (listen, tally, mut sum) = listening.close(&mut pass);
-    let (transfers, host) = hand_over_carrier(carrier, &mut sum);
+    let ended = hand_over_all(
+        datagram_workers,
+        &mut carrier,
+        &mut sum,
+        &mut hosts,
+        inboxes,
+    );
+    let (carried, host) = hand_over_carrier(carrier, &mut sum);
     hosts.push_reserved(host);
-    let (mailed, _) = hand_over_all(datagram_workers, transfers, &mut sum, &mut hosts, inboxes);
     sums_reach_further::<H>();
+    carriers_go_on::<I, H>();
+    let fault = ended.has_fault_with(&carried);
+    let mailed = EndedMail {
+        inboxes: ended.inboxes,
+        outbox: carried.inbox,
+        fault,
+    };
     (listen, tally, mailed, sum, hosts)
 }
 
-/// Works at all places of a server side by side, and carries out beside them what is left of transfers, until all have
+/// Works at all places of a server side by side, and lets a carrier do beside them what they leave, until all have
 /// ended. The carrier waits for all others, so where it has no thread of its own it works behind them.
 fn work_beside<J, E, H, G, L, I, R: Threads + Wait + Sync>(
     rt: &R,
     listening: &Mutex<Listening<J, E, H, L, G>>,
-    places: &mut [ServerWorker<'_, J, E, H, G, I, R>],
-    carrier: &mut TransferCarrier<'_, J, H, R>,
+    places: &mut [ServerWorker<'_, J, E, H, H::Front, G, I, R>],
+    carrier: &mut Carrier<'_, I, J, H, H::Front, R>,
 )
 where
     J: Reception + Send + Sync,
@@ -326,7 +353,7 @@ where
     ensures count { length places.new ≡ length places.old }
     ensures works { AllWork (Works (AnswersDatagrams (conduct_by H.Host) H.counted (box_by I.Inbox) I.faults))
         places.old places.new }
-    ensures carries { CarriesOn (conduct_by H.Host) [] carrier.old carrier.new }
+    ensures carries { CarriesOn (conduct_by H.Host) H.counted (box_by I.Inbox) I.faults carrier.old carrier.new }
 {
     let lent = Lent { rt, listening };
     work_all_beside(rt, &lent, carrier, places);
@@ -359,7 +386,7 @@ fn work_all<P: Send, W: Work<P> + Sync, R: Threads + Sync>(rt: &R, work: &W, pla
 
 /// Takes the last worker of connections away.
 fn last_of<J, E, H, G, I, R: Wait>(
-    all_workers: &mut Vec<ServerWorker<'_, J, E, H, G, I, R>>,
+    all_workers: &mut Vec<ServerWorker<'_, J, E, H, H::Front, G, I, R>>,
 ) -> ConnectionWorker<J, E, H, G>
 where
     J: Reception,
@@ -367,10 +394,10 @@ where
     H: HandsOver + Drop,
     G: Gate + Copy + Drop,
     I: Drop,
-    requires manned { (datagram_workers : List (DatagramWorker I J H R H.Count)) × (others : ℕ)
+    requires manned { (datagram_workers : List (DatagramWorker I J H H.Front R)) × (others : ℕ)
         × (all_workers.old.items ≡ workers_of datagram_workers (others + 1) after_work) }
     ensures last { result ≡ after_work }
-    ensures others { (datagram_workers : List (DatagramWorker I J H R H.Count)) → (others : ℕ)
+    ensures others { (datagram_workers : List (DatagramWorker I J H H.Front R)) → (others : ℕ)
         → all_workers.old.items ≡ workers_of datagram_workers (others + 1) after_work
         → all_workers.new.items ≡ workers_of datagram_workers others after_work }
     ensures count { length all_workers.new.items + 1 ≡ length all_workers.old.items }
@@ -389,9 +416,9 @@ where
 fn gather<'a, J, E, H, G, I, R: Wait>(
     pass: &mut Pass<J, E>,
     hosts: &mut Vec<RetiredHost<H>>,
-    mut all_workers: Vec<ServerWorker<'a, J, E, H, G, I, R>>,
-    mut datagram_workers: Vec<DatagramWorker<'a, I, J, H, R>>,
-) -> Vec<DatagramWorker<'a, I, J, H, R>>
+    mut all_workers: Vec<ServerWorker<'a, J, E, H, H::Front, G, I, R>>,
+    mut datagram_workers: Vec<DatagramWorker<'a, I, J, H, H::Front, R>>,
+) -> Vec<DatagramWorker<'a, I, J, H, H::Front, R>>
 where
     J: Reception,
     E: Ledger,
@@ -419,8 +446,8 @@ where
 fn take_in<'a, J, E, H, G, I, R: Wait>(
     pass: &mut Pass<J, E>,
     hosts: &mut Vec<RetiredHost<H>>,
-    datagram_workers: &mut Vec<DatagramWorker<'a, I, J, H, R>>,
-    server_worker: ServerWorker<'a, J, E, H, G, I, R>,
+    datagram_workers: &mut Vec<DatagramWorker<'a, I, J, H, H::Front, R>>,
+    server_worker: ServerWorker<'a, J, E, H, H::Front, G, I, R>,
 )
 where
     J: Reception,

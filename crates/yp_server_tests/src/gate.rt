@@ -1,4 +1,4 @@
-//! A gate that holds connections back until others have come to a point.
+//! A gate that holds those who serve back until others have come to a point.
 
 use std::alloc::Global;
 use std::process::Abort;
@@ -9,28 +9,34 @@ use yp_worker::{Gate, Point};
 /// How often a point of a connection was reached: its kind, the connection, and the number of times.
 pub type Mark = (Kind, u64, u64);
 
-/// A kind of point.
+/// A kind of point. All but `Accepted`, `Piece` and `Replied` are of no connection, and have the number 0.
 #[derive(Clone, Copy, PartialEq, Eq)]
 pub enum Kind {
-    /// It is of no connection, and has the number 0, as has `Asked`.
     Begun,
     Accepted,
     Piece,
     Replied,
-    /// The inbox was asked to send a datagram.
+    /// An inbox was asked for the next datagram.
+    Turn,
+    /// An inbox was asked to send a datagram.
     Asked,
+    /// The dial was asked for a connection.
+    Dialed,
 }
 
-/// A worker that comes to the first point waits there for the second.
+/// Who comes to the first point waits there for the second.
 pub type Hold = (Mark, Mark);
 
-/// The most turns that a worker is held.
+/// The most turns that one is held.
 const TURNS: u64 = 1_000_000_000;
 
 /// The most connections.
 const CONNECTIONS: u64 = 9;
 
-/// A gate with these holds. It counts the points of each connection, and the holds that ended for want of turns.
+/// The kinds of points that are of no connection.
+const OTHERS: u64 = 4;
+
+/// A gate with these holds. It counts how often each point was reached, and the holds that ended for want of turns.
 #[derive(Drop)]
 pub struct Holding<'h> {
     holds: &'h [Hold],
@@ -41,7 +47,7 @@ pub struct Holding<'h> {
 impl<'h> Holding<'h> {
     pub fn new(rt: &impl Abort, alloc: Global, holds: &'h [Hold]) -> Holding<'h> {
         let mut counts = Vec::new(alloc);
-        for _ in 0..3 * (CONNECTIONS + 1) {
+        for _ in 0..OTHERS + 3 * CONNECTIONS {
             counts
                 .push(AtomicU64::new(0))
                 .expect(rt, "memory for a count");
@@ -53,28 +59,22 @@ impl<'h> Holding<'h> {
         }
     }
 
-    /// How often a worker was held for longer than all its turns.
+    /// How often one was held for longer than all its turns.
     pub fn gave_up(&self) -> u64 {
         self.gave_up.load(Ordering::SeqCst)
     }
 
-    /// Counts a datagram that the inbox was asked to send.
-    pub fn ask(&self) {
-        if let Some(count) = self.count(Kind::Asked, 0) {
-            count.fetch_add(1, Ordering::SeqCst);
-        }
-    }
-
+    // Each connection, from 1 on, has three counts.
     fn count(&self, kind: Kind, connection: u64) -> Option<&AtomicU64> {
-        if connection > CONNECTIONS {
-            return None;
-        }
+        let first = OTHERS + 3 * connection.min(CONNECTIONS + 1).saturating_sub(1);
         let place = match kind {
-            Kind::Accepted => connection * 3,
-            Kind::Piece => connection * 3 + 1,
-            Kind::Replied => connection * 3 + 2,
-            Kind::Asked => 0,
-            Kind::Begun => 1,
+            Kind::Begun => 0,
+            Kind::Turn => 1,
+            Kind::Asked => 2,
+            Kind::Dialed => 3,
+            Kind::Accepted => first,
+            Kind::Piece => first + 1,
+            Kind::Replied => first + 2,
         };
         self.counts.get(place as usize)
     }
@@ -87,8 +87,8 @@ impl<'h> Holding<'h> {
         }
     }
 
-    /// Waits until a mark is reached, or all turns are over.
-    pub fn wait_for(&self, mark: Mark) {
+    // Waits until a mark is reached, or all turns are over.
+    fn wait_for(&self, mark: Mark) {
         for _ in 0..TURNS {
             if self.is_reached(mark) {
                 return;
@@ -96,6 +96,19 @@ impl<'h> Holding<'h> {
             thread::yield_now();
         }
         self.gave_up.fetch_add(1, Ordering::SeqCst);
+    }
+
+    /// A point is reached once more, and whoever reaches it waits there as the holds say.
+    pub fn reach(&self, kind: Kind, connection: u64) {
+        let Some(count) = self.count(kind, connection) else {
+            return;
+        };
+        let times = count.fetch_add(1, Ordering::SeqCst).saturating_add(1);
+        for (at, until) in self.holds {
+            if *at == (kind, connection, times) {
+                self.wait_for(*until);
+            }
+        }
     }
 }
 
@@ -111,14 +124,6 @@ fn kind_of(point: Point) -> (Kind, u64) {
 impl<'h> Gate for Holding<'h> {
     fn at(&self, point: Point) {
         let (kind, connection) = kind_of(point);
-        let Some(count) = self.count(kind, connection) else {
-            return;
-        };
-        let times = count.fetch_add(1, Ordering::SeqCst).saturating_add(1);
-        for (at, until) in self.holds {
-            if *at == (kind, connection, times) {
-                self.wait_for(*until);
-            }
-        }
+        self.reach(kind, connection);
     }
 }

@@ -2,11 +2,11 @@
 #![tactic(auto)]
 
 #[cfg(test)]
+mod behind;
+#[cfg(test)]
 mod gate;
 #[cfg(test)]
 mod given;
-#[cfg(test)]
-mod inbox;
 #[cfg(test)]
 mod sample;
 #[cfg(test)]

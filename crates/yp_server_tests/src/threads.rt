@@ -2,9 +2,9 @@
 
 ghost use Rattle.std.specs.Prelude.{◌≡◌, ◌≤◌, length};
 
-use crate::gate::{Hold, Holding, Kind, Mark};
+use crate::behind::Behind;
+use crate::gate::{Hold, Holding, Kind};
 use crate::given::{NEVER, assert_same, hall, publisher, taken};
-use crate::inbox::Behind;
 use crate::sample::*;
 use std::alloc::Global;
 use std::marker::Brand;
@@ -21,9 +21,9 @@ use yp_worker::Tally;
 
 // What is served: the file of the map, who calls, how many are to be accepted, how many workers there are, 1 to 8, how
 // these are held, the call of the hall that fails, and the read of the text. Then the datagrams that come in turn, the
-// most turns, a mark before which no turn is taken, and the call of the inbox that fails; and further inboxes behind
-// it. What is wanted: the tally, what all workers count, the replies, and what comes of the inbox: how many turns there
-// are, the replies, and whether it fails, or a further one does.
+// most turns, and the call of the inbox that fails; and further inboxes behind it. What is wanted: the tally, what all
+// workers count, the replies, and what comes of the inbox: how many turns there are, the replies, and whether it fails,
+// or a further one does. Then the replies of the carrier.
 struct Case {
     name: &'static str,
     file: &'static str,
@@ -35,13 +35,13 @@ struct Case {
     unread: u64,
     mail: &'static [&'static str],
     turns: u64,
-    until: Option<Mark>,
     unmailed: u64,
     more: &'static [Further],
     tally: Tally,
     totals: Totals,
     output: &'static str,
     mailed: (u64, &'static str, bool),
+    carried: &'static str,
 }
 
 // A further inbox: the datagrams that come to it in turn, the call of it that fails, how many turns there are, and the
@@ -53,7 +53,7 @@ struct Further {
 }
 
 // What came of it: the tally, what all workers counted, what the connections had taken that went back, one after the
-// other, what came of each inbox, and whether one is said to have failed.
+// other, what came of each inbox, that of the carrier last, and whether one is said to have failed.
 type Came = (Tally, Totals, Vec<u8>, Vec<Mailed>, bool);
 
 // What came of an inbox: how many turns there were, and what it sent to the sender, one after the other.
@@ -71,7 +71,7 @@ fn mailed(rt: &impl Abort, alloc: Global, inbox: &MemInbox) -> Mailed {
     (inbox.turns(), sent)
 }
 
-// What is to come of the inboxes of a case.
+// What is to come of the inboxes of a case, and behind them of that of the carrier.
 fn wanted_mail(rt: &impl Abort, alloc: Global, case: &Case) -> Vec<Mailed> {
     let (turns, replies, _) = case.mailed;
     let first = (turns, words(rt, alloc, replies));
@@ -81,6 +81,8 @@ fn wanted_mail(rt: &impl Abort, alloc: Global, case: &Case) -> Vec<Mailed> {
         let mailed = (turns, words(rt, alloc, replies));
         all.push(mailed).expect(rt, "memory for an inbox");
     }
+    let late = (0, words(rt, alloc, case.carried));
+    all.push(late).expect(rt, "memory for an inbox");
     all
 }
 
@@ -95,11 +97,11 @@ fn inboxes_of<'g, 'h>(
     ensures few { length result.items ≤ 8 }
 {
     let first = inbox(rt, alloc, case.mail, case.unmailed);
-    let first = Behind::new(first, gate, case.until);
+    let first = Behind::new(first, gate);
     let mut all = vec![in alloc; first].expect(rt, "memory for an inbox");
     for further in case.more {
         let inbox = inbox(rt, alloc, further.mail, further.unmailed);
-        all.push(Behind::new(inbox, gate, case.until))
+        all.push(Behind::new(inbox, gate))
             .expect(rt, "memory for an inbox");
     }
     assert!(rt; !all.is_empty() && all.len() <= 8);
@@ -118,6 +120,8 @@ fn seen<D, B, A, T, C>(
         let mailed = mailed(rt, alloc, inbox.inside());
         all_mailed.push(mailed).expect(rt, "memory for an inbox");
     }
+    let late = mailed(rt, alloc, served.outbox.inside());
+    all_mailed.push(late).expect(rt, "memory for an inbox");
     (
         served.tally,
         served.totals,
@@ -152,7 +156,7 @@ fn served<J: Naming + Send + Sync, R: Threads + Wait + RandomSource + Abort + Sy
     };
     let listen = hall(rt, alloc, NAMES, &visit);
     let inboxes = inboxes_of(rt, alloc, case, gate);
-    let desk = desk_of(rt, alloc, case.unread);
+    let desk = desk_of(rt, alloc, case.unread, gate);
     let count = spec.workers + 2 + inboxes.len() as u32;
     let (publisher, readers) = publisher::<J, R>(rt, alloc, opened, b"m1", file, count);
     let resources = ServerResources {
@@ -161,6 +165,7 @@ fn served<J: Naming + Send + Sync, R: Threads + Wait + RandomSource + Abort + Sy
         desk,
         listen,
         inboxes,
+        outbox: Behind::new(inbox(rt, alloc, &[], NEVER), gate),
     };
     let served = serve(alloc, rt, resources, &spec, None, gate);
     seen(rt, alloc, &served.ok().expect(rt, "memory for workers"))
@@ -207,7 +212,6 @@ const TWO_WORKERS: Case = Case {
     unread: NEVER,
     mail: &[],
     turns: 0,
-    until: None,
     unmailed: NEVER,
     more: &[],
     tally: Tally {
@@ -218,6 +222,7 @@ const TWO_WORKERS: Case = Case {
     totals: NONE,
     output: "OLD OLD OLD",
     mailed: (0, "", false),
+    carried: "",
 };
 
 // The text isn't read at the first MAKE.
@@ -469,10 +474,12 @@ static BESIDE: Case = Case {
     callers: &[("MATCH", 0, 0)],
     most: 1,
     workers: 1,
-    holds: &[((Kind::Piece, 1, 1), (Kind::Asked, 0, 1))],
+    holds: &[
+        ((Kind::Piece, 1, 1), (Kind::Asked, 0, 1)),
+        ((Kind::Turn, 0, 1), (Kind::Piece, 1, 1)),
+    ],
     mail: &["NULL"],
     turns: 1,
-    until: Some((Kind::Piece, 1, 1)),
     tally: Tally {
         connections: 1,
         calls: 1,
@@ -542,6 +549,46 @@ static TRANSFER_MAILED: Case = Case {
 #[test]
 fn transfer_of_a_datagram(rt: HostRuntime) {
     try_case(&rt, rt.alloc(), &TRANSFER_MAILED);
+}
+
+// No map is shown yet, since one of the own host is fetched from nowhere. The carrier attends once it dials for the
+// transfer, and is held there until the inbox was asked to send the reply behind those to the transfer. So the map,
+// which the second datagram asks for, is made behind that, and the carrier replies.
+static MAKE_MAILED: Case = Case {
+    name: "a look-up behind a datagram that makes a map",
+    file: "",
+    callers: &[],
+    most: 0,
+    workers: 1,
+    holds: &[
+        ((Kind::Turn, 0, 2), (Kind::Dialed, 0, 1)),
+        ((Kind::Dialed, 0, 1), (Kind::Asked, 0, 2)),
+    ],
+    mail: &["FETCH_MAIL", "MAKE_MAIL", "MATCH_MAIL"],
+    turns: 3,
+    tally: Tally {
+        connections: 0,
+        calls: 0,
+        listen_fault: false,
+    },
+    totals: Totals {
+        made: 1,
+        transfers: 1,
+        outcomes: Outcomes {
+            source: 1,
+            ..NO_OUTCOMES
+        },
+        ..NONE
+    },
+    output: "",
+    mailed: (3, "TAKEN_MAIL NO_MAP_MAIL", false),
+    carried: "MADE_MAIL",
+    ..TWO_WORKERS
+};
+
+#[test]
+fn look_up_while_a_datagram_makes_a_map(rt: HostRuntime) {
+    try_case(&rt, rt.alloc(), &MAKE_MAILED);
 }
 
 // Each inbox has turns of its own.

@@ -2,18 +2,18 @@
 
 use crate::hall::StageHall;
 use crate::outside::{FIRST_PORT, Memory, bytes_of};
-use crate::row::{Datagram, Row, Stands};
+use crate::row::{Datagram, NEVER, Row, Stands};
 use std::alloc::{AllocError, Global};
 use std::random::RandomSource;
 use yp_io::{Letter, Peer, Sending};
 use yp_map_file::Slot;
-use yp_memory::{HallCall, MemDial, MemDisk};
+use yp_memory::{HallCall, MemDial, MemDisk, MemInbox};
 use yp_program::{NamedDisk, Status};
 
 /// What came of a run, or what a row wants, as a text with a line for each thing that a row looks at, in one order: the
-/// status, the output and the note; the letters and the turns of the inbox; the letters and the wires of the dial, and
-/// how many bytes the first wire took; what each connection had taken that went back, in the order in which they
-/// came; and what the first file stands for, and its bytes.
+/// status, the output and the note; the letters of the inbox and those that were late, and its turns; the letters and
+/// the wires of the dial, and how many bytes the first wire took; what each connection had taken that went back, in the
+/// order in which they came; and what the first file stands for, and its bytes.
 #[derive(Drop)]
 pub struct Ended {
     text: String,
@@ -67,6 +67,15 @@ fn asked_of(dial: &MemDial, row: &Row) -> usize {
     match dial.past() {
         [wire, ..] if row.asked > 0 => wire.sink.taken().len(),
         _ => 0,
+    }
+}
+
+/// How many turns an inbox took, where a row looks at them.
+fn turns_of(inbox: &MemInbox, row: &Row) -> u64 {
+    if row.turns == NEVER {
+        NEVER
+    } else {
+        inbox.turns()
     }
 }
 
@@ -140,15 +149,17 @@ fn put_came(
     row: &Row,
     outside: &Memory,
 ) -> Result<(), AllocError> {
-    ended.bytes(alloc, "output", outside.output.taken())?;
+    let (office, doors) = (&outside.office, &outside.doors);
+    ended.bytes(alloc, "output", office.wire.sink.taken())?;
     ended.bytes(alloc, "note", outside.notes.taken())?;
-    put_sent(ended, alloc, outside.inbox.letters())?;
-    ended.number(alloc, "turns", outside.inbox.turns())?;
-    put_dialed(ended, alloc, outside.dial.letters())?;
-    ended.number(alloc, "wires", outside.dial.came().len() as u64)?;
-    ended.number(alloc, "taken", asked_of(&outside.dial, row) as u64)?;
-    put_closed(ended, alloc, &outside.listen)?;
-    let file = first_file(&outside.disks);
+    put_sent(ended, alloc, office.inbox.letters())?;
+    put_sent(ended, alloc, doors.outbox.letters())?;
+    ended.number(alloc, "turns", turns_of(&office.inbox, row))?;
+    put_dialed(ended, alloc, office.dial.letters())?;
+    ended.number(alloc, "wires", office.dial.came().len() as u64)?;
+    ended.number(alloc, "taken", asked_of(&office.dial, row) as u64)?;
+    put_closed(ended, alloc, &doors.listen)?;
+    let file = first_file(&office.disks);
     ended.stands(alloc, &stands_of(alloc, rt, file)?)?;
     ended.bytes(alloc, "file", if row.torn { &[] } else { file })
 }

@@ -15,7 +15,7 @@ use yp_memory::{
     HallCall, MemDial, MemDisk, MemHall, MemInbox, MemSink, MemSource, MemTexts, MemWire,
     Scheduled, SetClock,
 };
-use yp_program::{NamedDisk, Outside, disk_names, named_disks};
+use yp_program::{Doors, NamedDisk, Office, Outside, disk_names, named_disks};
 
 /// The outside in memory.
 pub type Memory = Outside<
@@ -28,6 +28,15 @@ pub type Memory = Outside<
     MemInbox,
     MemTexts,
 >;
+
+/// What a run finds beside its row: its words, its input, the file of the map, and what the first wire gives.
+#[derive(Clone, Copy)]
+pub struct Found<'a> {
+    pub words: &'a [String],
+    pub input: &'a [u8],
+    pub file: &'a [u8],
+    pub wire: &'a [u8],
+}
 
 /// The bytes of texts of hexadecimal words.
 pub fn bytes_of(alloc: Global, words: &[&str]) -> Result<Vec<u8>, AllocError> {
@@ -147,6 +156,12 @@ fn inbox_of(alloc: Global, row: &Row) -> Result<MemInbox, AllocError> {
     Ok(MemInbox::new(alloc, mail, failing))
 }
 
+/// What replies are sent from that an inbox leaves.
+fn outbox_of(alloc: Global, row: &Row) -> Result<MemInbox, AllocError> {
+    let failing = plan(alloc, row.outbox)?;
+    Ok(MemInbox::new(alloc, Vec::new(alloc), failing))
+}
+
 /// The texts that maps are made of.
 fn texts_of(alloc: Global, row: &Row) -> Result<MemTexts, AllocError> {
     let failing = plan(alloc, row.texts)?;
@@ -213,69 +228,51 @@ fn hall_of(alloc: Global, row: &Row) -> Result<StageHall, AllocError> {
     Ok(StageHall::new(alloc, hall))
 }
 
-/// The streams of a row.
-#[derive(Drop)]
-struct Streams {
-    input: MemSource,
-    output: MemSink,
-    notes: MemSink,
-}
+/// What any command reaches.
+type MemOffice = Office<MemSource, MemSink, MemDisk, SetClock, MemDial, MemInbox, MemTexts>;
 
-fn streams_of(alloc: Global, row: &Row, input: &[u8]) -> Result<Streams, AllocError> {
-    let input = source_of(alloc, input, row)?;
-    let output = sink_of(alloc, row.write, row.writes)?;
-    let notes = sink_of(alloc, 4_096, row.notes)?;
-    Ok(Streams {
-        input,
-        output,
-        notes,
-    })
-}
-
-/// What a row has of the network, with a first wire that gives these bytes.
-#[derive(Drop)]
-struct Network {
-    listen: StageHall,
-    dial: MemDial,
-    inbox: MemInbox,
-}
-
-fn network_of(alloc: Global, row: &Row, wire: &[u8]) -> Result<Network, AllocError> {
-    let inbox = inbox_of(alloc, row)?;
-    let dial = dial_of(alloc, row, wire)?;
-    let listen = hall_of(alloc, row)?;
-    Ok(Network {
-        listen,
-        dial,
-        inbox,
-    })
-}
-
-/// The outside of a row, with this input, this file of the map, and a first wire that gives these bytes.
-pub fn memory_of(
-    alloc: Global,
-    row: &Row,
-    words: &[String],
-    input: &[u8],
-    file: &[u8],
-    wire: &[u8],
-) -> Result<Memory, AllocError>
-    ensures disks { IfOk result (λ outside. names_of outside.disks.items ≡ disk_names (texts words.now)) }
+/// What any command reaches of a row.
+fn office_of(alloc: Global, row: &Row, found: &Found<'_>) -> Result<MemOffice, AllocError>
+    ensures disks { IfOk result (λ office. names_of office.disks.items ≡ disk_names (texts found.now.words.now)) }
 {
     let texts = texts_of(alloc, row)?;
-    let disks = disks_of(alloc, words, row, file)?;
-    let streams = streams_of(alloc, row, input)?;
-    let network = network_of(alloc, row, wire)?;
-    Ok(Outside {
-        input: streams.input,
-        output: streams.output,
-        notes: streams.notes,
+    let disks = disks_of(alloc, found.words, row, found.file)?;
+    let source = source_of(alloc, found.input, row)?;
+    let sink = sink_of(alloc, row.write, row.writes)?;
+    let inbox = inbox_of(alloc, row)?;
+    let dial = dial_of(alloc, row, found.wire)?;
+    Ok(Office {
+        wire: Pair { source, sink },
         disks,
         clock: SetClock { moment: row.moment },
-        listen: network.listen,
-        dial: network.dial,
-        inbox: network.inbox,
-        more: Vec::new(alloc),
+        dial,
+        inbox,
         texts,
+    })
+}
+
+/// What callers of a server come by.
+fn doors_of(alloc: Global, row: &Row) -> Result<Doors<StageHall, MemInbox>, AllocError> {
+    let outbox = outbox_of(alloc, row)?;
+    let listen = hall_of(alloc, row)?;
+    Ok(Doors {
+        listen,
+        more: Vec::new(alloc),
+        outbox,
+    })
+}
+
+/// The outside of a row.
+pub fn memory_of(alloc: Global, row: &Row, found: &Found<'_>) -> Result<Memory, AllocError>
+    ensures disks { IfOk result (λ outside. names_of outside.office.disks.items
+        ≡ disk_names (texts found.now.words.now)) }
+{
+    let office = office_of(alloc, row, found)?;
+    let doors = doors_of(alloc, row)?;
+    let notes = sink_of(alloc, 4_096, row.notes)?;
+    Ok(Outside {
+        office,
+        doors,
+        notes,
     })
 }

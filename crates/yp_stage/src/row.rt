@@ -56,9 +56,11 @@ pub struct Row {
     /// the call of the dial that fails: a dial, a letter or a question.
     pub answers: &'static [Words],
     pub dials: u64,
-    /// What the turns bring, and the call of the inbox that fails: a turn or a letter.
+    /// What the turns bring, and the call of the inbox that fails: a turn or a letter; and the letter that fails of the
+    /// inbox from which is replied late.
     pub brings: &'static [Datagram],
     pub inbox: u64,
+    pub outbox: u64,
     /// What each connection sends that calls, in turn, how many of them are to be accepted, and the call of the
     /// listener that fails: a watch of the door or an accept; and the read, and the write or flush, of the first
     /// connection that fail.
@@ -77,7 +79,8 @@ pub struct Row {
     pub output: &'static str,
     pub cut: usize,
     pub note: &'static str,
-    /// The letters of the inbox, and how many turns it took.
+    /// The letters of the inbox, and behind them those that were late; and how many turns it took, which isn't looked at
+    /// where it is [`NEVER`].
     pub sends: &'static [Datagram],
     pub turns: u64,
     /// The questions of the dial, and its letters behind these, how many wires came, and how many bytes the first one
@@ -121,6 +124,7 @@ pub const FAIR: Row = Row {
     dials: NEVER,
     brings: &[],
     inbox: NEVER,
+    outbox: NEVER,
     calls: &[],
     most: 0,
     accepts: NEVER,

@@ -5,7 +5,7 @@ ghost use Rattle.yp_command.specs.Words.{disk_names, texts};
 ghost use Rattle.yp_command.specs.office.Disks.{names_of};
 
 use crate::ended::{Ended, ended_of, stands_of, wanted_of};
-use crate::outside::{Memory, bytes_of, memory_of};
+use crate::outside::{Found, Memory, bytes_of, memory_of};
 use crate::row::{After, DiskCalls, FAIR, Row, Stands};
 use std::alloc::{AllocError, Global};
 use std::random::RandomSource;
@@ -79,13 +79,10 @@ fn run_over<R: Threads + Wait + RandomSource + Clock + Sync>(
     alloc: Global,
     rt: &R,
     row: &Row,
-    words: &[String],
-    input: &[u8],
-    file: &[u8],
-    wire: &[u8],
+    found: &Found<'_>,
 ) -> Result<(Status, Memory), AllocError> {
-    let outside = memory_of(alloc, row, words, input, file, wire)?;
-    Ok(run(alloc, rt, words, outside))
+    let outside = memory_of(alloc, row, found)?;
+    Ok(run(alloc, rt, found.words, outside))
 }
 
 /// What the server of a row sends for its calls.
@@ -96,8 +93,14 @@ fn served<R: Threads + Wait + RandomSource + Clock + Sync>(
 ) -> Result<Vec<u8>, AllocError> {
     let words = strings_of(alloc, row.server)?;
     let calls = bytes_of(alloc, row.wire)?;
-    let (_status, outside) = run_over(alloc, rt, &FAIR, &words, &calls, &[], &[])?;
-    Vec::from_slice(alloc, outside.output.taken())
+    let found = Found {
+        words: &words,
+        input: &calls,
+        file: &[],
+        wire: &[],
+    };
+    let (_status, outside) = run_over(alloc, rt, &FAIR, &found)?;
+    Vec::from_slice(alloc, outside.office.wire.sink.taken())
 }
 
 /// What the first wire of a row gives.
@@ -122,7 +125,13 @@ fn play<R: Threads + Wait + RandomSource + Clock + Sync>(
     file: &[u8],
 ) -> Result<Played, AllocError> {
     let wire = wire_of(alloc, rt, row)?;
-    let (status, outside) = run_over(alloc, rt, row, words, input, file, &wire)?;
+    let found = Found {
+        words,
+        input,
+        file,
+        wire: &wire,
+    };
+    let (status, outside) = run_over(alloc, rt, row, &found)?;
     what_came(alloc, rt, row, &status, &outside)
 }
 
@@ -134,7 +143,7 @@ fn what_came(
     status: &Status,
     outside: &Memory,
 ) -> Result<Played, AllocError> {
-    let images = images_of(alloc, &outside.disks)?;
+    let images = images_of(alloc, &outside.office.disks)?;
     let ended = ended_of(alloc, rt, row, status, outside)?;
     Ok(Played { ended, images })
 }
@@ -162,13 +171,19 @@ pub fn set_up<R: Threads + Wait + RandomSource + Clock + Sync>(
     rt: &R,
     row: &Row,
 ) -> Result<SetUp, AllocError>
-    ensures { IfOk result (λ it. names_of it.outside.disks.items ≡ disk_names (texts it.words.items)) }
+    ensures { IfOk result (λ it. names_of it.outside.office.disks.items ≡ disk_names (texts it.words.items)) }
 {
     let words = strings_of(alloc, row.words)?;
     let input = joined(alloc, row.input, row.text)?;
     let file = bytes_of(alloc, row.file)?;
     let wire = wire_of(alloc, rt, row)?;
-    let outside = memory_of(alloc, row, &words, &input, &file, &wire)?;
+    let found = Found {
+        words: &words,
+        input: &input,
+        file: &file,
+        wire: &wire,
+    };
+    let outside = memory_of(alloc, row, &found)?;
     Ok(SetUp { words, outside })
 }
 

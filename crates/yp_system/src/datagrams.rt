@@ -84,7 +84,7 @@ impl Datagrams {
         Ok(())
     }
 
-    /// A further end of the port, which has to be shared. It has no socket of its own yet.
+    /// A further end of the port. It has no socket of its own yet, which can be opened only where the port is shared.
     pub(crate) fn further(&self, alloc: Global) -> io::Result<Datagrams> {
         let Ok(for_all) = self.for_all.clone() else {
             return Err(ErrorKind::OutOfMemory.into());

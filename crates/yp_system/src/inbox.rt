@@ -126,6 +126,48 @@ impl<R: Net + Clock + Files + Copy> UdpInbox<R> {
         }
     }
 
+    /// Opens one more end of the port, which is only sent from: nothing comes to it. What it sends leaves from the
+    /// port, and from the address that the system chooses for the way.
+    ///
+    /// `Failed` where the port isn't open and can't be opened now, or the system has no descriptor or no memory for it.
+    pub fn sending(&mut self, alloc: Global) -> Result<UdpInbox<R>, Failed>
+        ensures past { IfOk result (λ end. ⟦<UdpInbox<R> as Inbox>⟧.past end ≡ None) }
+        ensures turns { IfOk result (λ end. ⟦<UdpInbox<R> as Inbox>⟧.turns end ≡ 0) }
+        ensures quiets { IfOk result (λ end. ⟦<UdpInbox<R> as Inbox>⟧.quiets end ≡ 0) }
+        ensures faults { IfOk result (λ end. ⟦<UdpInbox<R> as Inbox>⟧.faults end ≡ 0) }
+        ensures port { self.new.port ≡ self.old.port }
+        ensures own_turns { ⟦<UdpInbox<R> as Inbox>⟧.turns self.new ≡ ⟦<UdpInbox<R> as Inbox>⟧.turns self.old }
+        ensures own_quiets { ⟦<UdpInbox<R> as Inbox>⟧.quiets self.new ≡ ⟦<UdpInbox<R> as Inbox>⟧.quiets self.old }
+        ensures cause { CountsFaults
+            (⟦<UdpInbox<R> as Inbox>⟧.faults self.old)
+            (⟦<UdpInbox<R> as Inbox>⟧.faults self.new)
+            result }
+    {
+        match self.sending_end(alloc) {
+            Ok(end) => Ok(end),
+            Err(_) => Err(count_fault(&mut self.faults)),
+        }
+    }
+
+    // An end of the port that is only sent from.
+    fn sending_end(&mut self, alloc: Global) -> io::Result<UdpInbox<R>>
+        ensures fresh { IfOk result (λ end. (end.turns ≡ 0) × (end.quiets ≡ 0) × (end.faults ≡ 0)) }
+        ensures own { (self.new.port ≡ self.old.port) × (self.new.turns ≡ self.old.turns)
+            × (self.new.quiets ≡ self.old.quiets) × (self.new.faults ≡ self.old.faults) }
+    {
+        let post = opened(
+            self.alloc,
+            &self.system,
+            self.port,
+            self.limits,
+            &mut self.post,
+        )?;
+        let post = post.sending(alloc, &self.system)?;
+        let mut end = UdpInbox::new(alloc, self.system, self.port);
+        end.post = Some(post);
+        Ok(end)
+    }
+
     // So many further ends of the port.
     #[tactic(auto, using(crate::proofs::Ends::and_one_more))]
     fn further(&mut self, alloc: Global, count: u32) -> io::Result<Vec<UdpInbox<R>>>

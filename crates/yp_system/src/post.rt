@@ -111,6 +111,11 @@ impl Post {
         Ok(post)
     }
 
+    /// Opens an end of the port that is only sent from, by the socket for all, of which the system tells it nothing.
+    pub(crate) fn sending<R: Net + Clock>(&self, alloc: Global, system: &R) -> io::Result<Post> {
+        Post::of(alloc, system, self.datagrams.further(alloc)?)
+    }
+
     // What comes to these sockets, of which the system tells nothing yet.
     fn of<R: Net + Clock>(alloc: Global, system: &R, datagrams: Datagrams) -> io::Result<Post> {
         let poll = Poll::new(system)?;

@@ -9,6 +9,7 @@ use Rattle.std.proofs.lemmas.List.Sums.{sum_by-cons}
 use Rattle.std.proofs.lemmas.Nat.{from_be_bytes-to_be_bytes_4}
 use Rattle.std.proofs.lemmas.List.{get_or-map, length-append, length-map, length-drop, length-take, length-replicate}
 use Rattle.std.proofs.lemmas.List.{append-nil, drop-append-le, drop-drop, take-append-drop, flat_map_more}
+use Rattle.std.proofs.lemmas.Option.{slice_get_within, get_or_from_slice_get}
 use Rattle.std.proofs.lemmas.List.Elements.{recursion_from_All, All-from_recursion, All-push}
 use Rattle.yp_xdr.specs.Kind.{U32, Opaque}
 use Rattle.yp_xdr.specs.Spelling.{spelling, opaque, fixed, padding}
@@ -16,7 +17,7 @@ use Rattle.yp_xdr.specs.inside.Writing.{written}
 use Rattle.yp_version.specs.Limits.{key_max, value_max, body_max}
 use Rattle.yp_version.specs.Rows.{Row, padded, row_len, rows_len}
 use Rattle.yp_version.specs.inside.Bodies.{row_bytes, spelled_row}
-use Rattle.yp_version.specs.inside.Slabs.{Packed, KeepsLimits, IsRowAt, Lies, counted, opaque_from, key_from}
+use Rattle.yp_version.specs.inside.Slabs.{Packed, KeepsLimits, IsRowAt, AreRowsAt, Lies, counted, opaque_from, key_from}
 use Rattle.yp_version.specs.inside.Slabs.{value_from, row_from, places_from}
 use Rattle.yp_version.specs.inside.Slab.{packed_of, IsPacked}
 use Rattle.yp_version.specs.declared.slab.Slab.TheInside.{Inside}
@@ -160,12 +161,6 @@ slab_rows_at inside kept =
     subst (λ (l : List ℕ). All (IsRowAt l) inside.places.items) (sym kept.lies.bytes)
     (subst (λ (l : List ℕ). All (IsRowAt (head ++ flat_map row_bytes rows)) l) (sym kept.lies.places) there)
 
--- the row with a number stands at its place
-pub slab_row_at : (inside : Inside) → IsPacked inside → (i place : ℕ) → i < length inside.places.items
-    → place ≡ get_or inside.places.items i place → IsRowAt inside.bytes.items place
-slab_row_at inside kept i place within is =
-    subst (IsRowAt inside.bytes.items) (sym is) (slab_rows_at inside kept i place within)
-
 -- a row that stands at a place is its key and its value, each as it is spelled
 pub spelled_at : (bytes : List ℕ) (place k v : ℕ) → IsRowAt bytes place
     → k ≡ 4 + padded (length (key_from bytes place)) → v ≡ 4 + padded (length (value_from bytes place))
@@ -211,7 +206,7 @@ next_place at (row ∷ rows) (suc i) d none lt =
     ∙ next_place (at + row_len row) rows i d none (omega arith)
 
 -- the next place, or the end of all bytes, is behind the row with a number
-pub row_ends : (inside : Inside) → IsPacked inside → (i place : ℕ) → i < length inside.places.items
+row_ends : (inside : Inside) → IsPacked inside → (i place : ℕ) → i < length inside.places.items
     → place ≡ get_or inside.places.items i place
     → get_or inside.places.items (i + 1) (length inside.bytes.items)
     ≡ place + row_len (row_from inside.bytes.items place)
@@ -230,6 +225,15 @@ row_ends inside kept i place within is =
     (λ j. get_or (places j) (step j) (size j))
     ∙ next_place (length head) rows i place (row_from inside.bytes.items place) (omega (arith, count))
     ∙ (λ j. (sym (is ∙ ap (λ (l : List ℕ). get_or l i place) places)) j + row_len (row_is j))
+
+-- the rows of a slab stand at their places, and each ends where the next one begins
+pub slab_spelled : (inside : Inside) → IsPacked inside → AreRowsAt inside.bytes.items inside.places.items
+slab_spelled inside kept = record {
+  there = slab_rows_at inside kept;
+  ends = λ i place at.
+      row_ends inside kept i place (slice_get_within inside.places.items i place at)
+      (sym (get_or_from_slice_get inside.places.items i place place at));
+}
 
 -- the fields hold these rows behind this head
 pub packed_view : (inside : Inside) (head : List ℕ) (rows : List Row) → KeepsLimits rows

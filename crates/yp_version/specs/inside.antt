@@ -3,6 +3,7 @@ pub mod Bodies
 pub mod Drafts
 pub mod Slabs
 pub mod Slab
+pub mod SpelledRows
 pub mod Ranks
 pub mod Tables
 pub mod VersionBuilder

@@ -15,6 +15,7 @@ mod limits;
 mod order;
 mod ranks;
 mod slab;
+mod spelled_rows;
 mod table;
 mod version;
 
@@ -22,4 +23,5 @@ pub use blanks::{bare, is_blank, without_front_blanks};
 pub use builder::{VersionBuilder, VersionFault};
 pub use limits::{BODY_MAX, KEY_MAX, MASTER_MAX, ROWS_MAX, VALUE_MAX};
 pub use order::Order;
+pub use spelled_rows::SpelledRows;
 pub use version::{Next, Version};

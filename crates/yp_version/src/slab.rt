@@ -17,6 +17,7 @@ ghost use Rattle.yp_version.specs.inside.Slabs.{IsRowAt, opaque_from, key_from, 
 
 use crate::limits::{WORD, padded, row_len};
 use crate::ranks::sorted_places;
+use crate::spelled_rows::SpelledRows;
 use std::alloc::Global;
 use std::cmp::Ordering;
 use std::marker::Model;
@@ -129,16 +130,11 @@ impl Slab {
         Some(row_from(&self.bytes, *place))
     }
 
-    /// The row with this number as it stands: its key and its value, each behind its length and padded.
-    pub(crate) fn spelled(&self, i: usize) -> Option<(&[u8], &[u8])>
-        ensures row { option_map (λ row. (row.0.now, row.1.now)) result
-            ≡ option_map spelled_row (slice_get self.now.rows i) }
-        ensures key_len { IfSome result (λ row. length row.0.now ≤ 4 + key_max) }
-        ensures value_len { IfSome result (λ row. length row.1.now ≤ 4 + value_max) }
+    /// Its rows as they stand.
+    pub(crate) fn spelled_rows(&self) -> SpelledRows<'_>
+        ensures { result ≡ self.now.rows }
     {
-        let place = *self.places.get(i)?;
-        let end = place_behind(&self.places, i, self.bytes.len());
-        Some(spelled_from(&self.bytes, place, end))
+        SpelledRows::new(&self.bytes, &self.places)
     }
 
     /// The number of the row with this key among rising rows, by halving.
@@ -345,28 +341,4 @@ fn row_from(bytes: &[u8], place: u32) -> (&[u8], &[u8])
     let key = key_from(bytes, place);
     let behind = place as usize + (WORD + padded(key.len()));
     (key, opaque_from(bytes, behind))
-}
-
-// The place behind the row with this number: that of the next row, or the end of all bytes.
-fn place_behind(places: &[u32], i: usize, end: usize) -> usize
-    requires { i < length places.now }
-    ensures { result ≡ slice_index_or places.now (i + 1) end }
-{
-    match places.get(i + 1) {
-        Some(next) => *next as usize,
-        None => end,
-    }
-}
-
-// The row that stands from a place up to another one, as it is spelled there. The length of its value isn't looked at.
-fn spelled_from(bytes: &[u8], place: u32, end: usize) -> (&[u8], &[u8])
-    requires there { IsRowAt bytes.now place }
-    requires end { end ≡ place + row_len (row_from bytes.now place) }
-    ensures row { (result.0.now, result.1.now) ≡ spelled_row (row_from bytes.now place) }
-    ensures key_len { length result.0.now ≤ 4 + key_max }
-    ensures value_len { length result.1.now ≤ 4 + value_max }
-{
-    let start = place as usize;
-    let behind = start + (WORD + padded(key_from(bytes, place).len()));
-    (&bytes[start..behind], &bytes[behind..end])
 }

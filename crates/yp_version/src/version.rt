@@ -8,7 +8,7 @@ ghost use Rattle.yp_version.specs.Versions.{IsVersion, body_len, unmarked};
 ghost use Rattle.yp_xdr.specs.Kind.{Opaque};
 ghost use Rattle.yp_xdr.specs.Spelling.{spelling};
 ghost use Rattle.yp_version.specs.Bodies.{head_bytes};
-ghost use Rattle.yp_version.specs.inside.Bodies.{IsBody, spelled_row};
+ghost use Rattle.yp_version.specs.inside.Bodies.{IsBody};
 ghost use Rattle.yp_version.specs.inside.Stored.{IsStoredBody};
 ghost use Rattle.yp_version.specs.Table.{IsWhole};
 ghost use Rattle.yp_version.specs.inside.Places.{StandsAt, IsAbsent};
@@ -18,6 +18,7 @@ use crate::head::format_of;
 use crate::limits::{HEAD_LEN, padded};
 use crate::order::Order;
 use crate::slab::Slab;
+use crate::spelled_rows::SpelledRows;
 use crate::table::Table;
 use std::alloc::Global;
 use std::hash::RandomState;
@@ -232,19 +233,16 @@ impl Version {
         ensures version { IsVersion self.now }
     {
         let i = self.find(key)?;
-        let (_, value) = self.slab.spelled(i)?;
+        let (_, value) = self.slab.spelled_rows().get(i)?;
         Some(value)
     }
 
-    /// The row with this number as it stands in the body: its key and its value, each behind its length and padded.
-    pub fn row_spelled(&self, i: usize) -> Option<(&[u8], &[u8])>
-        ensures row { option_map (λ row. (row.0.now, row.1.now)) result
-            ≡ option_map spelled_row (slice_get self.now.rows i) }
-        ensures key_len { IfSome result (λ row. length row.0.now ≤ 4 + key_max) }
-        ensures value_len { IfSome result (λ row. length row.1.now ≤ 4 + value_max) }
+    /// Its rows as they stand in the body.
+    pub fn spelled_rows(&self) -> SpelledRows<'_>
+        ensures rows { result ≡ self.now.rows }
         ensures version { IsVersion self.now }
     {
-        self.slab.spelled(i)
+        self.slab.spelled_rows()
     }
 
     /// The row with this number.

@@ -15,6 +15,7 @@ use Rattle.yp_answer.specs.declared.session.host.Host as host
 use Rattle.yp_answer.specs.contracts.session.conversation.Conversation as Conversation
 use Rattle.yp_worker.specs.declared.catch_up.CatchUp as catch_up
 use Rattle.yp_worker.specs.declared.catch_up.HandsOver as hands_over
+use Rattle.yp_worker.specs.declared.catch_up.Known as known
 use Rattle.yp_worker.specs.declared.listening.Reception as reception
 use Rattle.yp_worker.specs.contracts.gated.Gated as Gated
 use Rattle.yp_worker.specs.contracts.guest.Guest as Guest
@@ -39,13 +40,13 @@ module _ (S K G F : RattleType) (s : IsSend S) (k : IsSend K) (gate : IsSend G) 
 pub listening_send : (I E H L G Sum Front Count In Out Closer Waker Watch : RattleType) (receptions : reception.Ghosts I.Denot)
     (sites : site.Ghosts I.Denot) (out : ledger.Ghosts I.Denot) (ended : ledger.Ghosts E.Denot)
     (sums : hands_over.Ghosts H.Denot Sum.Denot Front.Denot Count.Denot) (learners : catch_up.Ghosts H.Denot Count.Denot)
-    (hosts : host.Ghosts H.Denot) (views : view.Ghosts H.Denot)
+    (hosts : host.Ghosts H.Denot) (views : view.Ghosts H.Denot) (fronts : known.Ghosts Front.Denot)
     (halls : hall.Ghosts L.Denot In.Denot Out.Denot Closer.Denot Waker.Denot Watch.Denot) (source : try_source.Ghosts In.Denot)
     (sink : try_sink.Ghosts Out.Denot) (watches : watch.Ghosts Watch.Denot In.Denot Waker.Denot) → IsSend I → IsSend E → IsSend L
     → IsSend G → IsSend Sum → IsSend Front → IsSend In → IsSend Out → IsSend Waker
     → IsSend (Listening.the_row I E H L G Sum Front Count In Out Closer Waker Watch receptions sites out ended sums learners hosts
-    views halls source sink watches)
-listening_send I E H L G Sum Front Count In Out Closer Waker Watch receptions sites out ended sums learners hosts views halls source sink watches j e l gate sum
+    views fronts halls source sink watches)
+listening_send I E H L G Sum Front Count In Out Closer Waker Watch receptions sites out ended sums learners hosts views fronts halls source sink watches j e l gate sum
     front in' out' waker =
     search (sendable, crosses, waiting_send, share_send, book_send) depth 60 fits 50000
 

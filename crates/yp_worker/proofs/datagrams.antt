@@ -1,4 +1,5 @@
 mod Answering
-mod Carrying
+mod Sending
+pub mod Carrying
 mod Queues
 mod Running

@@ -1,3 +1,4 @@
 pub mod Mailing
 pub mod Queues
 pub mod Serving
+pub mod Carrying

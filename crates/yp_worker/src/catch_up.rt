@@ -25,6 +25,12 @@ pub trait CatchUp: Host {
         ensures refused { OnErr result (self.new ≡ self.old) };
 }
 
+/// What a host knew at a moment, for another host of the board: a front of the log.
+pub trait Known {
+    /// The log that it is.
+    ghost known: { Self → Log };
+}
+
 /// A host that hands over what it has counted, to be summed up, and tells how far it has read the log. Then it counts
 /// from nothing again.
 pub trait HandsOver: CatchUp {
@@ -47,20 +53,17 @@ pub trait HandsOver: CatchUp {
     /// as.
     fn late(&self, _peer: Peer) {}
 
-    /// What a host knew at a moment, for another host of the board: a front of the log.
-    type Front: Drop;
-
-    /// The log that it is.
-    ghost kept: { Self.Front → Log };
+    /// What a host knew at a moment.
+    type Front: Known + Drop;
 
     /// What it knows, for another host.
     fn front(&self) -> Result<Self::Front, NoMemory>
-        ensures { IfOk result (λ front. kept front ≡ (Self.seen self.now).known) };
+        ensures { IfOk result (λ front. Self.Front.known front ≡ (Self.seen self.now).known) };
 
     /// Lets it know what another host of the board knew at a moment. It waits for nobody, makes no read step, and
     /// counts nothing.
     fn reach(&mut self, front: Self::Front)
-        ensures reached { IsFront (kept front) (Self.seen self.new).known }
+        ensures reached { IsFront (Self.Front.known front) (Self.seen self.new).known }
         ensures learned { Learns (Self.seen self.old) (Self.seen self.new) }
         ensures counts { Self.counts self.new ≡ Self.counts self.old }
         ensures counted { Self.counted self.new ≡ Self.counted self.old };

@@ -25,7 +25,7 @@ mod waiting;
 mod worker;
 
 pub use beside::run_beside;
-pub use catch_up::{CatchUp, HandsOver};
+pub use catch_up::{CatchUp, HandsOver, Known};
 pub use gate::{Gate, OpenGate, Point};
 pub use gated::Gated;
 pub use guest::Guest;

@@ -158,7 +158,7 @@ impl<J: Reception, E: Ledger, H: HandsOver, L: Hall, G> Model for Listening<J, E
 
     ghost invariant = { λ l. IsListening L.In.TrySource L.Out.TrySink
         (conduct_of H.seen H.told H.counts H.stepped H.made H.carried) (counting_of H.counted H.none H.plus)
-        (terms_of J.catalogue J.starts J.most) H.kept J.opening (opening_by L.Hall l.listen)
+        (terms_of J.catalogue J.starts J.most) H.Front.known J.opening (opening_by L.Hall l.listen)
         l.connections l.calls l.failed l.out.total l.ended.total (H.summed l.sum) (H.reached l.sum)
         l.waiting.items (deque_len l.waiting) l.held.amount l.held.parts };
 }
@@ -208,7 +208,7 @@ impl<J: Reception, E: Ledger, H: HandsOver, L: Hall, G> Listening<J, E, H, L, G>
     /// Takes the guest that has waited longest, where one waits. Where more do, whoever takes them is told again.
     fn hand_on(&mut self, pass: &mut Pass<J, E>) -> Option<Waiting<L::In, L::Out, G, H::Front>>
         ensures waits { IfSome result (IsWaiting L.In.TrySource L.Out.TrySink (conduct_by H.Host)
-            (counting_of H.counted H.none H.plus) (terms_by J.Reception) J.opening.past H.kept) }
+            (counting_of H.counted H.none H.plus) (terms_by J.Reception) J.opening.past H.Front.known) }
         ensures out { IfSome result (λ _. pass.new ≡ record pass.old { out = pass.old.out + 1 }) }
         ensures none { IfNone result (pass.new ≡ pass.old) }
     {
@@ -228,7 +228,7 @@ impl<J: Reception, E: Ledger, H: HandsOver, L: Hall, G> Listening<J, E, H, L, G>
     ) -> Admission<L::In, L::Out, G, H::Front>
         ensures admits { Admits (IsExpectedCall (try_halves_of L.In.TrySource L.Out.TrySink) J.opening.past)
             (IsWaiting L.In.TrySource L.Out.TrySink (conduct_by H.Host) (counting_of H.counted H.none H.plus)
-            (terms_by J.Reception) J.opening.past H.kept) result pass.old pass.new }
+            (terms_by J.Reception) J.opening.past H.Front.known) result pass.old pass.new }
         ensures idle { carries ≡ false → IsNotLeft result }
     {
         if !carries {
@@ -253,8 +253,8 @@ impl<J: Reception, E: Ledger, H: HandsOver, L: Hall, G> Listening<J, E, H, L, G>
     ) -> bool
         requires out { IfSome (get guests.old key) (λ _. 0 < pass.old.out) }
         requires waits { IfSome (get guests.old key) (λ guest. IsWaiting L.In.TrySource L.Out.TrySink
-            (conduct_by H.Host) (counting_of H.counted H.none H.plus) (terms_by J.Reception) J.opening.past H.kept
-            (record { guest = guest; front = front })) }
+            (conduct_by H.Host) (counting_of H.counted H.none H.plus) (terms_by J.Reception) J.opening.past
+            H.Front.known (record { guest = guest; front = front })) }
         ensures kept { result ≡ true → IsKept key guests.old guests.new pass.old pass.new }
         ensures same { result ≡ false → (guests.new ≡ guests.old) × (pass.new ≡ pass.old) }
     {
@@ -274,7 +274,7 @@ impl<J: Reception, E: Ledger, H: HandsOver, L: Hall, G> Listening<J, E, H, L, G>
     fn accept(&mut self, pass: &mut Pass<J, E>) -> Admission<L::In, L::Out, G, H::Front>
         ensures admits { Admits (IsExpectedCall (try_halves_of L.In.TrySource L.Out.TrySink) J.opening.past)
             (IsWaiting L.In.TrySource L.Out.TrySink (conduct_by H.Host) (counting_of H.counted H.none H.plus)
-            (terms_by J.Reception) J.opening.past H.kept) result pass.old pass.new }
+            (terms_by J.Reception) J.opening.past H.Front.known) result pass.old pass.new }
         ensures idle { IsNotLeft result }
     {
         if self.failed {

@@ -30,8 +30,8 @@ use yp_answer::session::Advance;
 use yp_io::{Awaited, Called, Hall, Notice, TrySink, TrySource, Watch};
 
 /// The most steps that are done for one connection before the others are looked at: a record that is answered, a read,
-/// or a write.
-const TURN_STEPS: u32 = 16;
+/// or a write. Sixteen calls that have come together take nineteen: the last read tells that no more have come.
+const TURN_STEPS: u32 = 20;
 
 /// What a worker has at work: its guests, each under the key of its place, what closes and what watches them, what was
 /// counted, the number of the next conversation, and whether more are to come.
@@ -80,7 +80,7 @@ impl<H: HandsOver, G: Gate + Copy + Drop> Worker<H, G> {
     /// failed, and all that came to it are closed. Then it hands over what its closer tells, and what its host has
     /// counted. It holds the lock of the listener only while it tries to accept, and at both ends.
     ///
-    /// It accepts one where its watch tells it so, and goes on with each that is ready for at most sixteen steps before
+    /// It accepts one where its watch tells it so, and goes on with each that is ready for at most twenty steps before
     /// it looks at the others. One that its watch tells late is closed as it stands. In quiet times its host is told
     /// what others showed. Where it can't have a watch it ends at once, and no more are accepted.
     ///
@@ -294,7 +294,7 @@ impl<H: HandsOver, G: Gate + Copy + Drop> Worker<H, G> {
         requires place { shift.old.guests.vacant_key ≤ 4294967295 }
         requires number { shift.old.next + 1 < 18446744073709551616 }
         requires waits { IsWaiting L.In.TrySource L.Out.TrySink (conduct_by H.Host)
-            (counting_of H.counted H.none H.plus) (terms_by J.Reception) J.opening.past H.kept waiting }
+            (counting_of H.counted H.none H.plus) (terms_by J.Reception) J.opening.past H.Front.known waiting }
         requires served { HasServed L.In.TrySource L.Out.TrySink
             (conduct_by H.Host) (counting_of H.counted H.none H.plus) (terms_by J.Reception) J.opening.past
             (serving_of L.closed L.closed_count L.Watch.Watch.let_go
@@ -319,7 +319,7 @@ impl<H: HandsOver, G: Gate + Copy + Drop> Worker<H, G> {
     /// Lets its host know what the host of another worker knew.
     fn reach(&mut self, front: H::Front)
         ensures told { IsTold (conduct_by H.Host) H.counted self.old.host self.new.host }
-        ensures reached { IsFront (H.kept front) (H.seen self.new.host).known }
+        ensures reached { IsFront (H.Front.known front) (H.seen self.new.host).known }
         ensures same { self.new ≡ record self.old { host = self.new.host } }
     {
         self.host.reach(front);
@@ -563,7 +563,7 @@ fn admitted<J: Reception, E: Ledger, H: HandsOver, L: Hall, G, R: Wait>(
 ) -> Admission<L::In, L::Out, G, H::Front>
     ensures admits { Admits (IsExpectedCall (try_halves_of L.In.TrySource L.Out.TrySink) J.opening.past)
         (IsWaiting L.In.TrySource L.Out.TrySink (conduct_by H.Host) (counting_of H.counted H.none H.plus)
-        (terms_by J.Reception) J.opening.past H.kept) result pass.old pass.new }
+        (terms_by J.Reception) J.opening.past H.Front.known) result pass.old pass.new }
     ensures idle { carries ≡ false → IsNotLeft result }
 {
     let mut kept = listening.lock(rt);
@@ -581,7 +581,7 @@ fn kept_waiting<J: Reception, E: Ledger, H: HandsOver, L: Hall, G, R: Wait>(
 ) -> bool
     requires out { IfSome (get guests.old place) (λ _. 0 < pass.old.out) }
     requires waits { IfSome (get guests.old place) (λ guest. IsWaiting L.In.TrySource L.Out.TrySink
-        (conduct_by H.Host) (counting_of H.counted H.none H.plus) (terms_by J.Reception) J.opening.past H.kept
+        (conduct_by H.Host) (counting_of H.counted H.none H.plus) (terms_by J.Reception) J.opening.past H.Front.known
         (record { guest = guest; front = front })) }
     ensures kept { result ≡ true → IsKept place guests.old guests.new pass.old pass.new }
     ensures same { result ≡ false → (guests.new ≡ guests.old) × (pass.new ≡ pass.old) }

@@ -1,6 +1,6 @@
-//! A host of two maps, on which others show versions of the first.
+//! The maps of hosts, and versions of the first.
 
-ghost use Rattle.std.specs.Prelude.{◌≡◌, ◌<◌, None};
+ghost use Rattle.std.specs.Prelude.{◌≡◌, ◌<◌, ◌+◌, [], None};
 ghost use Rattle.std.proofs.Common.{ap};
 ghost use Rattle.yp_io.specs.Counts.{next_count};
 
@@ -16,81 +16,7 @@ use yp_for_server_tests::Map;
 use yp_io::{NoMemory, Peer};
 use yp_messages::XfrStat;
 use yp_version::{Order, Version, VersionBuilder};
-use yp_worker::CatchUp;
-
-/// It makes no map: memory runs out. A transfer is counted.
-#[derive(Drop)]
-pub struct TestHost {
-    board: PlainBoard,
-    // What others show before it catches up, the next last. Where none is left, memory runs out.
-    waiting: Vec<Arc<Version>>,
-    transfers: u64,
-}
-
-impl View for TestHost {
-    ghost seen = { λ host. host.board };
-
-    ghost stepped = { λ old new. new ≡ record old { board = record old.board { asked = next_count old.board.asked } } };
-
-    fn catalog(&self) -> &Catalog {
-        self.board.catalog()
-    }
-
-    fn refresh(&mut self) {
-        self.board.refresh();
-    }
-
-    fn held(&self, map: u32) -> Option<&Version> {
-        self.board.held(map)
-    }
-
-    fn share(&self, map: u32) -> Result<Option<Arc<Version>>, NoMemory> {
-        self.board.share(map)
-    }
-}
-
-impl Host for TestHost {
-    ghost told = { λ host. record { text = λ file. None; moment = None } };
-
-    ghost counts = { λ host. record { files = 0; transfers = host.transfers } };
-
-    ghost made = { λ job stat old new. Unit {0} };
-
-    fn make(&mut self, _job: MakeJob) -> XfrStat {
-        XfrStat::Rsrc
-    }
-
-    ghost carried = { λ taken peer old new. Unit {0} };
-
-    fn transfer(&mut self, _job: &TransferJob<'_>, _peer: Peer) {
-        self.transfers = self.transfers.saturating_add(1);
-    }
-
-    ghost step_counts_nothing = { λ old new h. ap (λ host. record { files = 0; transfers = host.transfers }) h };
-}
-
-impl CatchUp for TestHost {
-    type Count = u64;
-
-    ghost counted = { λ host. host.transfers };
-
-    fn catch_up(&mut self) -> Result<(), NoMemory> {
-        if self.waiting.is_empty() || self.board.catalog().is_empty() {
-            return Err(NoMemory);
-        }
-        if let Some(version) = self.waiting.pop() {
-            let _ = self.board.show(0, version);
-        }
-        Ok(())
-    }
-}
-
-impl TestHost {
-    /// How many transfers were carried out.
-    pub fn transfers(&self) -> u64 {
-        self.transfers
-    }
-}
+use yp_worker::{CatchUp, HandsOver, Known};
 
 /// A version of this order, with these rows.
 pub fn version_of<R: RandomSource + Abort>(
@@ -131,14 +57,6 @@ pub fn start(rt: &impl Abort, alloc: Global, version: Arc<Version>) -> Vec<Optio
     vec![in alloc; Some(version), None].expect(rt, "versions")
 }
 
-// A board of these maps.
-fn board<R: RandomSource + Abort>(rt: &R, alloc: Global) -> PlainBoard {
-    let catalog = catalog(rt, alloc);
-    let start = start(rt, alloc, version(rt, alloc, 7, b"alpha:1"));
-    assert_fits(rt, start.len(), &catalog);
-    PlainBoard::new(alloc, catalog, start).expect(rt, "a board")
-}
-
 /// Versions with these values of `alpha` that others show, the next last.
 pub fn waiting<R: RandomSource + Abort>(
     rt: &R,
@@ -152,30 +70,4 @@ pub fn waiting<R: RandomSource + Abort>(
     }
     waiting.reverse();
     waiting
-}
-
-/// A host of passwd.byname that knows the value `alpha:1`, and behind which others show each of these values.
-pub fn host_of<R: RandomSource + Abort>(rt: &R, alloc: Global, values: &[&[u8]]) -> TestHost {
-    let waiting = waiting(rt, alloc, values);
-    TestHost {
-        board: board(rt, alloc),
-        waiting,
-        transfers: 0,
-    }
-}
-
-/// Two such hosts of the same maps, behind which others show nothing.
-pub fn two_hosts<R: RandomSource + Abort>(rt: &R, alloc: Global) -> (TestHost, TestHost)
-    ensures { result.1.board.catalogue ≡ result.0.board.catalogue }
-{
-    let first = host_of(rt, alloc, &[]);
-    let catalog = first.board.catalog().copy(alloc).expect(rt, "a catalogue");
-    let start = start(rt, alloc, version(rt, alloc, 7, b"alpha:1"));
-    assert_fits(rt, start.len(), &catalog);
-    let second = TestHost {
-        board: PlainBoard::new(alloc, catalog, start).expect(rt, "a board"),
-        waiting: Vec::new(alloc),
-        transfers: 0,
-    };
-    (first, second)
 }

@@ -3,17 +3,18 @@
 ghost use Rattle.std.specs.Prelude.{◌≡◌, ◌≤◌, length};
 
 use crate::given::{NEVER, assert_same, named};
-use crate::host::{TestHost, host_of};
+use crate::reader::{Knew, ReaderHost, two_hosts};
 use std::alloc::Global;
 use std::marker::Brand;
 use std::process::Abort;
 use std::random::RandomSource;
 use std::sync::Wait;
+use yp_board::readers::{Naming, Opened};
 use yp_io::{Failed, Letter, Peer};
 use yp_memory::MemInbox;
 use yp_publisher::sharing::Site;
 use yp_rpc::{DATAGRAM_MAX, Ended, Handler, Room};
-use yp_worker::datagrams::{MailServer, PendingTransfers, serve_mail};
+use yp_worker::datagrams::{Carrier, DeferredPass, DeferredQueue, MailServer, serve_mail};
 
 pub const OWN_HOST: [u8; 4] = [127, 0, 0, 1];
 
@@ -124,39 +125,64 @@ pub fn sent(rt: &impl Abort, alloc: Global, letters: &[Letter]) -> Vec<u8> {
 // How turns end, how many were taken, how many transfers were carried out, and what was sent.
 type Came = (Result<Ended, Failed>, u64, u64, Vec<u8>);
 
-// Takes so many turns at most, with a host that carries out what is left then.
-fn serve_turns<J: Site, R: Wait + Abort>(
-    rt: &R,
+// How many transfers a carrier with this host carries out, behind a server that held this part of the queue.
+fn carried<'r, J: Site, N: Naming, R: Wait + Abort>(
+    rt: &'r R,
     alloc: Global,
-    inbox: &mut MemInbox,
-    host: TestHost,
-    most: u64,
-) -> (Result<Ended, Failed>, TestHost)
-    requires { host.board.catalogue ≡ J.catalogue }
+    pending: &DeferredQueue<J, Knew<N>>,
+    pass: DeferredPass<Knew<N>>,
+    part: DeferredPass<Knew<N>>,
+    host: ReaderHost<'r, N, R>,
+) -> u64
+    requires queue { (pass.queue ≡ pending.now) × (part.queue ≡ pending.now) }
+    requires catalogue { host.reader.catalogue ≡ J.catalogue }
 {
-    let (pending, pass) = PendingTransfers::<J>::new(alloc, 1).expect(rt, "memory for transfers");
-    let mut server = MailServer::new(host, &pending, pass, rt);
-    let mut room = Room::new(alloc).expect(rt, "memory for turns");
-    let ended = serve_mail(inbox, &mut server, &mut room, most);
-    server.carry_rest();
-    let (host, _) = server.into_parts();
-    (ended, host)
+    let failing = vec![in alloc; NEVER].expect(rt, "memory for a number");
+    let outbox = MemInbox::new(alloc, Vec::new(alloc), failing);
+    let letter = vec![in alloc; 0; DATAGRAM_MAX].expect(rt, "memory for a reply");
+    let mut carrier = Carrier::new(host, pending, pass, outbox, letter, rt);
+    carrier.merge(part);
+    carrier.carry_rest();
+    let (host, _, _, _) = carrier.into_parts();
+    host.transfers
 }
 
-// Takes turns of an inbox with these letters, of which this call fails.
-fn take_turns<R: Wait + Abort>(
+// Takes so many turns at most, and tells how many transfers were carried out, with a carrier behind the turns.
+fn serve_turns<'r, J: Site, N: Naming, R: Wait + Abort>(
+    rt: &'r R,
+    alloc: Global,
+    inbox: &mut MemInbox,
+    hosts: (ReaderHost<'r, N, R>, ReaderHost<'r, N, R>),
+    most: u64,
+) -> (Result<Ended, Failed>, u64)
+    requires first { hosts.0.reader.catalogue ≡ J.catalogue }
+    requires second { hosts.1.reader.catalogue ≡ J.catalogue }
+{
+    let (host, other) = hosts;
+    let made = DeferredQueue::<J, Knew<N>>::new(alloc, 1);
+    let (pending, mut pass) = made.expect(rt, "memory for a queue");
+    let part = pending.split_off(&mut pass);
+    let mut server = MailServer::new(alloc, host, &pending, part, rt);
+    let mut room = Room::new(alloc).expect(rt, "memory for turns");
+    let ended = serve_mail(inbox, &mut server, &mut room, most);
+    let (host, part) = server.into_parts();
+    let others = carried(rt, alloc, &pending, pass, part, other);
+    (ended, host.transfers.saturating_add(others))
+}
+
+// Takes turns of an inbox with these letters, of which this call fails, behind which others show these values.
+fn take_turns<N: Naming, R: RandomSource + Wait + Abort>(
     rt: &R,
     alloc: Global,
-    host: TestHost,
-    mail: Vec<Option<Letter>>,
-    failing: u64,
+    opened: Opened,
+    values: &[&[u8]],
+    inbox: &mut MemInbox,
     most: u64,
-) -> Came {
-    let failing = vec![in alloc; failing].expect(rt, "memory for a number");
-    let mut inbox = MemInbox::new(alloc, mail, failing);
-    let (ended, host) = serve_turns::<Brand, R>(rt, alloc, &mut inbox, host, most);
-    let sent = sent(rt, alloc, inbox.letters());
-    (ended, inbox.turns(), host.transfers(), sent)
+) -> (Result<Ended, Failed>, u64)
+    requires { opened ≡ N.book }
+{
+    let hosts = two_hosts::<N, R>(rt, alloc, opened, values);
+    serve_turns::<Brand, N, R>(rt, alloc, inbox, hosts, most)
 }
 
 // What comes of these datagrams, behind which others show these values.
@@ -168,9 +194,12 @@ fn served<R: RandomSource + Wait + Abort>(
     failing: u64,
     most: u64,
 ) -> Came {
-    let host = host_of(rt, alloc, shown);
-    let mail = mail_of(rt, alloc, mail);
-    take_turns(rt, alloc, host, mail, failing, most)
+    let failing = vec![in alloc; failing].expect(rt, "memory for a number");
+    let mut inbox = MemInbox::new(alloc, mail_of(rt, alloc, mail), failing);
+    let opened = Opened::new();
+    let (ended, transfers) = take_turns::<Brand, R>(rt, alloc, opened, shown, &mut inbox, most);
+    let sent = sent(rt, alloc, inbox.letters());
+    (ended, inbox.turns(), transfers, sent)
 }
 
 fn try_row<R: RandomSource + Wait + Abort>(rt: &R, alloc: Global, row: &Row) {
@@ -433,14 +462,38 @@ fn the_longest_value(rt: HostRuntime) {
     check_value(&rt, rt.alloc(), 8_161, "TO_700 MATCHED ERROR", 0);
 }
 
+// How many transfers were left and carried out for an XFR, before its reply is sent or behind that.
+fn transfers_of<'r, J: Site, N: Naming, R: Wait + Abort>(
+    rt: &'r R,
+    alloc: Global,
+    hosts: (ReaderHost<'r, N, R>, ReaderHost<'r, N, R>),
+    call: &[u8],
+    is_sent: bool,
+) -> u64
+    requires first { hosts.0.reader.catalogue ≡ J.catalogue }
+    requires second { hosts.1.reader.catalogue ≡ J.catalogue }
+{
+    let (host, other) = hosts;
+    let mut buf = vec![in alloc; 0; DATAGRAM_MAX].expect(rt, "memory for a reply");
+    let made = DeferredQueue::<J, Knew<N>>::new(alloc, 1);
+    let (pending, mut pass) = made.expect(rt, "memory for a queue");
+    let part = pending.split_off(&mut pass);
+    let mut server = MailServer::new(alloc, host, &pending, part, rt);
+    hear(&mut server, call, &mut buf, is_sent);
+    let (host, part) = server.into_parts();
+    let others = carried(rt, alloc, &pending, pass, part, other);
+    host.transfers.saturating_add(others)
+}
+
 // Lets a server hear a call, and go on behind the reply where that is sent.
-fn hear<J: Site, R: Wait>(
-    server: &mut MailServer<'_, J, TestHost, R>,
+fn hear<'s, 'r: 's, J: Site, N: Naming, R: Wait>(
+    server: &mut MailServer<'s, J, ReaderHost<'r, N, R>, Knew<N>, R>,
     call: &[u8],
     buf: &mut [u8],
     is_sent: bool,
 )
     requires { DATAGRAM_MAX ≤ length buf.old }
+    ensures { server.new.holding.queue ≡ server.old.holding.queue }
 {
     let peer = Peer {
         addr: OWN_HOST,
@@ -453,28 +506,21 @@ fn hear<J: Site, R: Wait>(
     }
 }
 
-// How many transfers were left and carried out for an XFR, before its reply is sent or behind that.
-fn transfers_of<J: Site, R: Wait + Abort>(
+fn transfers_behind<N: Naming, R: RandomSource + Wait + Abort>(
     rt: &R,
     alloc: Global,
-    host: TestHost,
-    call: &[u8],
+    opened: Opened,
     is_sent: bool,
 ) -> u64
-    requires { host.board.catalogue ≡ J.catalogue }
+    requires { opened ≡ N.book }
 {
-    let mut buf = vec![in alloc; 0; DATAGRAM_MAX].expect(rt, "memory for a reply");
-    let (pending, pass) = PendingTransfers::<J>::new(alloc, 1).expect(rt, "memory for transfers");
-    let mut server = MailServer::new(host, &pending, pass, rt);
-    hear(&mut server, call, &mut buf, is_sent);
-    server.carry_rest();
-    let (host, _) = server.into_parts();
-    host.transfers()
+    let call = named(rt, alloc, NAMES, "XFR");
+    let hosts = two_hosts::<N, R>(rt, alloc, opened, &[]);
+    transfers_of::<Brand, N, R>(rt, alloc, hosts, &call, is_sent)
 }
 
 fn transfers<R: RandomSource + Wait + Abort>(rt: &R, alloc: Global, is_sent: bool) -> u64 {
-    let call = named(rt, alloc, NAMES, "XFR");
-    transfers_of::<Brand, R>(rt, alloc, host_of(rt, alloc, &[]), &call, is_sent)
+    transfers_behind::<Brand, R>(rt, alloc, Opened::new(), is_sent)
 }
 
 #[test]

@@ -186,13 +186,17 @@ fn callers_that_are_late(rt: HostRuntime) {
     try_rows(&rt, rt.alloc(), &LATE_ROWS);
 }
 
-// The turn of a caller is over behind sixteen steps, though he never waits, and he has more than the nine records that
+// The turn of a caller is over behind twenty steps, though he never waits, and he has more than the twelve records that
 // are answered.
 const MANY_RECORDS: Row<'static> = Row {
     name: "a caller of many records",
     visit: Visit {
         callers: &[
-            ("NULL NULL NULL NULL NULL NULL NULL NULL NULL NULL", 0, 0),
+            (
+                "NULL NULL NULL NULL NULL NULL NULL NULL NULL NULL NULL NULL NULL",
+                0,
+                0,
+            ),
             ("MATCH", 0, 0),
         ],
         script: FIRST_FIRST,
@@ -200,7 +204,7 @@ const MANY_RECORDS: Row<'static> = Row {
     },
     tally: Tally {
         connections: 2,
-        calls: 10,
+        calls: 13,
         listen_fault: false,
     },
     closed: &[
@@ -208,7 +212,7 @@ const MANY_RECORDS: Row<'static> = Row {
         (
             1,
             "NULL_REPLY NULL_REPLY NULL_REPLY NULL_REPLY NULL_REPLY NULL_REPLY NULL_REPLY \
-            NULL_REPLY NULL_REPLY",
+            NULL_REPLY NULL_REPLY NULL_REPLY NULL_REPLY NULL_REPLY",
         ),
     ],
     ..BOTH

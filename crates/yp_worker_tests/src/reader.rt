@@ -6,7 +6,7 @@ ghost use Rattle.yp_io.specs.Counts.{last_count};
 ghost use Rattle.yp_board.specs.Views.{Refreshes};
 
 use crate::given::assert_fits;
-use crate::host::{catalog, start};
+use crate::host::{catalog, start, version, waiting};
 use std::alloc::Global;
 use std::mem;
 use std::process::Abort;
@@ -19,7 +19,7 @@ use yp_board::{Catalog, Show, Tell, View};
 use yp_io::{NoMemory, Peer};
 use yp_messages::XfrStat;
 use yp_version::Version;
-use yp_worker::{CatchUp, HandsOver};
+use yp_worker::{CatchUp, HandsOver, Known};
 
 /// It makes no map: memory runs out. A transfer is counted. Where it has the writer of its board, others show a version
 /// of the first map each time that it catches up, the last of these. Where none is left, memory runs out.
@@ -100,6 +100,16 @@ pub struct Handed<N: Naming> {
     pub front: Front<N>,
 }
 
+/// What a reader knew at a moment.
+#[derive(Drop)]
+pub struct Knew<N: Naming> {
+    table: Table<N>,
+}
+
+impl<N: Naming> Known for Knew<N> {
+    ghost known = { λ knew. knew.table };
+}
+
 impl<'r, N: Naming, R: Wait> HandsOver for ReaderHost<'r, N, R> {
     type Sum = Handed<N>;
 
@@ -118,16 +128,16 @@ impl<'r, N: Naming, R: Wait> HandsOver for ReaderHost<'r, N, R> {
         sum.front = <Writer<N, &'r R> as Tell>::longer(before, known::<N, R>(&self.reader));
     }
 
-    type Front = Table<N>;
+    type Front = Knew<N>;
 
-    ghost kept = { λ table. table };
-
-    fn front(&self) -> Result<Table<N>, NoMemory> {
-        <Writer<N, &'r R> as Tell>::knowledge(&self.reader)
+    fn front(&self) -> Result<Knew<N>, NoMemory> {
+        let table = <Writer<N, &'r R> as Tell>::knowledge(&self.reader)?;
+        Ok(Knew { table })
     }
 
-    fn reach(&mut self, front: Table<N>) {
-        <Writer<N, &'r R> as Tell>::teach(&mut self.reader, front);
+    fn reach(&mut self, front: Knew<N>) {
+        let Knew { table } = front;
+        <Writer<N, &'r R> as Tell>::teach(&mut self.reader, table);
     }
 }
 
@@ -155,4 +165,39 @@ pub fn two_readers<'r, N: Naming, R: Wait + RandomSource + Abort>(
     let first = readers.pop().expect(rt, "a reader");
     let second = readers.pop().expect(rt, "a reader");
     (writer, first, second)
+}
+
+/// A host that reads a board, behind which others show nothing.
+pub fn host<'r, N: Naming, R: Wait>(alloc: Global, reader: Reader<N>) -> ReaderHost<'r, N, R>
+    ensures reader { result.reader ≡ reader }
+    ensures transfers { result.transfers ≡ 0 }
+{
+    ReaderHost {
+        reader,
+        writer: None,
+        waiting: Vec::new(alloc),
+        transfers: 0,
+    }
+}
+
+/// Two hosts of one board, whose first map has the value `alpha:1`. Each time that the first catches up, others show
+/// the next of these values.
+pub fn two_hosts<'r, N: Naming, R: Wait + RandomSource + Abort>(
+    rt: &'r R,
+    alloc: Global,
+    opened: Opened,
+    values: &[&[u8]],
+) -> (ReaderHost<'r, N, R>, ReaderHost<'r, N, R>)
+    requires { opened ≡ N.book }
+    ensures { result.1.reader.catalogue ≡ result.0.reader.catalogue }
+{
+    let first = version(rt, alloc, 7, b"alpha:1");
+    let (writer, reader, other) = two_readers(rt, alloc, opened, first);
+    let told = ReaderHost {
+        reader,
+        writer: Some(writer),
+        waiting: waiting(rt, alloc, values),
+        transfers: 0,
+    };
+    (told, host(alloc, other))
 }

@@ -9,7 +9,7 @@ ghost use Rattle.yp_worker.specs.Summing.{SumsUp, counting_of};
 
 use crate::given::{NEVER, assert_same, closed, hall, named, taken};
 use crate::host::{version, waiting};
-use crate::reader::{Handed, ReaderHost, known, two_readers};
+use crate::reader::{Handed, ReaderHost, host, known, two_readers};
 use std::alloc::Global;
 use std::marker::Brand;
 use std::process::Abort;
@@ -76,7 +76,7 @@ where
     requires catalogue { host.reader.catalogue ≡ J.catalogue }
     requires knows { IsFront J.starts host.reader.known }
     requires none { host.transfers ≡ 0 }
-    requires most { 9 ≡ J.most }
+    requires most { 12 ≡ J.most }
 {
     let (book, mut share) = out.open::<J>();
     let (ends, mine) = ended.open::<E>();
@@ -114,7 +114,7 @@ where
     requires second { hosts.1.reader.catalogue ≡ J.catalogue }
     requires none { (hosts.0.transfers ≡ 0) × (hosts.1.transfers ≡ 0) }
     requires starts { J.starts ≡ [] }
-    requires most { 9 ≡ J.most }
+    requires most { 12 ≡ J.most }
 {
     let (book, mut mine) = out.open::<J>();
     let (ends, mut my_ends) = ended.open::<E>();
@@ -176,12 +176,12 @@ fn none_of<N: Naming, R: Wait>(reader: &Reader<N>) -> Handed<N>
     }
 }
 
-// A worker with this host, which answers at most 9 records of a connection.
+// A worker with this host, which answers at most 12 records of a connection.
 fn worker<H, G>(rt: &impl Abort, alloc: Global, host: H, gate: G, carries: bool) -> Worker<H, G>
-    ensures { result ≡ record { host = host; most = 9; carries = carries } }
+    ensures { result ≡ record { host = host; most = 12; carries = carries } }
 {
     let buffers = Buffers::new(alloc).expect(rt, "buffers");
-    Worker::new(host, buffers, gate, 9, carries)
+    Worker::new(host, buffers, gate, 12, carries)
 }
 
 // Covers what each connection was answered on: it is a front of what is shown.
@@ -360,19 +360,6 @@ static ROWS: [Row<'static>; 4] = [
 fn all_connections_of_a_listener(rt: HostRuntime) {
     for row in &ROWS {
         try_row(&rt, rt.alloc(), row);
-    }
-}
-
-// A host that reads a board, on which others show nothing.
-fn host<'r, N: Naming, R: Wait>(alloc: Global, reader: Reader<N>) -> ReaderHost<'r, N, R>
-    ensures reader { result.reader ≡ reader }
-    ensures transfers { result.transfers ≡ 0 }
-{
-    ReaderHost {
-        reader,
-        writer: None,
-        waiting: Vec::new(alloc),
-        transfers: 0,
     }
 }
 

@@ -1,210 +1,115 @@
-//! A server of datagrams that answers while a carrier carries out its transfers.
+//! A server of datagrams that leaves what takes long for a carrier.
 
-ghost use Rattle.std.specs.Prelude.{◌≡◌, None};
-ghost use Rattle.std.proofs.Common.{ap};
-ghost use Rattle.yp_io.specs.Counts.{next_count};
+ghost use Rattle.std.specs.Prelude.{◌≡◌};
 
 use crate::given::{NEVER, assert_same, named};
-use crate::host::{TestHost, two_hosts};
 use crate::mail::{Mail, NAMES, OWN_HOST, mail_of, sent};
+use crate::reader::{Knew, ReaderHost, two_hosts};
 use std::alloc::Global;
-use std::marker::{Brand, Model};
+use std::marker::Brand;
 use std::process::Abort;
 use std::random::RandomSource;
-use std::sync::{Arc, Wait};
-use yp_answer::session::Host;
-use yp_answer::{MakeJob, TransferJob};
-use yp_board::{Catalog, View};
-use yp_io::{NoMemory, Peer};
+use std::sync::Wait;
+use yp_board::readers::{Naming, Opened};
 use yp_memory::MemInbox;
-use yp_messages::XfrStat;
 use yp_publisher::sharing::Site;
-use yp_rpc::Room;
-use yp_version::Version;
-use yp_worker::CatchUp;
-use yp_worker::datagrams::{
-    MailServer, PendingTransfers, TransferCarrier, TransferPass, serve_mail,
-};
+use yp_rpc::{DATAGRAM_MAX, Room};
+use yp_worker::datagrams::{Carrier, DeferredQueue, MailServer, serve_mail};
 
-// A server with its inbox, and the memory of a datagram and its reply.
-#[derive(Drop)]
-struct Served<'a, J: Site, H: CatchUp, R> {
-    server: MailServer<'a, J, H, R>,
-    inbox: MemInbox,
-    room: Room,
-}
+// How many transfers a carrier and a server carried out, and the inboxes of the server and of the carrier.
+type Came = (u64, u64, MemInbox, MemInbox);
 
-impl<'a, J: Site, H: CatchUp, R: Wait> Served<'a, J, H, R> {
-    fn take_turns(&mut self, turns: u64) {
-        let _ = serve_mail(&mut self.inbox, &mut self.server, &mut self.room, turns);
-    }
-}
-
-// A host that lets a server take turns, so many and then none, before it carries out a transfer. It is seen as the host
-// inside.
-#[derive(Drop)]
-struct BusyHost<'a, J: Site, R> {
-    host: TestHost,
-    beside: Served<'a, J, TestHost, R>,
-    turns: u64,
-}
-
-impl<'a, J: Site, R> Model for BusyHost<'a, J, R> {
-    ghost use Rattle.yp_worker_tests.specs.declared.host.TestHost.{TestHost};
-
-    ghost Value = { TestHost };
-
-    ghost view = { λ h. h.host };
-}
-
-impl<'a, J: Site, R: Wait> View for BusyHost<'a, J, R> {
-    ghost seen = { λ host. host.board };
-
-    ghost stepped = { λ old new. new ≡ record old { board = record old.board { asked = next_count old.board.asked } } };
-
-    fn catalog(&self) -> &Catalog {
-        self.host.catalog()
-    }
-
-    fn refresh(&mut self) {
-        self.host.refresh();
-    }
-
-    fn held(&self, map: u32) -> Option<&Version> {
-        self.host.held(map)
-    }
-
-    fn share(&self, map: u32) -> Result<Option<Arc<Version>>, NoMemory> {
-        self.host.share(map)
-    }
-}
-
-impl<'a, J: Site, R: Wait> Host for BusyHost<'a, J, R> {
-    ghost told = { λ host. record { text = λ file. None; moment = None } };
-
-    ghost counts = { λ host. record { files = 0; transfers = host.transfers } };
-
-    ghost made = { λ job stat old new. Unit {0} };
-
-    fn make(&mut self, job: MakeJob) -> XfrStat {
-        self.host.make(job)
-    }
-
-    ghost carried = { λ taken peer old new. Unit {0} };
-
-    fn transfer(&mut self, job: &TransferJob<'_>, peer: Peer) {
-        self.beside.take_turns(self.turns);
-        self.beside.server.end();
-        self.turns = 0;
-        self.host.transfer(job, peer);
-    }
-
-    ghost step_counts_nothing = { λ old new h. ap (λ host. record { files = 0; transfers = host.transfers }) h };
-}
-
-impl<'a, J: Site, R: Wait> CatchUp for BusyHost<'a, J, R> {
-    type Count = u64;
-
-    ghost counted = { λ host. host.transfers };
-
-    fn catch_up(&mut self) -> Result<(), NoMemory> {
-        self.host.catch_up()
-    }
-}
-
-// A server of this host, with these datagrams.
-fn server_of<'a, J: Site, H: CatchUp, R: Wait + Abort>(
-    rt: &'a R,
-    alloc: Global,
-    pending: &'a PendingTransfers<J>,
-    pass: TransferPass,
-    host: H,
-    mail: &[Mail],
-) -> Served<'a, J, H, R>
-    requires catalogue { (H.seen host).catalogue ≡ J.catalogue }
-    requires queue { pass.queue ≡ pending.now }
-{
+// An inbox with these datagrams, of which no call fails.
+fn inbox_of(rt: &impl Abort, alloc: Global, mail: &[Mail]) -> MemInbox {
     let failing = vec![in alloc; NEVER].expect(rt, "memory for a number");
-    Served {
-        inbox: MemInbox::new(alloc, mail_of(rt, alloc, mail), failing),
-        room: Room::new(alloc).expect(rt, "memory for turns"),
-        server: MailServer::new(host, pending, pass, rt),
-    }
+    MemInbox::new(alloc, mail_of(rt, alloc, mail), failing)
 }
 
-// How many transfers a carrier and a server carried out, and the inbox of the server.
-type Came = (u64, u64, MemInbox);
-
-fn came_of<'a, J: Site, R: Wait>(carrier: TransferCarrier<'a, J, BusyHost<'a, J, R>, R>) -> Came {
-    let (host, _) = carrier.into_parts();
-    let BusyHost {
-        host,
-        beside,
-        turns: _,
-    } = host;
-    let Served {
-        server,
-        inbox,
-        room: _,
-    } = beside;
-    let (other, _) = server.into_parts();
-    (host.transfers(), other.transfers(), inbox)
-}
-
+// A map that is to be made, a transfer, and a look-up behind them.
 static MAIL: [Mail; 3] = [
-    (OWN_HOST, 700, "XFR", 0),
+    (OWN_HOST, 700, "MAKE", 0),
     (OWN_HOST, 701, "XFR", 0),
-    (OWN_HOST, 700, "NULL", 0),
+    (OWN_HOST, 701, "NULL", 0),
 ];
 
-// Runs a server for a turn, and for two more while a carrier carries out what is there.
-fn run_busy<'a, J: Site, R: Wait + Abort>(
-    rt: &'a R,
+// Runs a server for all of these turns, and then a carrier, which attends already where that is said.
+fn run_both<'r, J: Site, N: Naming, R: Wait + Abort>(
+    rt: &'r R,
     alloc: Global,
-    pending: &'a PendingTransfers<J>,
-    passes: (TransferPass, TransferPass),
-    hosts: (TestHost, TestHost),
+    hosts: (ReaderHost<'r, N, R>, ReaderHost<'r, N, R>),
+    attends: bool,
 ) -> Came
-    requires passes { (passes.0.queue ≡ pending.now) × (passes.1.queue ≡ pending.now) }
-    requires first { hosts.0.board.catalogue ≡ J.catalogue }
-    requires second { hosts.1.board.catalogue ≡ J.catalogue }
+    requires first { hosts.0.reader.catalogue ≡ J.catalogue }
+    requires second { hosts.1.reader.catalogue ≡ J.catalogue }
 {
-    let (pass, part) = passes;
     let (host, other) = hosts;
-    let mut beside = server_of(rt, alloc, pending, part, other, &MAIL);
-    beside.take_turns(1);
-    let busy = BusyHost {
-        host,
-        beside,
-        turns: 2,
-    };
-    let mut carrier = TransferCarrier::new(busy, pending, pass, rt);
-    carrier.carry_all_that_come();
-    came_of(carrier)
-}
-
-// The same over a queue of their own.
-fn run_both<J: Site, R: Wait + Abort>(rt: &R, alloc: Global, hosts: (TestHost, TestHost)) -> Came
-    requires first { hosts.0.board.catalogue ≡ J.catalogue }
-    requires second { hosts.1.board.catalogue ≡ J.catalogue }
-{
-    let made = PendingTransfers::<J>::new(alloc, 1);
-    let (pending, mut pass) = made.expect(rt, "memory for transfers");
+    let made = DeferredQueue::<J, Knew<N>>::new(alloc, 0);
+    let (pending, mut pass) = made.expect(rt, "memory for a queue");
     let part = pending.split_off(&mut pass);
-    run_busy(rt, alloc, &pending, (pass, part), hosts)
+    let outbox = inbox_of(rt, alloc, &[]);
+    let letter = vec![in alloc; 0; DATAGRAM_MAX].expect(rt, "memory for a reply");
+    let mut carrier = Carrier::new(other, &pending, pass, outbox, letter, rt);
+    if attends {
+        // no server is to come, so it ends at once
+        carrier.carry_all_that_come();
+    }
+    let mut server = MailServer::new(alloc, host, &pending, part, rt);
+    let mut inbox = inbox_of(rt, alloc, &MAIL);
+    let mut room = Room::new(alloc).expect(rt, "memory for turns");
+    let _ = serve_mail(&mut inbox, &mut server, &mut room, 3);
+    let (host, part) = server.into_parts();
+    carrier.merge(part);
+    carrier.carry_rest();
+    let (other, _, outbox, _) = carrier.into_parts();
+    (other.transfers, host.transfers, inbox, outbox)
 }
 
-fn both<R: RandomSource + Wait + Abort>(rt: &R, alloc: Global) -> Came {
-    run_both::<Brand, R>(rt, alloc, two_hosts(rt, alloc))
+fn both<N: Naming, R: RandomSource + Wait + Abort>(
+    rt: &R,
+    alloc: Global,
+    opened: Opened,
+    attends: bool,
+) -> Came
+    requires { opened ≡ N.book }
+{
+    let hosts = two_hosts::<N, R>(rt, alloc, opened, &[]);
+    run_both::<Brand, N, R>(rt, alloc, hosts, attends)
+}
+
+// What is answered in the turns, and what the carrier answers behind them.
+fn check<R: RandomSource + Wait + Abort>(
+    rt: &R,
+    alloc: Global,
+    attends: bool,
+    turns: &str,
+    behind: &str,
+) {
+    let (carried, own, inbox, outbox) = both::<Brand, R>(rt, alloc, Opened::new(), attends);
+    assert_same(rt, &(carried, own), &(1, 0), "who carries out");
+    let wanted = named(rt, alloc, NAMES, turns);
+    assert_same(
+        rt,
+        &sent(rt, alloc, inbox.letters()),
+        &wanted,
+        "in the turns",
+    );
+    let wanted = named(rt, alloc, NAMES, behind);
+    assert_same(
+        rt,
+        &sent(rt, alloc, outbox.letters()),
+        &wanted,
+        "behind them",
+    );
 }
 
 #[test]
-fn a_look_up_while_transfers_are_carried_out(rt: HostRuntime) {
-    let alloc = rt.alloc();
-    let (carried, own, inbox) = both(&rt, alloc);
-    assert_same(&rt, &(carried, own), &(2, 0), "who carries out");
-    let replies = sent(&rt, alloc, inbox.letters());
-    let wanted = "TO_700 TAKEN TO_701 TAKEN TO_700 NULL_REPLY";
-    let wanted = named(&rt, alloc, NAMES, wanted);
-    assert_same(&rt, &replies, &wanted, "what is answered meanwhile");
+fn a_make_holds_up_no_look_up(rt: HostRuntime) {
+    let turns = "TO_701 TAKEN TO_701 NULL_REPLY";
+    check(&rt, rt.alloc(), true, turns, "TO_700 NOT_MADE");
+}
+
+#[test]
+fn a_make_where_no_carrier_attends(rt: HostRuntime) {
+    let turns = "TO_700 NOT_MADE TO_701 TAKEN TO_701 NULL_REPLY";
+    check(&rt, rt.alloc(), false, turns, "");
 }

@@ -38,6 +38,7 @@ impl<'a> Cursor<'a> {
 
     /// Reads an unsigned integer (RFC 4506 section 4.2).
     #[tactic(auto, unfolding(crate::specs::Reading::word_at))]
+    #[inline(always)]
     pub fn u32(&mut self) -> Result<u32, XdrFault>
         ensures read { Reads U32 (λ n. n) result (unread self.old) (unread self.new) }
         ensures spelled { IfOk result (λ n. BeginsWith U32 n (unread self.old) (unread self.new)) }
@@ -104,6 +105,7 @@ impl<'a> Cursor<'a> {
     }
 
     /// Reads opaque bytes, `n` of them and their padding (RFC 4506 section 4.9).
+    #[inline(always)]
     pub fn fixed(&mut self, n: usize) -> Result<&'a [u8], XdrFault>
         requires { n ≤ 1024 }
         ensures read { Reads (Fixed n) (λ s. s.now) result (unread self.old) (unread self.new) }
@@ -111,28 +113,31 @@ impl<'a> Cursor<'a> {
         ensures refused { OnErr result (BeginsWithNone (Fixed n) (unread self.old).bytes) }
         ensures end { end_of (unread self.new) ≡ end_of (unread self.old) }
     {
-        let mut ahead = *self;
-        let bytes = ahead.content(self.at, n)?;
-        *self = ahead;
-        Ok(bytes)
+        self.content(self.at, n)
     }
 
     /// Reads opaque bytes, at most `max` of them (RFC 4506 section 4.10).
     #[tactic(auto, unfolding(crate::specs::Reading::opaque_at))]
+    #[inline(always)]
     pub fn opaque(&mut self, max: u32) -> Result<&'a [u8], XdrFault>
         ensures read { Reads (Opaque max) (λ s. s.now) result (unread self.old) (unread self.new) }
         ensures spelled { IfOk result (λ s. BeginsWith (Opaque max) s.now (unread self.old) (unread self.new)) }
         ensures refused { OnErr result (BeginsWithNone (Opaque max) (unread self.old).bytes) }
         ensures end { end_of (unread self.new) ≡ end_of (unread self.old) }
     {
-        let mut ahead = *self;
-        let len = ahead.u32()?;
+        let before = *self;
+        let len = self.u32()?;
         if len > max {
+            *self = before;
             return Err(XdrFault::TooLong { at: self.at, len });
         }
-        let bytes = ahead.content(self.at, len as usize)?;
-        *self = ahead;
-        Ok(bytes)
+        match self.content(before.at, len as usize) {
+            Ok(bytes) => Ok(bytes),
+            Err(fault) => {
+                *self = before;
+                Err(fault)
+            }
+        }
     }
 
     /// Reads a string of any bytes, at most `max` of them (RFC 4506 section 4.11).
@@ -147,6 +152,7 @@ impl<'a> Cursor<'a> {
 
     /// Reads `len` bytes and their padding, of an item that began at `start`.
     #[tactic(auto, unfolding(crate::specs::Reading::content_at))]
+    #[inline(always)]
     fn content(&mut self, start: usize, len: usize) -> Result<&'a [u8], XdrFault>
         requires { len < 2 ^ 32 }
         ensures read { ReadsAs (content_at start len (unread self.old)) (λ s. s.now) result (unread self.old)

@@ -129,6 +129,7 @@ pub fn fixed_len(bytes: &[u8]) -> usize
 }
 
 /// Writes bytes as they are at `at`, and answers the place after them.
+#[inline(always)]
 pub fn set_bytes(buf: &mut [u8], at: usize, bytes: &[u8]) -> usize
     requires { at + length bytes.now ≤ length buf.old }
     ensures { Sets bytes.now at result buf.old buf.new }
@@ -140,6 +141,7 @@ pub fn set_bytes(buf: &mut [u8], at: usize, bytes: &[u8]) -> usize
 
 // Copies bytes. Few of them are copied as two parts of a fixed length, which may overlap: most values of messages are
 // so short that a copy of a length that is known only then would cost more.
+#[inline(always)]
 fn copy(to: &mut [u8], bytes: &[u8])
     requires { length to.old ≡ length bytes.now }
     ensures { to.new ≡ bytes.now }
@@ -153,6 +155,7 @@ fn copy(to: &mut [u8], bytes: &[u8])
 }
 
 // Copies the first `N` bytes and the last ones, which together are all.
+#[inline(always)]
 fn copy_ends<const N: usize>(to: &mut [u8], bytes: &[u8])
     requires room { length to.old ≡ length bytes.now }
     requires first { N ≤ length bytes.now }

@@ -18,7 +18,7 @@ use Rattle.yp_answer.specs.session.Wires.{SourceTells, Wire}
 use Rattle.yp_answer.specs.session.Hosts.{Conduct, Turn, Link, CarriesOut}
 use Rattle.yp_answer.specs.session.Runs.{sent_reply}
 use Rattle.yp_answer.specs.session.Cuts.{Deed, Answered, Carried, Read, turns_of, waiting_behind, sent_over, IsPaidUp, AreInOrder, Cut, AreFramed, messages_of, written, IsCut}
-use Rattle.yp_answer.specs.inside.session.Makes.{may_make}
+use Rattle.yp_answer.specs.session.Makes.{may_make}
 use Rattle.yp_answer.proofs.session.Making.{unmade}
 use Rattle.yp_answer.specs.inside.session.Cuts.{DoesDeeds, SeesOn, IsBrief, Follows, FollowsRead, GoesOn}
 
@@ -300,7 +300,7 @@ answers_follow turn old new sound free waiting answers start before is =
     }
 
 pub goes_answered : {H : Type 0} (conduct : Conduct H) (peer : Peer) (carries : Bool) (turn : Turn) (old new : H) (a b : Cut) → a.broken ≡ false → a.rest ≡ []
-    → a.waiting ≡ None → turn.flushed ≡ false → Link conduct Stream peer turn old new → (carries ≡ false → may_make peer turn.message ≡ false)
+    → a.waiting ≡ None → turn.flushed ≡ false → Link conduct Stream peer turn old new → (carries ≡ false → may_make Stream peer turn.message ≡ false)
     → SeesOn (conduct.seen old) (conduct.seen new) → Answers turn a b → GoesOn conduct peer carries old new a b
 goes_answered conduct peer carries turn old new a b sound free waiting unsent link short sees answers = record {
   deeds = Answered turn ∷ [];

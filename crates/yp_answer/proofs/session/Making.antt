@@ -21,7 +21,8 @@ use Rattle.yp_answer.specs.Procedures.{programs_on}
 use Rattle.yp_answer.specs.Transfer.{XfrRequest, xfr_check}
 use Rattle.yp_answer.specs.Reply.{Response, Silence, Bytes, Takes, Open, arguments_of, xfr_response, procedure_reply, judged_reply, reply}
 use Rattle.yp_answer.specs.session.Hosts.{Conduct, Turn, Link, Carries}
-use Rattle.yp_answer.specs.inside.session.Makes.{is_make, is_let_to_make, may_make, BeginsWithMake}
+use Rattle.yp_answer.specs.session.Makes.{is_make, is_let_to_make, may_make}
+use Rattle.yp_answer.specs.inside.session.Makes.{BeginsWithMake}
 use Rattle.yp_answer.specs.Numbers.{record_max}
 use Rattle.yp_rpc.specs.inside.Incoming.{IsRecord}
 use Rattle.yp_answer.proofs.Targets.{not_of_bytes, of_arguments, not_of_either}
@@ -70,7 +71,7 @@ both false b h k = h
 
 -- what leaves a MAKE open may have a map made for it
 open_may_make : (maps : Maps) (peer : Peer) (message : List ℕ) (xid : ℕ) (job : MakeJob) → reply Stream maps peer message ≡ Open xid job
-    → may_make peer message ≡ true
+    → may_make Stream peer message ≡ true
 open_may_make maps peer message xid job e =
     both (bytes_eq peer.addr own_host) (is_let_to_make (judged (programs_on Stream) message))
     ((bytes_eq-Decides peer.addr own_host).1 (asked_is_local maps peer xid job (open_is_asked Stream maps peer message (judged (programs_on Stream) message) xid job e)))
@@ -86,7 +87,7 @@ take_front n xs ys is = ap (λ (m : ℕ). take m (xs ++ ys)) is ∙ all xs
 
 -- a record for which a map may be made came first
 pub make_came : (limit len spelled : ℕ) (peer : Peer) (came buf : List ℕ) → limit ≡ record_max → IsRecord limit len spelled came buf
-    → may_make peer (take len buf) ≡ true → BeginsWithMake peer came
+    → may_make Stream peer (take len buf) ≡ true → BeginsWithMake peer came
 make_came limit len spelled peer came buf is whole makes = record {
   message = take len buf;
   first = whole.bytes;
@@ -105,7 +106,7 @@ module _ {H : Type 0} (conduct : Conduct H) (peer : Peer) (turn : Turn) where
   none_made (Takes bytes taken) old new never carried = carried.1
   none_made (Open xid job) old new never carried = absurd (never xid job refl)
 
-  pub unmade : (old new : H) → Link conduct Stream peer turn old new → may_make peer turn.message ≡ false → turn.made ≡ None
+  pub unmade : (old new : H) → Link conduct Stream peer turn old new → may_make Stream peer turn.message ≡ false → turn.made ≡ None
   unmade old new link short =
       let maps = maps_of (conduct.seen link.mid) in
       none_made (reply Stream maps peer turn.message) link.mid new

@@ -1,5 +1,5 @@
 -- The reply of ALL in parts, which are given one after the other.
-use Rattle.std.specs.Prelude.{◌≡◌, ℕ, ◌-◌, List, [], ◌∷◌, ◌++◌, take, drop, map, Some, None, Result}
+use Rattle.std.specs.Prelude.{◌≡◌, ℕ, ◌-◌, ◌<◌, ◌≤◌, List, [], ◌∷◌, ◌++◌, length, take, drop, map, Some, None, Result}
 use Rattle.std.specs.Prelude.{Ok, Err}
 use Rattle.std.specs.Option.{ok_or}
 use Rattle.yp_xdr.specs.Kind.{Value}
@@ -10,9 +10,10 @@ use Rattle.yp_rpc.specs.declared.reply.ReplyHead.TheVariants.{Success}
 use Rattle.yp_messages.specs.declared.stat.YpStat.{YpStat}
 use Rattle.yp_messages.specs.declared.stat.YpStat.TheVariants.{Nomap}
 use Rattle.yp_messages.specs.inside.Messages.{all_item}
+use Rattle.yp_version.specs.Rows.{Row}
 use Rattle.yp_version.specs.Versions.{MapVersion}
 use Rattle.yp_board.specs.Logs.{Log, shown}
-use Rattle.yp_answer.specs.Results.{all_items}
+use Rattle.yp_answer.specs.Results.{all_items, row_item}
 
 -- a reply of ALL that is given in parts: for which call, of which map or with which status, and how many parts were
 -- given
@@ -33,6 +34,15 @@ items_and_end source = map (λ item. Some item) (all_items source) ++ None ∷ [
 -- their bytes, each for itself
 abbrev pub item_parts : Result MapVersion YpStat → List (List ℕ)
 item_parts source = map (spelling all_item) (items_and_end source)
+
+-- those of rows
+abbrev pub row_parts : List Row → List (List ℕ)
+row_parts rows = map (spelling all_item) (map (λ item. Some item) (map row_item rows) ++ None ∷ [])
+
+-- how many rows are listed
+abbrev pub rows_in : Result MapVersion YpStat → ℕ
+rows_in (Ok version) = length version.rows
+rows_in (Err stat) = 0
 
 -- the head, each item, and the end
 abbrev pub parts : ℕ → Result MapVersion YpStat → List (List ℕ)
@@ -68,6 +78,16 @@ piece_max = 135168
 -- the parts from one place up to another
 abbrev pub between : ℕ → ℕ → List (List ℕ) → List (List ℕ)
 between start end parts = take (end - start) (drop start parts)
+
+-- The parts from one number up to another were put behind a place, and end at another place.
+pub record PutsParts (parts : List (List ℕ)) (first next at end : ℕ) (old new : List ℕ) : Type 0 where
+  pub put : take end new ≡ take at old ++ joined (between first next parts)
+  pub within : end ≤ length new
+  pub forward : first ≤ next
+  pub later : at ≤ end
+  pub starts : next ≡ first → end ≡ at
+  pub moved : first < next → at < end
+  pub inside : first < next → next ≤ length parts
 
 -- Some parts, each of them whole, were given: these bytes are the bytes of those parts, and the other parts are left.
 pub record GivesParts (bytes : List ℕ) (old new : List (List ℕ)) : Type 0 where

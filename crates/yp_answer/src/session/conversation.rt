@@ -14,11 +14,11 @@ ghost use Rattle.yp_answer.specs.Numbers.{record_max};
 ghost use Rattle.yp_answer.specs.session.Progress.{begun};
 ghost use Rattle.yp_answer.specs.inside.session.Hosts.{conduct_by};
 ghost use Rattle.yp_answer.specs.inside.session.Errands.{IsDue};
-ghost use Rattle.yp_answer.specs.inside.session.Makes.{may_make};
+ghost use Rattle.yp_answer.specs.declared.procedure.Path.TheVariants.{Stream};
+ghost use Rattle.yp_answer.specs.session.Makes.{may_make};
 ghost use Rattle.yp_answer.specs.session.Cuts.{IsAtRest};
 ghost use Rattle.yp_answer.specs.inside.session.Cuts.{ComesTo, Follows, FollowsRead, GoesOn, awaited_in, cut_of};
 
-use crate::RECORD_MAX;
 use crate::session::buffers::Buffers;
 use crate::session::errand::Errand;
 use crate::session::host::Host;
@@ -26,6 +26,7 @@ use crate::session::makes::may_make;
 use crate::session::open::{OpenReply, put_piece};
 use crate::session::put::put_reply;
 use crate::session::session::{CALLS_MAX, End};
+use crate::{Path, RECORD_MAX};
 use std::alloc::Global;
 use std::marker::Model;
 use std::mem;
@@ -315,7 +316,7 @@ impl<S: TrySource, K: TrySink> Conversation<S, K> {
         }
         match self.incoming.first(&mut buffers.call) {
             First::Whole { len, spelled } => {
-                if !terms.carries && may_make(&buffers.call[..len], terms.peer) {
+                if !terms.carries && may_make(&Path::Stream, terms.peer, &buffers.call[..len]) {
                     return self.rest(Advance::TakesLong);
                 }
                 self.answer(host, buffers, terms, len, spelled);
@@ -342,7 +343,7 @@ impl<S: TrySource, K: TrySink> Conversation<S, K> {
         requires whole { self.old.stream ≡ None }
         requires free { self.old.waiting ≡ None }
         requires record { BeginsWith record_max (Whole len spelled) self.old.incoming buffers.old }
-        requires brief { terms.now.carries ≡ false → may_make terms.now.peer (take len buffers.old) ≡ false }
+        requires brief { terms.now.carries ≡ false → may_make Stream terms.now.peer (take len buffers.old) ≡ false }
         ensures goes { GoesOn (conduct_by H.Host) terms.now.peer terms.now.carries host.old host.new
             (cut_of S.TrySource K.TrySink self.old) (cut_of S.TrySource K.TrySink self.new) }
         ensures due { IfSome self.new.waiting (IsDue (length (H.seen host.new).catalogue.maps)) }

@@ -8,7 +8,7 @@ use Rattle.yp_rpc.specs.inside.Turns.{box_by}
 use Rattle.yp_board.specs.Catalogues.{Catalogue}
 use Rattle.yp_board.specs.Logs.{Log}
 use Rattle.yp_answer.specs.session.Hosts.{Conduct}
-use Rattle.yp_worker.specs.datagrams.Mailing.{Awaited}
+use Rattle.yp_worker.specs.datagrams.Mailing.{Deferred}
 use Rattle.yp_server.specs.Serving.{EachServes, ServesInboxes, SomeHasRisen}
 use Rattle.yp_command_serve.specs.serve.Hosting.{EndTells, end_by}
 
@@ -36,21 +36,21 @@ module _ {I : Type 0} (seen : inbox.Ghosts I) where
 
 -- as many inboxes come back as were served
 each_long : {H T : Type 0} (conduct : Conduct H) (counted : H → T) (catalogue : Catalogue) (starts log : Log) (turns : ℕ)
-    (fault : Bool) (before after : List InboxTells) (left carried : List Awaited)
-    → EachServes conduct counted catalogue starts log turns fault before after left carried → length after ≡ length before
-each_long conduct counted catalogue starts log turns fault [] [] left carried serves = refl
-each_long conduct counted catalogue starts log turns fault [] (new ∷ after) left carried serves = absurd serves
-each_long conduct counted catalogue starts log turns fault (old ∷ before) [] left carried serves = absurd serves
-each_long conduct counted catalogue starts log turns fault (old ∷ before) (new ∷ after) left carried
-    (failed, others, is, left_here, left_there, left_is, carried_here, carried_there, carried_is, one, rest) =
-    let long = each_long conduct counted catalogue starts log turns others before after left_there carried_there rest in
+    (fault : Bool) (before after : List InboxTells) (left : List Deferred)
+    → EachServes conduct counted catalogue starts log turns fault before after left → length after ≡ length before
+each_long conduct counted catalogue starts log turns fault [] [] left serves = refl
+each_long conduct counted catalogue starts log turns fault [] (new ∷ after) left serves = absurd serves
+each_long conduct counted catalogue starts log turns fault (old ∷ before) [] left serves = absurd serves
+each_long conduct counted catalogue starts log turns fault (old ∷ before) (new ∷ after) left
+    (failed, others, is, left_here, left_there, left_is, one, rest) =
+    let long = each_long conduct counted catalogue starts log turns others before after left_there rest in
     omega (arith, long)
 
 pub served_long : {H T : Type 0} (conduct : Conduct H) (counted : H → T) (catalogue : Catalogue) (starts log : Log) (turns : ℕ)
-    (fault : Bool) (before after : List InboxTells)
-    → ServesInboxes conduct counted catalogue starts log turns fault before after → length after ≡ length before
-served_long conduct counted catalogue starts log turns fault before after serves =
-    each_long conduct counted catalogue starts log turns fault before after serves.left serves.carried serves.each
+    (fault : Bool) (before after : List InboxTells) (out out' : InboxTells)
+    → ServesInboxes conduct counted catalogue starts log turns fault before after out out' → length after ≡ length before
+served_long conduct counted catalogue starts log turns fault before after out out' serves =
+    each_long conduct counted catalogue starts log turns serves.failed before after serves.left serves.each
 
 -- where one of all counts rose, the last did, or one before it
 pub last_or_before : (olds news : List ℕ) (old new : ℕ) → length news ≡ length olds

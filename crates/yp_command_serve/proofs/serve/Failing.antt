@@ -1,4 +1,4 @@
--- Where an inbox of several has failed, that of the office has, or a further one.
+-- Where an inbox of several has failed, that of the office has, or one at the doors.
 use Rattle.std.proofs.Common.{◌≡◌, inl, inr, true, List, [], ◌∷◌, ◌++◌, length, map, Result, Ok, Err, ap, sym, ◌∙◌, subst, arith}
 use Rattle.std.specs.Prelude.{IfOk}
 use Rattle.std.proofs.lemmas.List.{length-map, length_push}
@@ -13,10 +13,13 @@ use Rattle.yp_command_serve.specs.serve.Serve.{SomeInboxFails}
 use Rattle.yp_command_serve.proofs.serve.Boxes.{faults_are, last_or_before}
 
 module _ {S K D C A I T : Type 0} (seen : Seeing S K D C A I T) (old new : Office S K D C A I T) (door door' : DoorTells) where
-  failing : (all all' more more' : List I) → all ≡ more ++ old.inbox ∷ [] → all' ≡ more' ++ new.inbox ∷ [] → length all' ≡ length all
+  failing : (all all' more more' : List I) (out out' : I) → all ≡ more ++ old.inbox ∷ [] → all' ≡ more' ++ new.inbox ∷ [] → length all' ≡ length all
       → door.more ≡ map (end_by seen.inbox) more → door'.more ≡ map (end_by seen.inbox) more'
-      → SomeHasRisen (map seen.inbox.faults all) (map seen.inbox.faults all') → SomeInboxFails seen old new door door'
-  failing all all' more more' is is' long tells tells' some =
+      → door.out ≡ end_by seen.inbox out → door'.out ≡ end_by seen.inbox out'
+      → SomeHasRisen (map seen.inbox.faults (out ∷ all)) (map seen.inbox.faults (out' ∷ all')) → SomeInboxFails seen old new door door'
+  failing all all' more more' out out' is is' long tells tells' of of' (inl rose) =
+      inr (inl (rw (of, of') rose))
+  failing all all' more more' out out' is is' long tells tells' of of' (inr some) =
       let olds = map (λ (end : EndTells). end.faults) (map (end_by seen.inbox) more) in
       let news = map (λ (end : EndTells). end.faults) (map (end_by seen.inbox) more') in
       let apart = subst (λ l. SomeHasRisen l (news ++ seen.inbox.faults new.inbox ∷ [])) (faults_are seen.inbox all more old.inbox is)
@@ -30,14 +33,15 @@ module _ {S K D C A I T : Type 0} (seen : Seeing S K D C A I T) (old new : Offic
       let same : length news ≡ length olds = omega (arith, a, b, c, d, e, f, long) in
       elim (last_or_before olds news (seen.inbox.faults old.inbox) (seen.inbox.faults new.inbox) same apart) [
         | inl rose ↦ inl rose
-        | inr others ↦ inr (subst (λ (l : List EndTells). SomeHasRisen (map (λ (end : EndTells). end.faults) door.more) (map (λ (end : EndTells). end.faults) l)) (sym tells')
-            (subst (λ (l : List EndTells). SomeHasRisen (map (λ (end : EndTells). end.faults) l) news) (sym tells) others))
+        | inr others ↦ inr (inr (subst (λ (l : List EndTells). SomeHasRisen (map (λ (end : EndTells). end.faults) door.more) (map (λ (end : EndTells). end.faults) l)) (sym tells')
+            (subst (λ (l : List EndTells). SomeHasRisen (map (λ (end : EndTells). end.faults) l) news) (sym tells) others)))
       ]
 
-  pub some_fails : (hosted : Result Hosted NotHosted) (all all' more more' : List I) → all ≡ more ++ old.inbox ∷ [] → all' ≡ more' ++ new.inbox ∷ []
+  pub some_fails : (hosted : Result Hosted NotHosted) (all all' more more' : List I) (out out' : I) → all ≡ more ++ old.inbox ∷ [] → all' ≡ more' ++ new.inbox ∷ []
       → length all' ≡ length all → door.more ≡ map (end_by seen.inbox) more → door'.more ≡ map (end_by seen.inbox) more'
-      → IfOk hosted (λ h. h.inbox_fault ≡ true → SomeHasRisen (map seen.inbox.faults all) (map seen.inbox.faults all'))
+      → door.out ≡ end_by seen.inbox out → door'.out ≡ end_by seen.inbox out'
+      → IfOk hosted (λ h. h.inbox_fault ≡ true → SomeHasRisen (map seen.inbox.faults (out ∷ all)) (map seen.inbox.faults (out' ∷ all')))
       → IfOk hosted (λ h. h.inbox_fault ≡ true → SomeInboxFails seen old new door door')
-  some_fails (Ok h) all all' more more' is is' long tells tells' some = λ fault.
-      failing all all' more more' is is' long tells tells' (some fault)
-  some_fails (Err why) all all' more more' is is' long tells tells' some = tt
+  some_fails (Ok h) all all' more more' out out' is is' long tells tells' of of' some = λ fault.
+      failing all all' more more' out out' is is' long tells tells' of of' (some fault)
+  some_fails (Err why) all all' more more' out out' is is' long tells tells' of of' some = tt

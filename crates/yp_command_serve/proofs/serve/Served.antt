@@ -25,7 +25,7 @@ module _ {D : Type 0} (history : D → Option History) (faults : D → ℕ) (map
   Given c t h f m o n =
       IsFront f.log log
       × IsListenerState o.listen n.listen hosted.tally.connections hosted.tally.listen_fault 0 1
-      × ServesInboxes (conduct_at (λ (reader : Seen). reader) Refreshes t h) counted_of c f.log log turns hosted.inbox_fault o.boxes n.boxes
+      × ServesInboxes (conduct_at (λ (reader : Seen). reader) Refreshes t h) counted_of c f.log log turns hosted.inbox_fault o.boxes n.boxes o.out n.out
       × DisksStand history c log disks
       × IsAccounted history faults (setup_of c t h turns) f maps m hosted o n log disks
 

@@ -285,12 +285,12 @@ number_within history faults (Err (unhosted.Unloaded number why)) old new count 
 -- where nobody was served, an office is as it was but for its disks, and its doors tell the same
 pub shut_of : {S K D C A I T L : Type 0} (job : Job) (old new : Office S K D C A I T)
     (resources back : HostResources D A T C L I) (inbox : I) (more : List I) (door door' : DoorTells)
-    (tells : L → List I → DoorTells) (logged : List ℕ) (hosted : Result Hosted NotHosted)
+    (tells : L → List I → I → DoorTells) (logged : List ℕ) (hosted : Result Hosted NotHosted)
     → IsLog job.log job.stores (totals_told hosted) logged
     → resources.desk.dial ≡ old.dial → resources.desk.texts ≡ old.texts → resources.desk.clock ≡ old.clock
     → resources.inboxes.items ≡ more ++ old.inbox ∷ []
     → (rest : List I) → back.inboxes.items ≡ rest ++ inbox ∷ []
-    → door ≡ tells resources.listen more → door' ≡ tells back.listen rest
+    → door ≡ tells resources.listen more resources.outbox → door' ≡ tells back.listen rest back.outbox
     → new ≡ record {
       wire = record old.wire { sink = new.wire.sink };
       disks = new.disks;
@@ -317,8 +317,8 @@ shut_of {S} {K} {D} {C} {A} {I} {T} {L} job old new resources back inbox more do
             texts = s.desk.texts;
           }) same
           ∙ rw (a, b, c, parts.1, sink) refl;
-      door_stays = g ∙ ap (λ (s : HostResources D A T C L I). tells s.listen rest) same
-          ∙ ap (λ (l : List I). tells resources.listen l) parts.0 ∙ sym f;
+      door_stays = g ∙ ap (λ (s : HostResources D A T C L I). tells s.listen rest s.outbox) same
+          ∙ ap (λ (l : List I). tells resources.listen l resources.outbox) parts.0 ∙ sym f;
       log = log;
     }
 

@@ -47,32 +47,39 @@ pub record Supply : Type 0 where
 abbrev pub supply_of : ℕ → DialTells → Supply
 supply_of texts dial = record { texts = texts; dial = dial }
 
--- what is told at a moment by the listener and by the inboxes, and by the texts and the dial
+-- what is told at a moment by the listener and by the inboxes, by the one from which what they left is replied to, and
+-- by the texts and the dial
 pub record ServerTells : Type 0 where
   pub listen : ListenTells
   pub boxes : List InboxTells
+  pub out : InboxTells
   pub supply : Supply
 
-abbrev pub server_tells : ListenTells → List InboxTells → Supply → ServerTells
-server_tells listen boxes supply = record { listen = listen; boxes = boxes; supply = supply }
+abbrev pub server_tells : ListenTells → List InboxTells → InboxTells → Supply → ServerTells
+server_tells listen boxes out supply = record { listen = listen; boxes = boxes; out = out; supply = supply }
 
 -- what an inbox tells that is one of several of a port: of its turns, and how often it has failed
 pub record EndTells : Type 0 where
   pub box : InboxTells
   pub faults : ℕ
 
--- what is told at a moment by a listener, and by further inboxes beside that of an office
+-- what is told at a moment by a listener, by further inboxes beside that of an office, and by one more, from which is
+-- replied to what those leave
 pub record DoorTells : Type 0 where
   pub listen : ListenTells
   pub more : List EndTells
+  pub out : EndTells
 
 abbrev pub end_by : {I : Type 0} → inbox.Ghosts I → I → EndTells
 end_by ghosts inbox =
     record { box = inbox_tells ghosts.past ghosts.turns ghosts.quiets inbox; faults = ghosts.faults inbox }
 
 abbrev pub doors_by : {L X Y Z W V I : Type 0} → hall.Ghosts L X Y Z W V → inbox.Ghosts I → Doors L I → DoorTells
-doors_by halls inboxes doors =
-    record { listen = opening_by halls doors.listen; more = map (end_by inboxes) doors.more.items }
+doors_by halls inboxes doors = record {
+  listen = opening_by halls doors.listen;
+  more = map (end_by inboxes) doors.more.items;
+  out = end_by inboxes doors.outbox;
+}
 
 -- what its workers do, each with a reader of the one board
 abbrev pub conduct : ServeSetup → Conduct (WorkerState Seen)
@@ -99,8 +106,8 @@ pub record IsAccounted {D : Type 0} (history : D → Option History) (faults : D
     (maps : List (StoredMap D)) (most : ℕ) (hosted : Hosted) (old new : ServerTells) (log : Log)
     (disks : List D) : Type 0 where
   pub counted : CountsAndTells (conduct setup) (terms_of setup.catalogue first.log most)
-      old.listen new.listen hosted.tally.calls log setup.turns hosted.inbox_fault old.boxes new.boxes hosted.totals
-      setup.hosts old.supply.dial new.supply.dial
+      old.listen new.listen hosted.tally.calls log setup.turns hosted.inbox_fault old.boxes new.boxes old.out new.out
+      hosted.totals setup.hosts old.supply.dial new.supply.dial
   pub files : FilesAreCovered history faults old.supply.texts new.supply.texts (disks_of maps) disks hosted.totals
   pub orders : CoversOrders old.supply.dial.past new.supply.dial.past hosted.totals.outcomes.reached
   pub sources : CoversSources old.supply.dial.past new.supply.dial.past old.supply.dial.faults new.supply.dial.faults
@@ -122,7 +129,7 @@ pub record IsServed {D : Type 0} (history : D → Option History) (faults : D �
   pub grown : IsFront (starts 0 (versions maps)) log
   pub connections : IsListenerState old.listen new.listen hosted.tally.connections hosted.tally.listen_fault 0 1
   pub datagrams : ServesInboxes (conduct setup) counted_of setup.catalogue (starts 0 (versions maps)) log setup.turns
-      hosted.inbox_fault old.boxes new.boxes
+      hosted.inbox_fault old.boxes new.boxes old.out new.out
   pub leaves : DisksStand history setup.catalogue log disks
   pub rises : AreTold history disks → IsRisingLog log
   pub accounted : IsAccounted history faults setup (first_of maps) maps CALLS_MAX hosted old new log disks

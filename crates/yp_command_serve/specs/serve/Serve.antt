@@ -84,17 +84,19 @@ supply seen office =
     supply_of (seen.texts.faults office.texts)
     (dial_tells seen.dial.past seen.dial.letters seen.dial.faults office.dial)
 
--- what is told by a listener, and by further inboxes and behind them that of an office, and by its texts and its dial
+-- what is told by a listener, by further inboxes and behind them that of an office, by the one from which is replied to
+-- what those leave, and by the texts and the dial of the office
 abbrev pub place : {S K D C A I T : Type 0} → Seeing S K D C A I T → Office S K D C A I T → DoorTells → ServerTells
 place seen office door =
     server_tells door.listen (map (λ end. end.box) door.more
-    ++ inbox_tells seen.inbox.past seen.inbox.turns seen.inbox.quiets office.inbox ∷ []) (supply seen office)
+    ++ inbox_tells seen.inbox.past seen.inbox.turns seen.inbox.quiets office.inbox ∷ []) door.out.box (supply seen office)
 
--- the count of an inbox's faults rose, of that of an office or of a further one
+-- the count of an inbox's faults rose, of that of an office or of one at the doors
 abbrev pub SomeInboxFails : {S K D C A I T : Type 0} → Seeing S K D C A I T → (old new : Office S K D C A I T)
     → (door door' : DoorTells) → Type 0
 SomeInboxFails seen old new door door' =
-    InboxFails seen old new ⊎ SomeHasRisen (map (λ end. end.faults) door.more) (map (λ end. end.faults) door'.more)
+    InboxFails seen old new ⊎ HasRisen door.out.faults door'.out.faults
+    ⊎ SomeHasRisen (map (λ end. end.faults) door.more) (map (λ end. end.faults) door'.more)
 
 -- A listener is to accept so many connections, and has accepted none.
 pub record IsToAccept (connections : ℕ) (listen : ListenTells) : Type 0 where

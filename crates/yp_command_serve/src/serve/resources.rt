@@ -1,6 +1,6 @@
 //! Maps that are served from their disks, from the loading of their files to the handing back of all.
 
-ghost use Rattle.std.specs.Prelude.{◌≡◌, ℕ, ◌≤◌, ◌<◌, ◌+◌, ◌^◌, List, length, map, option_map, true, vec_len};
+ghost use Rattle.std.specs.Prelude.{◌≡◌, ◌∷◌, ℕ, ◌≤◌, ◌<◌, ◌+◌, ◌^◌, List, length, map, option_map, true, vec_len};
 ghost use Rattle.std.specs.Prelude.{IfSome, IfOk, IfErr, OnSome, OnOk, OnErr};
 ghost use Rattle.std.specs.Arc.{arc_value};
 ghost use Rattle.std.specs.List.{All};
@@ -55,6 +55,8 @@ pub(crate) struct HostResources<D, A, T, C, L, I> {
     pub(crate) listen: L,
     /// Ends of one port, at least one.
     pub(crate) inboxes: Vec<I>,
+    /// One more, from which is replied to what those leave.
+    pub(crate) outbox: I,
 }
 
 /// Maps whose files were loaded, and what they are served by.
@@ -67,6 +69,8 @@ struct LoadedResources<D: Disk, A, T, C, L, I> {
     listen: L,
     /// Ends of one port, at least one.
     inboxes: Vec<I>,
+    /// One more, from which is replied to what those leave.
+    outbox: I,
 }
 
 /// The disks of maps that were loaded, once they aren't served, with what they would have been served by.
@@ -75,13 +79,14 @@ fn unload<D: Disk, A, T, C, L, I>(
 ) -> HostResources<D, A, T, C, L, I>
     ensures disks { result.disks.items ≡ disks_of resources.loaded }
     ensures rest { (result.desk ≡ resources.desk) × (result.listen ≡ resources.listen)
-        × (result.inboxes ≡ resources.inboxes) }
+        × (result.inboxes ≡ resources.inboxes) × (result.outbox ≡ resources.outbox) }
 {
     HostResources {
         disks: resources.loaded.into_disks(),
         desk: resources.desk,
         listen: resources.listen,
         inboxes: resources.inboxes,
+        outbox: resources.outbox,
     }
 }
 
@@ -95,7 +100,7 @@ struct BoardStart {
 }
 
 /// What the board of a server begins with. Each worker has a reader: so many of connections, the one that does what
-/// takes long for them, one for each inbox, and the one that carries out what datagrams ask for.
+/// takes long for them, one for each inbox, and the carrier of what datagrams ask for.
 fn starting<D: Disk>(
     alloc: Global,
     catalog: &Catalog,
@@ -217,15 +222,18 @@ where
     ensures hosted { IfOk result.0 (λ hosted. IsHosted D.history D.faults
         (setup_of catalog (T.text resources.desk.texts) resources.desk.hosts spec.now.turns) hosted
         (server_tells (opening_by L.Hall resources.listen) (map (box_by I.Inbox) resources.inboxes.items)
+        (box_by I.Inbox resources.outbox)
         (supply_of (T.faults resources.desk.texts) (dial_by A.Dial resources.desk.dial)))
         (server_tells (opening_by L.Hall result.1.listen) (map (box_by I.Inbox) result.1.inboxes.items)
+        (box_by I.Inbox result.1.outbox)
         (supply_of (T.faults result.1.desk.texts) (dial_by A.Dial result.1.desk.dial)))
         resources.disks.items result.1.disks.items) }
     ensures unhosted { IfErr result.0 (λ why.
         IsUnhosted D.history D.faults why resources.disks.items result.1.disks.items) }
     ensures untouched { OnErr result.0 (result.1 ≡ record resources { disks = result.1.disks }) }
     ensures inbox_fault { IfOk result.0 (λ hosted. hosted.inbox_fault ≡ true
-        → SomeHasRisen (map I.faults resources.inboxes.items) (map I.faults result.1.inboxes.items)) }
+        → SomeHasRisen (map I.faults (resources.outbox ∷ resources.inboxes.items))
+        (map I.faults (result.1.outbox ∷ result.1.inboxes.items))) }
     ensures texts { (file : List ℕ) → T.text result.1.desk.texts file ≡ T.text resources.desk.texts file }
     ensures moment { C.moment result.1.desk.clock ≡ C.moment resources.desk.clock }
     ensures count { length result.1.disks.items ≡ length resources.disks.items }
@@ -236,6 +244,7 @@ where
         desk,
         listen,
         inboxes,
+        outbox,
     } = resources;
     // A catalogue has at most 64 maps.
     prove!(disks.len() <= catalog.len() as usize);
@@ -247,6 +256,7 @@ where
                 desk,
                 listen,
                 inboxes,
+                outbox,
             };
             host_loaded(alloc, rt, spec, resources, journal)
         },
@@ -256,6 +266,7 @@ where
                 desk,
                 listen,
                 inboxes,
+                outbox,
             };
             (Err(NotHosted::Unloaded { map, fault }), resources)
         }
@@ -294,16 +305,19 @@ where
         (setup_of resources.catalog (T.text resources.desk.texts) resources.desk.hosts spec.now.turns)
         resources.loaded hosted
         (server_tells (opening_by L.Hall resources.listen) (map (box_by I.Inbox) resources.inboxes.items)
+        (box_by I.Inbox resources.outbox)
         (supply_of (T.faults resources.desk.texts) (dial_by A.Dial resources.desk.dial)))
         (server_tells (opening_by L.Hall result.1.listen) (map (box_by I.Inbox) result.1.inboxes.items)
+        (box_by I.Inbox result.1.outbox)
         (supply_of (T.faults result.1.desk.texts) (dial_by A.Dial result.1.desk.dial)))
         result.1.disks.items) }
     ensures unhosted { IfErr result.0 (λ why. why ≡ NotHosted.NoMemory) }
     ensures disks { OnErr result.0 (result.1.disks.items ≡ disks_of resources.loaded) }
     ensures untouched { OnErr result.0 ((result.1.desk ≡ resources.desk) × (result.1.listen ≡ resources.listen)
-        × (result.1.inboxes ≡ resources.inboxes)) }
+        × (result.1.inboxes ≡ resources.inboxes) × (result.1.outbox ≡ resources.outbox)) }
     ensures inbox_fault { IfOk result.0 (λ hosted. hosted.inbox_fault ≡ true
-        → SomeHasRisen (map I.faults resources.inboxes.items) (map I.faults result.1.inboxes.items)) }
+        → SomeHasRisen (map I.faults (resources.outbox ∷ resources.inboxes.items))
+        (map I.faults (result.1.outbox ∷ result.1.inboxes.items))) }
     ensures texts { (file : List ℕ) → T.text result.1.desk.texts file ≡ T.text resources.desk.texts file }
     ensures moment { C.moment result.1.desk.clock ≡ C.moment resources.desk.clock }
     ensures count { length result.1.disks.items ≡ length resources.loaded }
@@ -364,16 +378,19 @@ where
         (setup_of resources.catalog (T.text resources.desk.texts) resources.desk.hosts spec.now.turns)
         resources.loaded hosted
         (server_tells (opening_by L.Hall resources.listen) (map (box_by I.Inbox) resources.inboxes.items)
+        (box_by I.Inbox resources.outbox)
         (supply_of (T.faults resources.desk.texts) (dial_by A.Dial resources.desk.dial)))
         (server_tells (opening_by L.Hall result.1.listen) (map (box_by I.Inbox) result.1.inboxes.items)
+        (box_by I.Inbox result.1.outbox)
         (supply_of (T.faults result.1.desk.texts) (dial_by A.Dial result.1.desk.dial)))
         result.1.disks.items) }
     ensures unhosted { IfErr result.0 (λ why. why ≡ NotHosted.NoMemory) }
     ensures disks { OnErr result.0 (result.1.disks.items ≡ disks_of resources.loaded) }
     ensures untouched { OnErr result.0 ((result.1.desk ≡ resources.desk) × (result.1.listen ≡ resources.listen)
-        × (result.1.inboxes ≡ resources.inboxes)) }
+        × (result.1.inboxes ≡ resources.inboxes) × (result.1.outbox ≡ resources.outbox)) }
     ensures inbox_fault { IfOk result.0 (λ hosted. hosted.inbox_fault ≡ true
-        → SomeHasRisen (map I.faults resources.inboxes.items) (map I.faults result.1.inboxes.items)) }
+        → SomeHasRisen (map I.faults (resources.outbox ∷ resources.inboxes.items))
+        (map I.faults (result.1.outbox ∷ result.1.inboxes.items))) }
     ensures texts { (file : List ℕ) → T.text result.1.desk.texts file ≡ T.text resources.desk.texts file }
     ensures moment { C.moment result.1.desk.clock ≡ C.moment resources.desk.clock }
     ensures count { length result.1.disks.items ≡ length resources.loaded }
@@ -396,6 +413,7 @@ where
         desk,
         listen: resources.listen,
         inboxes: resources.inboxes,
+        outbox: resources.outbox,
     };
     match serve(alloc, rt, lent, spec, journal, &OpenGate) {
         Ok(served) => {
@@ -409,6 +427,7 @@ where
                 desk: unshared(served.desk),
                 listen: served.listen,
                 inboxes: served.inboxes,
+                outbox: served.outbox,
             };
             (Ok(hosted), resources)
         }
@@ -418,6 +437,7 @@ where
                 desk: unshared(refused.desk),
                 listen: refused.listen,
                 inboxes: refused.inboxes,
+                outbox: refused.outbox,
             };
             (Err(NotHosted::NoMemory), resources)
         }

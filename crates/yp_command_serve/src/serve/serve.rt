@@ -35,22 +35,28 @@ use yp_io::{Clock, Dial, Disk, Hall, Inbox, NoMemory, Sink, Source, Texts};
 use yp_server::ServeSpec;
 use yp_transfer::Hosts;
 
-/// What callers come by: a listener, and further ends of the port of an office's inbox, which receive its datagrams
-/// beside it.
+/// What callers of a server come by, beside the inbox of its office.
 #[derive(Drop)]
 pub struct Doors<L, I> {
+    /// What accepts connections at the port that its words name.
     pub listen: L,
+    /// Further ends of the inbox's port, which receive its datagrams beside it while maps are served. There may be
+    /// none.
     pub more: Vec<I>,
+    /// One more end of that port, from which is replied to what the others leave while maps are served. It is never
+    /// received from.
+    pub outbox: I,
 }
 
-/// What serving reaches outside.
+/// What the program reaches outside itself.
 #[derive(Drop)]
-pub struct ServeOutside<S, K, D, C, A, I, T, L, N> {
+pub struct Outside<S, K, D, C, L, A, I, T> {
+    /// What any command reaches.
     pub office: Office<S, K, D, C, A, I, T>,
-    /// What callers come by.
+    /// What callers of a server come by.
     pub doors: Doors<L, I>,
-    /// Where it is told what is done.
-    pub notes: N,
+    /// Where it tells what a server does, and how it ended.
+    pub notes: K,
 }
 
 /// Tells what was served, or answers why nobody was.
@@ -77,30 +83,29 @@ fn tell_end<K: Sink>(
 }
 
 /// Serves maps from the disks of an office, and tells what was served.
-fn serve_catalog<S, K, D, C, A, I, T, L, N, R>(
+fn serve_catalog<S, K, D, C, L, A, I, T, R>(
     alloc: Global,
     rt: &R,
     spec: HostSpec,
     hosts: Hosts,
-    outside: ServeOutside<S, K, D, C, A, I, T, L, N>,
-) -> (Status, ServeOutside<S, K, D, C, A, I, T, L, N>)
+    outside: Outside<S, K, D, C, L, A, I, T>,
+) -> (Status, Outside<S, K, D, C, L, A, I, T>)
 where
     S: Source,
-    K: Sink,
+    K: Sink + Send + Drop,
     D: Disk + Send + Drop,
     C: Clock + Send + Drop,
-    A: Dial + Send + Drop,
-    A::In: Send,
-    A::Out: Send,
-    I: Inbox + Send + Drop,
-    T: Texts + Send + Drop,
     L: Hall + Send + Drop,
     L::In: Send,
     L::Out: Send,
     L::Closer: Send,
     L::Watch: Send,
     L::Waker: Send,
-    N: Sink + Send + Drop,
+    A: Dial + Send + Drop,
+    A::In: Send,
+    A::Out: Send,
+    I: Inbox + Send + Drop,
+    T: Texts + Send + Drop,
     R: Threads + Wait + RandomSource + time::Clock + Sync,
     requires named { All IsNamed spec.catalog.maps }
     requires disks { names_of outside.office.disks.items ≡ spec.catalog.maps }
@@ -111,9 +116,9 @@ where
         (serve_job_of spec.catalog.own connections spec.serve.turns spec.catalog.maps hosts spec.log) result.0
         outside.office result.1.office
         (doors_by L.Hall I.Inbox outside.doors) (doors_by L.Hall I.Inbox result.1.doors) logged)
-        × (¬ HasRisen (N.faults outside.notes) (N.faults result.1.notes)
-        → Appends (N.output outside.notes) (N.output result.1.notes) logged) }
-    ensures never_falls { N.faults outside.notes ≤ N.faults result.1.notes }
+        × (¬ HasRisen (K.faults outside.notes) (K.faults result.1.notes)
+        → Appends (K.output outside.notes) (K.output result.1.notes) logged) }
+    ensures never_falls { K.faults outside.notes ≤ K.faults result.1.notes }
     ensures may_end { IsTrue (serve_may_end result.0) }
     ensures passed_on { IsPassedOn (seeing S.Source K.Sink D.Disk C.Clock A.Dial I.Inbox T.Texts)
         result.0 outside.office result.1.office }
@@ -127,7 +132,7 @@ where
         Ok(apart) => apart,
         Err(NoMemory) => return (Status::NoMemory, outside),
     };
-    let ServeOutside {
+    let Outside {
         office,
         doors,
         notes,
@@ -145,6 +150,7 @@ where
         desk,
         listen: doors.listen,
         inboxes,
+        outbox: doors.outbox,
     };
     let (hosted, resources, notes) = host_told(alloc, rt, spec, resources, &names, notes);
     let (mut wire, mut named) = (office.wire, office.disks);
@@ -167,8 +173,9 @@ where
     let doors = Doors {
         listen: resources.listen,
         more: inboxes,
+        outbox: resources.outbox,
     };
-    let outside = ServeOutside {
+    let outside = Outside {
         office,
         doors,
         notes,
@@ -179,29 +186,28 @@ where
 /// Serves stored maps to all who call, and tells how many connections came and how many of their records were read.
 /// Where the file of a map can't be loaded, or memory runs out, nobody is served. Where the job says so, the notes are
 /// told what is done, each second at most ten lines, and at the end what was counted.
-pub fn serve_maps<S, K, D, C, A, I, T, L, N, R>(
+pub fn serve_maps<S, K, D, C, L, A, I, T, R>(
     alloc: Global,
     rt: &R,
     job: ServeJob,
-    outside: ServeOutside<S, K, D, C, A, I, T, L, N>,
-) -> (Status, ServeOutside<S, K, D, C, A, I, T, L, N>)
+    outside: Outside<S, K, D, C, L, A, I, T>,
+) -> (Status, Outside<S, K, D, C, L, A, I, T>)
 where
     S: Source,
-    K: Sink,
+    K: Sink + Send + Drop,
     D: Disk + Send + Drop,
     C: Clock + Send + Drop,
-    A: Dial + Send + Drop,
-    A::In: Send,
-    A::Out: Send,
-    I: Inbox + Send + Drop,
-    T: Texts + Send + Drop,
     L: Hall + Send + Drop,
     L::In: Send,
     L::Out: Send,
     L::Closer: Send,
     L::Watch: Send,
     L::Waker: Send,
-    N: Sink + Send + Drop,
+    A: Dial + Send + Drop,
+    A::In: Send,
+    A::Out: Send,
+    I: Inbox + Send + Drop,
+    T: Texts + Send + Drop,
     R: Threads + Wait + RandomSource + time::Clock + Sync,
     requires catalogue { catalog_fault job.name.items (map name_view job.stores.items) ≡ None }
     requires named { All IsNamed (map name_view job.stores.items) }
@@ -211,9 +217,9 @@ where
         (serve_job_view job) result.0
         outside.office result.1.office
         (doors_by L.Hall I.Inbox outside.doors) (doors_by L.Hall I.Inbox result.1.doors) logged
-        × (¬ HasRisen (N.faults outside.notes) (N.faults result.1.notes)
-        → Appends (N.output outside.notes) (N.output result.1.notes) logged) }
-    ensures never_falls { N.faults outside.notes ≤ N.faults result.1.notes }
+        × (¬ HasRisen (K.faults outside.notes) (K.faults result.1.notes)
+        → Appends (K.output outside.notes) (K.output result.1.notes) logged) }
+    ensures never_falls { K.faults outside.notes ≤ K.faults result.1.notes }
     ensures may_end { IsTrue (serve_may_end result.0) }
     ensures passed_on { IsPassedOn (seeing S.Source K.Sink D.Disk C.Clock A.Dial I.Inbox T.Texts)
         result.0 outside.office result.1.office }

@@ -1,6 +1,6 @@
 //! Maps that are served while a thread beside the server tells what it does.
 
-ghost use Rattle.std.specs.Prelude.{◌≡◌, ℕ, ◌≤◌, List, All, length, map, true, vec_len, IfOk, IfErr, OnOk, OnErr};
+ghost use Rattle.std.specs.Prelude.{◌≡◌, ◌∷◌, ℕ, ◌≤◌, List, All, length, map, true, vec_len, IfOk, IfErr, OnOk, OnErr};
 ghost use Rattle.std.specs.Io.KnownBytes.{Appends};
 ghost use Rattle.yp_io.specs.Counts.{HasRisen, CountsFaults};
 ghost use Rattle.yp_board.specs.Catalogues.{name_view};
@@ -77,15 +77,18 @@ where
     ensures hosted { IfOk result.0 (λ hosted. IsHosted D.history D.faults
         (setup_of spec.catalog (T.text resources.desk.texts) resources.desk.hosts spec.serve.turns) hosted
         (server_tells (opening_by L.Hall resources.listen) (map (box_by I.Inbox) resources.inboxes.items)
+        (box_by I.Inbox resources.outbox)
         (supply_of (T.faults resources.desk.texts) (dial_by A.Dial resources.desk.dial)))
         (server_tells (opening_by L.Hall result.1.listen) (map (box_by I.Inbox) result.1.inboxes.items)
+        (box_by I.Inbox result.1.outbox)
         (supply_of (T.faults result.1.desk.texts) (dial_by A.Dial result.1.desk.dial)))
         resources.disks.items result.1.disks.items) }
     ensures unhosted { IfErr result.0 (λ why.
         IsUnhosted D.history D.faults why resources.disks.items result.1.disks.items) }
     ensures untouched { OnErr result.0 (result.1 ≡ record resources { disks = result.1.disks }) }
     ensures inbox_fault { IfOk result.0 (λ hosted. hosted.inbox_fault ≡ true
-        → SomeHasRisen (map I.faults resources.inboxes.items) (map I.faults result.1.inboxes.items)) }
+        → SomeHasRisen (map I.faults (resources.outbox ∷ resources.inboxes.items))
+        (map I.faults (result.1.outbox ∷ result.1.inboxes.items))) }
     ensures texts { (file : List ℕ) → T.text result.1.desk.texts file ≡ T.text resources.desk.texts file }
     ensures moment { C.moment result.1.desk.clock ≡ C.moment resources.desk.clock }
     ensures count { length result.1.disks.items ≡ length resources.disks.items }
@@ -123,15 +126,18 @@ where
             ensures hosted { IfOk result.0 (λ hosted. IsHosted D.history D.faults
                 (setup_of catalog (T.text resources.desk.texts) resources.desk.hosts spec.entry.now.turns) hosted
                 (server_tells (opening_by L.Hall resources.listen) (map (box_by I.Inbox) resources.inboxes.items)
+                (box_by I.Inbox resources.outbox)
                 (supply_of (T.faults resources.desk.texts) (dial_by A.Dial resources.desk.dial)))
                 (server_tells (opening_by L.Hall result.1.listen) (map (box_by I.Inbox) result.1.inboxes.items)
+                (box_by I.Inbox result.1.outbox)
                 (supply_of (T.faults result.1.desk.texts) (dial_by A.Dial result.1.desk.dial)))
                 resources.disks.items result.1.disks.items) }
             ensures unhosted { IfErr result.0 (λ why.
                 IsUnhosted D.history D.faults why resources.disks.items result.1.disks.items) }
             ensures untouched { OnErr result.0 (result.1 ≡ record resources { disks = result.1.disks }) }
             ensures inbox_fault { IfOk result.0 (λ hosted. hosted.inbox_fault ≡ true
-                → SomeHasRisen (map I.faults resources.inboxes.items) (map I.faults result.1.inboxes.items)) }
+                → SomeHasRisen (map I.faults (resources.outbox ∷ resources.inboxes.items))
+                (map I.faults (result.1.outbox ∷ result.1.inboxes.items))) }
             ensures texts { (file : List ℕ) → T.text result.1.desk.texts file ≡ T.text resources.desk.texts file }
             ensures moment { C.moment result.1.desk.clock ≡ C.moment resources.desk.clock }
             ensures count { length result.1.disks.items ≡ length resources.disks.items }

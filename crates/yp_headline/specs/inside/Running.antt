@@ -90,10 +90,10 @@ CommandHolds seen (Revnet name store) status old new door door' =
     → FileCrashes (file_world name store (λ name. None) reading_of [] (tells_stored status) h h') held
 CommandHolds seen (Serve own port workers connections turns stores hosts log) status old new door door' =
     was_hosted status ≡ true
-    → (closed : List ClosedConnection) (inboxes : List Heard) (wires : List Connected)
-    → (tell : AllTell seen old new door door' closed inboxes wires)
+    → (closed : List ClosedConnection) (inboxes : List Heard) (out : Heard) (wires : List Connected)
+    → (tell : AllTell seen old new door door' closed inboxes out wires)
     → ServerHolds (serve_world seen (serve_job_of own connections turns stores hosts log) old new
-    tell.calls.coming wires) (may_lose status) closed inboxes
+    tell.calls.coming wires) (may_lose status) closed inboxes out
 CommandHolds seen _ status old new door door' = ⊤
 
 -- What `run` ensures of a command, in its clause `does`, is that.

@@ -1,5 +1,6 @@
 -- What `serve` does with its connections, its datagrams and its files.
-use Rattle.std.specs.Prelude.{◌≡◌, ◌≤◌, ℕ, Bool, true, false, List, [], ◌∷◌, ◌++◌, map, flat_map, length, Some, ⊤}
+use Rattle.std.specs.Prelude.{◌≡◌, ◌⊎◌, ◌≤◌, ℕ, Bool, true, false, if◌then◌else◌, List, [], ◌∷◌, ◌++◌, map, flat_map}
+use Rattle.std.specs.Prelude.{length, Some, ⊤}
 use Rattle.std.specs.List.{AllByRecursion, AllZip}
 use Rattle.yp_io.specs.Calls.{ClosedConnection, ListenerHistory}
 use Rattle.yp_io.specs.Dials.{Connected, Wires}
@@ -7,6 +8,7 @@ use Rattle.yp_io.specs.Inboxes.{InboxEvent, Arrived, Silent, Sent}
 use Rattle.yp_board.specs.Logs.{Log}
 use Rattle.yp_publisher.specs.Grown.{AreTold}
 use Rattle.yp_texts.specs.Readings.{reading_of}
+use Rattle.yp_worker.specs.datagrams.Queues.{WeighTheSame}
 use Rattle.yp_worker.specs.datagrams.Serving.{reply_posts}
 use Rattle.yp_command.specs.declared.office.office.Office.{Office}
 use Rattle.yp_command.specs.declared.office.status.Status.{Status}
@@ -54,19 +56,29 @@ but_silent (Silent ∷ events) = but_silent events
 but_silent (Arrived from bytes ∷ events) = Arrived from bytes ∷ but_silent events
 but_silent (Sent to bytes ∷ events) = Sent to bytes ∷ but_silent events
 
--- what it tells of a datagram: that it came, and that its reply was sent, where one was
+-- what it tells of a datagram: that it came, and that its reply was sent, where one was, and wasn't late
 abbrev pub told_of : Datagram → List InboxEvent
-told_of mail = Arrived mail.peer mail.came ∷ reply_posts mail.peer mail.sent
+told_of mail = Arrived mail.peer mail.came ∷ (if mail.late then [] else reply_posts mail.peer mail.sent)
 
--- The reply to the last datagram alone may have been lost, and only where that is said.
+-- that a reply was sent, where it was late
+abbrev pub late_of : Datagram → List InboxEvent
+late_of mail = if mail.late then reply_posts mail.peer mail.sent else []
+
+-- The reply to the last datagram, and those that were late, alone may have been lost, and only where that is said.
 abbrev pub MayLoseLast : Bool → List Datagram → Type 0
 MayLoseLast loses [] = ⊤
-MayLoseLast loses (mail ∷ mails) = (mail.lost ≡ true → (mails ≡ []) × (loses ≡ true)) × MayLoseLast loses mails
+MayLoseLast loses (mail ∷ mails) =
+    (mail.lost ≡ true → ((mail.late ≡ true) ⊎ (mails ≡ [])) × (loses ≡ true)) × MayLoseLast loses mails
 
 -- datagrams of the world are what more an inbox told, each with its reply
 pub record AreOfInbox (loses : Bool) (heard : Heard) (datagrams : List Datagram) : Type 0 where
   pub are : but_silent heard.more ≡ flat_map told_of datagrams
   pub kept : MayLoseLast loses datagrams
+
+-- what more one told from which alone is sent are the replies that were late to datagrams of several inboxes, each as
+-- often as one was
+abbrev pub AreLate : Heard → List (List Datagram) → Type 0
+AreLate out datagrams = WeighTheSame out.more (flat_map late_of (flat_map (λ mails. mails) datagrams))
 
 -- whether the reply to a datagram may have been lost, by the status
 abbrev pub may_lose : Status → Bool
@@ -77,10 +89,11 @@ may_lose status = false
 -- ---- the whole
 
 -- what is told of a server: of its disks all that they were at each moment, the streams that were to come, of each
--- connection that was closed its bytes, what its inboxes told, and the wires that came of its dial, with their bytes
+-- connection that was closed its bytes, what its inboxes told, and the one from which is replied late, and the wires
+-- that came of its dial, with their bytes
 pub record AllTell {S K D C A I T : Type 0} (seen : Seeing S K D C A I T) (old new : Office S K D C A I T)
-    (door door' : DoorTells) (closed : List ClosedConnection) (inboxes : List Heard) (wires : List Connected)
-    : Type 0 where
+    (door door' : DoorTells) (closed : List ClosedConnection) (inboxes : List Heard) (out : Heard)
+    (wires : List Connected) : Type 0 where
   pub disks : AreTold seen.disk.history (disks_of old.disks.items)
   pub disks_at_last : AreTold seen.disk.history (disks_of new.disks.items)
   pub calls : ListenerHistory
@@ -95,6 +108,8 @@ pub record AllTell {S K D C A I T : Type 0} (seen : Seeing S K D C A I T) (old n
   pub hears : map (λ box. box.past) ((place seen old door).boxes) ≡ map (λ one. Some one.before) inboxes
   pub hears_at_last : map (λ box. box.past) ((place seen new door').boxes)
       ≡ map (λ one. Some (one.before ++ one.more)) inboxes
+  pub hears_out : door.out.box.past ≡ Some out.before
+  pub hears_out_at_last : door'.out.box.past ≡ Some (out.before ++ out.more)
   pub dialed : Wires
   pub dialed_at_last : Wires
   pub dials : seen.dial.past old.dial ≡ Some dialed
@@ -123,11 +138,12 @@ serve_world seen job old new coming wires connections datagrams = record {
 -- The connections that were closed, and the datagrams that inboxes told, are those of a world, and on one log of it the
 -- headline holds of replies, of crashes and of call backs.
 pub record ServerHolds (world : List Connection → List (List Datagram) → World) (loses : Bool)
-    (closed : List ClosedConnection) (inboxes : List Heard) : Type 0 where
+    (closed : List ClosedConnection) (inboxes : List Heard) (out : Heard) : Type 0 where
   pub connections : List Connection
   pub are_closed : AllZip IsOfClosed closed connections
   pub datagrams : List (List Datagram)
   pub are_heard : AllZip (AreOfInbox loses) inboxes datagrams
+  pub are_late : AreLate out datagrams
   pub begun : Log
   pub log : Log
   pub replies : Replies (world connections datagrams) begun log
@@ -147,6 +163,6 @@ abbrev pub ServeHolds : {S K D C A I T : Type 0} → Seeing S K D C A I T → Ty
 ServeHolds {S} {K} {D} {C} {A} {I} {T} seen =
     (job : Job) (status : Status) (old new : Office S K D C A I T) (door door' : DoorTells) (logged : List ℕ)
     → ServeDoes seen job status old new door door' logged → was_hosted status ≡ true
-    → (closed : List ClosedConnection) (inboxes : List Heard) (wires : List Connected)
-    → (tell : AllTell seen old new door door' closed inboxes wires)
-    → ServerHolds (serve_world seen job old new tell.calls.coming wires) (may_lose status) closed inboxes
+    → (closed : List ClosedConnection) (inboxes : List Heard) (out : Heard) (wires : List Connected)
+    → (tell : AllTell seen old new door door' closed inboxes out wires)
+    → ServerHolds (serve_world seen job old new tell.calls.coming wires) (may_lose status) closed inboxes out

@@ -2,6 +2,7 @@
 use Rattle.std.specs.Prelude.{ℕ, pos, Bool, true, false, List, [], ◌∷◌, ◌++◌, Option, Some, None, replicate, take}
 use Rattle.yp_io.specs.declared.stream.Peer.{Peer}
 use Rattle.yp_io.specs.Disk.{DiskState}
+use Rattle.yp_io.specs.Inboxes.{Sent}
 use Rattle.yp_io.specs.Peers.{own_host}
 use Rattle.yp_rpc.specs.Records.{sent}
 use Rattle.yp_rpc.specs.Called.{call_of}
@@ -18,6 +19,7 @@ use Rattle.yp_answer.specs.Transfer.{Taken}
 use Rattle.yp_answer.specs.Reply.{make_reply, xfr_reply}
 use Rattle.yp_headline.specs.World.{World, Datagram, Letter, Given, Filed, Dialed}
 use Rattle.yp_headline.specs.inside.Files.{streamed}
+use Rattle.yp_headline.specs.inside.Server.{AreLate}
 use Rattle.yp_headline.specs.Headline.{Replies, Crashes, Transfers, CallBacks}
 
 -- a call of the procedure 0, and its reply
@@ -51,6 +53,10 @@ one_connection came sent cut = record {
 abbrev pub IsWrong : World → Type 0
 IsWrong world = (begun log : Log) → Replies world begun log → ⊥
 
+-- a datagram whose reply wasn't late
+abbrev pub mail_of : Peer → (came : List ℕ) → (sent : Option (List ℕ)) → (lost : Bool) → Datagram
+mail_of peer came sent lost = record { peer = peer; came = came; sent = sent; lost = lost; late = false }
+
 -- a server of no maps, with one datagram
 abbrev pub datagram_world : Datagram → World
 datagram_world mail = record {
@@ -68,19 +74,18 @@ datagram_world mail = record {
 
 -- with this reply, or none
 abbrev pub one_datagram : Option (List ℕ) → World
-one_datagram answer = datagram_world (record { peer = somebody; came = null_call 7; sent = answer; lost = false })
+one_datagram answer = datagram_world (mail_of somebody (null_call 7) answer false)
 
 -- whose reply was sent, and lost
 abbrev pub lost_datagram : World
-lost_datagram =
-    datagram_world (record { peer = somebody; came = null_call 7; sent = Some (null_reply 7); lost = true })
+lost_datagram = datagram_world (mail_of somebody (null_call 7) (Some (null_reply 7)) true)
 
 -- a call with so many more bytes that the datagram has 8,193
 abbrev pub long_call : List ℕ
 long_call = null_call 7 ++ replicate 8153 0
 
 abbrev pub long_datagram : World
-long_datagram = datagram_world (record { peer = somebody; came = long_call; sent = Some (null_reply 7); lost = false })
+long_datagram = datagram_world (mail_of somebody long_call (Some (null_reply 7)) false)
 
 -- a cell with an open gate, of generation 1, whose body is behind the cells and has this length
 abbrev pub cell_of : ℕ → List ℕ
@@ -211,8 +216,15 @@ low_caller = record { addr = 10 ∷ 0 ∷ 0 ∷ 7 ∷ []; port = 700 }
 
 -- the value of k is asked for in a datagram, and this one told
 abbrev pub matched_mail : ℕ → Datagram
-matched_mail value =
-    record { peer = low_caller; came = match_call; sent = Some (match_reply value); lost = false }
+matched_mail value = mail_of low_caller match_call (Some (match_reply value)) false
+
+-- the map is asked to be made, and this was the reply, or none, late
+abbrev pub late_make : Option (List ℕ) → Datagram
+late_make answer = record { peer = own_caller; came = make_call; sent = answer; lost = false; late = true }
+
+-- the value of k is asked for, and was told late
+abbrev pub late_match : Datagram
+late_match = record { peer = own_caller; came = match_call; sent = Some (match_reply 118); lost = false; late = true }
 
 -- a server of one map, which may be made of the text meanwhile, with datagrams at some inboxes
 abbrev pub mails_world : List (List Datagram) → World
@@ -334,7 +346,7 @@ abbrev pub mailed_transfer : World
 mailed_transfer = record transfer_world {
   coming = [];
   connections = [];
-  datagrams = (record { peer = somebody; came = xfr_call; sent = Some (xfr_reply 7 5 Succ); lost = false } ∷ []) ∷ [];
+  datagrams = (mail_of somebody xfr_call (Some (xfr_reply 7 5 Succ)) false ∷ []) ∷ [];
 }
 
 -- a server of one map, which is made of the text in one connection, and asked for in both and at two inboxes, and whose
@@ -363,8 +375,9 @@ served_world middle last = record {
 -- Connections and datagrams: a call that isn't answered, or is as another one, or twice, or in part; a reply to
 -- nothing; two replies in the wrong order; the second of two calls that isn't answered; a datagram that isn't answered,
 -- or is as another one, or is though it is too long, or whose reply is lost and was sent; two datagrams at one inbox of
--- which the second tells the value that was shown before; a value that was never shown; and a reply of another
--- procedure.
+-- which the second tells the value that was shown before; a make that isn't answered late, either, or is by a version
+-- that its server knew before; what is no make, and is answered late; a late reply to nobody; a value that was never
+-- shown; and a reply of another procedure.
 pub record RepliesAreFalse : Type 0 where
   pub unanswered : IsWrong (one_connection (sent (null_call 7)) [] false)
   pub another_xid : IsWrong (one_connection (sent (null_call 7)) (sent (null_reply 8)) false)
@@ -380,6 +393,12 @@ pub record RepliesAreFalse : Type 0 where
   pub mail_too_long : IsWrong long_datagram
   pub mail_lost_and_sent : IsWrong lost_datagram
   pub mail_goes_back : IsWrong (mails_world ((matched_mail 119 ∷ matched_mail 118 ∷ []) ∷ []))
+  pub late_unanswered : IsWrong (mails_world ((late_make None ∷ []) ∷ []))
+  pub late_and_known : Replies (mails_world ((matched_mail 119 ∷ late_make (Some (make_reply 7 Succ)) ∷ []) ∷ []))
+      first_log made_log → ⊥
+  pub late_of_no_make : IsWrong (mails_world ((late_match ∷ []) ∷ []))
+  pub late_to_nobody : (to : Peer) (reply : List ℕ)
+      → AreLate (record { before = []; more = Sent to reply ∷ [] }) ((matched_mail 118 ∷ []) ∷ []) → ⊥
   pub never_shown : IsWrong (one_match (sent (match_reply 119)))
   pub answered_as_null : IsWrong (one_match (sent (reply_head 7 Success)))
 
@@ -387,9 +406,9 @@ pub record RepliesAreFalse : Type 0 where
 
 -- One MATCH; a map that is made, and then asked for; one that is fetched and called back, and then asked for, of one
 -- caller, or of several; one that is fetched and called back for a datagram; datagrams at two inboxes, of which the
--- second is behind the first; three installs; a source that changes between its replies, of which nothing is stored;
--- and a server of all these at once, whose file stands at the end for the version that was given, though that isn't
--- shown.
+-- second is behind the first; a make that is answered late, between two that tell the value before; three installs; a
+-- source that changes between its replies, of which nothing is stored; and a server of all these at once, whose file
+-- stands at the end for the version that was given, though that isn't shown.
 pub record HoldsOfRows : Type 0 where
   pub first_match : Replies (one_match (sent (match_reply 118))) first_log first_log
   pub make_then_match : Replies make_world first_log made_log
@@ -398,6 +417,8 @@ pub record HoldsOfRows : Type 0 where
   pub mail_transfer : CallBacks mailed_transfer first_log fetched_log
   pub two_inboxes : Replies (mails_world
       ((matched_mail 118 ∷ matched_mail 119 ∷ []) ∷ (matched_mail 118 ∷ []) ∷ [])) first_log made_log
+  pub late_make : Replies (mails_world ((matched_mail 118 ∷ late_make (Some (make_reply 7 Succ)) ∷ matched_mail 118 ∷ [])
+      ∷ [])) first_log made_log
   pub three_installs : Crashes installing first_log all_log
   pub skewed_source : (came : List ℕ) → Crashes (skewed_world came) first_log first_log
       × Transfers (skewed_world came) first_log first_log

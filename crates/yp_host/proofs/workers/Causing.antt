@@ -31,7 +31,7 @@ use Rattle.yp_publisher.specs.sharing.Shares.{IsReason}
 use Rattle.yp_publisher.specs.sharing.Sources.{Building}
 use Rattle.yp_publisher.specs.inside.sharing.Sources.{marked_behind, IsBuiltThere}
 use Rattle.yp_host.specs.workers.Desks.{texts_alone}
-use Rattle.yp_host.specs.workers.Outcomes.{shared_stat}
+use Rattle.yp_publisher.specs.Stats.{share_stat}
 use Rattle.yp_host.specs.workers.Makings.{IsShownLast, IsMadeSo}
 use Rattle.yp_host.specs.inside.workers.Makings.{SiteBuilds, height, IsOvertaken}
 use Rattle.yp_host.proofs.Reversing.{row_is_bad, none_shown, made_behind}
@@ -116,7 +116,7 @@ shown_last law text served job version old new anew most s =
 -- ---- why a version isn't installed
 
 pub unfit : (told : Told) (served : Catalogue) (job : MakeJob) (version : MapVersion) (why : ShareFault) (old new : Log)
-    → IsReason served.own job.map version Built why new → shared_stat why ≢ Age → IsMadeSo told served job (shared_stat why) old new
+    → IsReason served.own job.map version Built why new → share_stat why ≢ Age → IsMadeSo told served job (share_stat why) old new
 unfit told served job version Untold old new h n = tt
 unfit told served job version (Shut slot.NoMemory) old new h n = tt
 unfit told served job version (Shut slot.DiskFault) old new h n = tt
@@ -138,7 +138,7 @@ height_under (Some last) version h = omega (arith, h)
 
 pub overtaken : (own : List ℕ) (number : ℕ) (version : MapVersion) (why : ShareFault) (old new : Log)
     → HasLaterOrder (shown number old) version → version.order ≤ order_max
-    → IsReason own number version Built why new → shared_stat why ≡ Age → IsOvertaken number old new
+    → IsReason own number version Built why new → share_stat why ≡ Age → IsOvertaken number old new
 overtaken own number version (Unfit (fault.Age last offered)) old new over most h e =
     let stands = not_lower own (offer_behind number version Built new).version (shown number new) last offered h in
     let under = height_under (shown number old) version over in

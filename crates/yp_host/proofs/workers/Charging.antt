@@ -5,28 +5,16 @@ use Rattle.yp_map_file.specs.declared.fault.SlotFault.TheVariants as slot
 use Rattle.yp_publisher.specs.declared.install.InstallFault.TheVariants as fault
 use Rattle.yp_publisher.specs.declared.sharing.locked.ShareFault.{ShareFault}
 use Rattle.yp_publisher.specs.declared.sharing.locked.ShareFault.TheVariants.{Shut, Unfit, Untold}
-use Rattle.yp_publisher.specs.inside.sharing.Failures.{failures_in}
+use Rattle.yp_publisher.specs.Stats.{share_stat}
+use Rattle.yp_publisher.specs.inside.sharing.Failures.{files_in, failures_in}
 use Rattle.yp_publisher.specs.inside.sharing.Debits.{Debit, DebitIsCharged}
 use Rattle.yp_host.specs.declared.workers.call_backs.CallBack.{CallBack}
-use Rattle.yp_host.specs.workers.Outcomes.{shared_stat}
-use Rattle.yp_host.specs.inside.workers.Charges.{Charged, ChargesMore, cost_of_make, files_in, made_in}
+use Rattle.yp_host.specs.inside.workers.Charges.{Charged, ChargesMore, cost_of_make, made_in}
 
 -- ---- a status
 
--- a version that isn't installed is FILE where its file failed, and never SUCC
-pub files_are_failures : (why : ShareFault) → files_in (shared_stat why) ≡ failures_in why
-files_are_failures Untold = refl
-files_are_failures (Shut slot.NoMemory) = refl
-files_are_failures (Shut slot.DiskFault) = refl
-files_are_failures (Shut (slot.Damaged at rule)) = refl
-files_are_failures (Unfit fault.NoMemory) = refl
-files_are_failures (Unfit (fault.Refused master)) = refl
-files_are_failures (Unfit (fault.Age last offered)) = refl
-files_are_failures (Unfit fault.Behind) = refl
-files_are_failures (Unfit fault.GenerationsSpent) = refl
-files_are_failures (Unfit fault.DiskFault) = refl
-
-none_made : (why : ShareFault) → made_in (shared_stat why) ≡ 0
+-- a version that isn't installed is never SUCC
+none_made : (why : ShareFault) → made_in (share_stat why) ≡ 0
 none_made Untold = refl
 none_made (Shut slot.NoMemory) = refl
 none_made (Shut slot.DiskFault) = refl
@@ -56,10 +44,10 @@ with_debit parts unread orders sources left debit = record {
 -- of a version that was built, and then isn't installed
 pub charged_so : (why : ShareFault) (stat : XfrStat) (old : Charged) (parts unread orders sources made versions : ℕ)
     (left : List CallBack) (debit debit' : Debit) → with_debit parts unread orders sources left debit ≡ record old { unread = old.unread + 0 }
-    → DebitIsCharged (failures_in why) made versions debit debit' → stat ≡ shared_stat why
+    → DebitIsCharged (failures_in why) made versions debit debit' → stat ≡ share_stat why
     → ChargesMore (cost_of_make stat) old (with_debit parts unread orders sources left debit')
 charged_so why stat old parts unread orders sources made versions left debit debit' inside more is =
-    let files : files_in stat ≡ failures_in why = ap files_in is ∙ files_are_failures why in
+    let files : files_in stat ≡ failures_in why = ap files_in is in
     let none : made_in stat ≡ 0 = ap made_in is ∙ none_made why in
     let failures_are = more.failures_are in
     let made_are = more.made_are in record {

@@ -9,20 +9,20 @@ use Rattle.yp_board.specs.Logs.{Log, shown}
 use Rattle.yp_answer.specs.Transfer.{Taken}
 use Rattle.yp_publisher.specs.declared.install.Origin.TheVariants.{Fetched}
 use Rattle.yp_publisher.specs.declared.sharing.locked.ShareFault.{ShareFault}
+use Rattle.yp_publisher.specs.Stats.{share_stat}
 use Rattle.yp_publisher.specs.sharing.Shares.{IsShownBehind}
 use Rattle.yp_publisher.specs.sharing.Shares.{IsReason}
 use Rattle.yp_transfer.specs.Dialing.{FetchesFrom}
 use Rattle.yp_transfer.specs.Faults.{stat_of}
 use Rattle.yp_transfer.specs.Fetching.{Wanted, wanted_of, FetchOutcome}
 use Rattle.yp_transfer.specs.HostTable.{HostList, find}
-use Rattle.yp_host.specs.workers.Outcomes.{shared_stat}
 
 -- A fetched version was shown, and the status is SUCC; or it wasn't, for a fault whose reason is known, and the status
 -- is that of the fault.
 abbrev pub IsInstalledAs : List ℕ → ℕ → MapVersion → XfrStat → Log → Log → Type 0
 IsInstalledAs own number version stat old new =
     ((stat ≡ Succ) × IsShownBehind own number version Fetched old new)
-    ⊎ ((fault : ShareFault) × (stat ≡ shared_stat fault) × IsReason own number version Fetched fault new)
+    ⊎ ((fault : ShareFault) × (stat ≡ share_stat fault) × IsReason own number version Fetched fault new)
 
 -- What was fetched is installed. Where nothing was, the status is that of the fault.
 abbrev pub InstallsAs : List ℕ → ℕ → FetchOutcome → XfrStat → Log → Log → Type 0

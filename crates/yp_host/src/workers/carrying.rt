@@ -13,10 +13,11 @@ ghost use Rattle.yp_host.specs.inside.workers.Charges.{ChargesMore, cost_of_inst
 ghost use Rattle.yp_host.specs.inside.workers.Charges.{files_at, orders_at, sources_at};
 ghost use Rattle.yp_host.specs.inside.workers.Wires.{orders_in, sources_in, IsAgedBy, IsNoted};
 
+use crate::carrying::asker_of;
 use crate::workers::call_backs::CallBack;
 use crate::workers::charges::Charges;
 use crate::workers::dial::FetchTask;
-use crate::workers::outcome::{Group, group_of, shared_stat};
+use crate::workers::outcome::{Group, group_of};
 use crate::workers::setting::WorkerSetting;
 use crate::workers::supplies::Supplies;
 use std::random::RandomSource;
@@ -64,13 +65,7 @@ where
         (B.Reader.seen reader.old).known (B.Reader.seen reader.new).known }
 {
     let Carried { group, stat, shown } = fetch_and_install(setting, reader, charges, job);
-    let addr = peer.addr;
-    let asker = Asker {
-        addr,
-        prog: job.prog,
-        port: job.port,
-        transid: job.transid,
-    };
+    let asker = asker_of(job, peer);
     leave(setting, charges, asker, stat, shown);
     setting
         .dial
@@ -298,7 +293,7 @@ where
             shown: Some(shown),
         },
         Err(fault) => {
-            let stat = shared_stat(&fault);
+            let stat = fault.stat();
             Carried::without(group_of(stat), stat)
         }
     }

@@ -13,6 +13,7 @@ ghost use Rattle.yp_host.specs.inside.workers.Charges.{counted_by};
 
 use crate::workers::carrying::{carry_out, order_of};
 use crate::workers::charges::{Account, Charges, Counted};
+use crate::workers::front::BoardFront;
 use crate::workers::journal::Event;
 use crate::workers::making::make_shared;
 use crate::workers::outcome::{Outcomes, Totals, files_after, made_after};
@@ -367,15 +368,13 @@ impl<
         self.totals = Totals::none();
     }
 
-    type Front = B::Knowledge;
+    type Front = BoardFront<B>;
 
-    ghost kept = { B.knows };
-
-    fn front(&self) -> Result<B::Knowledge, NoMemory> {
-        B::knowledge(&self.reader)
+    fn front(&self) -> Result<BoardFront<B>, NoMemory> {
+        BoardFront::of(&self.reader)
     }
 
-    fn reach(&mut self, front: B::Knowledge) {
-        B::teach(&mut self.reader, front);
+    fn reach(&mut self, front: BoardFront<B>) {
+        front.teach(&mut self.reader);
     }
 }

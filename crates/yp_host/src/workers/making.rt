@@ -1,8 +1,7 @@
 //! A map that a worker makes.
 
-ghost use Rattle.std.specs.Prelude.{◌≡◌, ◌<◌, None, length, option_map, IfSome};
+ghost use Rattle.std.specs.Prelude.{◌≡◌, ◌<◌, None, length, IfSome};
 ghost use Rattle.std.specs.Option.{option_map_or};
-ghost use Rattle.yp_answer.specs.Make.{netgroups_at};
 ghost use Rattle.yp_answer.specs.inside.Make.{IsMadeAsNamed};
 ghost use Rattle.yp_publisher.specs.sharing.Shares.{Learns};
 ghost use Rattle.yp_host.specs.workers.Desks.{texts_alone};
@@ -12,20 +11,18 @@ ghost use Rattle.yp_host.specs.inside.workers.Charges.{ChargesMore, cost_of_make
 
 use crate::BuildTask;
 use crate::workers::charges::Charges;
-use crate::workers::outcome::shared_stat;
 use crate::workers::setting::WorkerSetting;
 use crate::workers::supplies::Supplies;
 use crate::workers::texts::SharedTexts;
 use std::random::RandomSource;
 use std::sync::Wait;
 use yp_answer::MakeJob;
-use yp_board::{Tell, View};
+use yp_board::Tell;
 use yp_io::{Clock, Dial, Disk, NoMemory, Texts};
 use yp_messages::XfrStat;
 use yp_publisher::Origin;
 use yp_publisher::sharing::{Accounts, Site, install_shared, tell_shared};
 use yp_texts::laws::built_is_built_behind;
-use yp_version::Version;
 
 /// Makes a map anew, behind all that was shown, and lets the reader know it. Where another version of the map is shown
 /// meanwhile, it is built again behind that, so the orders of the map rise with each round.
@@ -93,14 +90,7 @@ where
     ensures charged { ChargesMore (option_map_or cost_of_make result no_cost) charges.old charges.new }
     ensures left { charges.new.left ≡ charges.old.left }
 {
-    let shown = reader.held(job.map);
-    let netgroups = netgroups(reader, job);
-    let task = BuildTask {
-        catalog: reader.catalog(),
-        job,
-        netgroups,
-        shown,
-    };
+    let task = BuildTask::of(reader, job);
     let version = match texts.build(setting.alloc, &setting.rt, &task, charges) {
         Ok(version) => version,
         Err(stat) => return Some(stat),
@@ -119,19 +109,9 @@ where
         &mut charges.debits,
     ) {
         Ok(()) => Some(XfrStat::Succ),
-        Err(fault) => match shared_stat(&fault) {
+        Err(fault) => match fault.stat() {
             XfrStat::Age => None,
             stat => Some(stat),
         },
     }
-}
-
-/// The version of the netgroups in the domain of a map that a reader knows.
-fn netgroups<V: View>(reader: &V, job: MakeJob) -> Option<&Version>
-    requires { job.map < length (V.seen reader.now).catalogue.maps }
-    ensures { option_map (λ version. version.now) result
-        ≡ netgroups_at (V.seen reader.now).catalogue job (V.seen reader.now).known }
-{
-    let map = job.netgroups(reader.catalog())?;
-    reader.held(map)
 }

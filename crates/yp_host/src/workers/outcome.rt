@@ -1,15 +1,12 @@
 //! What transfers came to, and how often.
 
 ghost use Rattle.std.specs.Prelude.{◌≡◌};
-ghost use Rattle.yp_host.specs.workers.Outcomes.{counted_in, shared_stat};
+ghost use Rattle.yp_host.specs.workers.Outcomes.{counted_in};
 ghost use Rattle.yp_host.specs.inside.workers.Outcomes.{group_of};
 ghost use Rattle.yp_host.specs.workers.Workers.{files_after, made_after};
 ghost use Rattle.yp_host.specs.workers.Charges.{no_outcomes, no_totals, outcomes_plus, totals_plus};
 
-use yp_map_file::SlotFault;
 use yp_messages::XfrStat;
-use yp_publisher::InstallFault;
-use yp_publisher::sharing::ShareFault;
 
 /// What a transfer came to.
 #[derive(Clone, Copy, Debug, PartialEq, Eq)]
@@ -125,21 +122,6 @@ pub(crate) fn group_of(stat: XfrStat) -> Group
         XfrStat::Rsrc => Group::NoMemory,
         XfrStat::File => Group::File,
         _ => Group::Source,
-    }
-}
-
-/// The status of a version that isn't installed, or isn't known to the reader.
-pub(crate) fn shared_stat(fault: &ShareFault) -> XfrStat
-    ensures { result ≡ shared_stat fault.now }
-{
-    match fault {
-        ShareFault::Untold => XfrStat::Rsrc,
-        ShareFault::Shut(SlotFault::NoMemory) => XfrStat::Rsrc,
-        ShareFault::Shut(_) => XfrStat::File,
-        ShareFault::Unfit(InstallFault::NoMemory) => XfrStat::Rsrc,
-        ShareFault::Unfit(InstallFault::Refused { .. }) => XfrStat::Refused,
-        ShareFault::Unfit(InstallFault::Age { .. }) => XfrStat::Age,
-        ShareFault::Unfit(_) => XfrStat::File,
     }
 }
 

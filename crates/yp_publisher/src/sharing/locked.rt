@@ -35,6 +35,7 @@ use std::sync::ledger::{Book, Ledger, Share};
 use yp_board::{Show, Tell};
 use yp_io::{Disk, NoMemory};
 use yp_map_file::SlotFault;
+use yp_messages::XfrStat;
 use yp_version::Version;
 
 /// Which maps are served. Each call of a program that shares a publisher picks it.
@@ -392,18 +393,13 @@ fn failures_of(installed: &Result<(), ShareFault>) -> u64
     }
 }
 
-/// How many failed files a fault stands for.
+/// How many failed files a fault stands for, by the status that is told of it.
 fn failures_in(fault: &ShareFault) -> u64
     ensures { result ≡ failures_in fault.now }
 {
-    match fault {
-        ShareFault::Untold => 0,
-        ShareFault::Shut(SlotFault::NoMemory) => 0,
-        ShareFault::Shut(_) => 1,
-        ShareFault::Unfit(InstallFault::NoMemory) => 0,
-        ShareFault::Unfit(InstallFault::Refused { .. }) => 0,
-        ShareFault::Unfit(InstallFault::Age { .. }) => 0,
-        ShareFault::Unfit(_) => 1,
+    match fault.stat() {
+        XfrStat::File => 1,
+        _ => 0,
     }
 }
 

@@ -1,5 +1,6 @@
 -- A slab: bytes that stand before rows, and behind them the rows, each spelled as in the body of a version.
 use Rattle.std.specs.Prelude.{◌≡◌, ℕ, ◌+◌, ◌≤◌, List, [], ◌∷◌, ◌++◌, length, take, drop, All}
+use Rattle.std.specs.Prelude.{Some, slice_get, slice_index_or}
 use Rattle.std.specs.List.{flat_map}
 use Rattle.std.specs.Int.{w32, from_be_bytes}
 use Rattle.yp_version.specs.Limits.{key_max, value_max, body_max}
@@ -36,6 +37,12 @@ pub record IsRowAt (bytes : List ℕ) (place : ℕ) : Type 0 where
   pub key : length (key_from bytes place) ≤ key_max
   pub value : length (value_from bytes place) ≤ value_max
   pub spelled : take (row_len (row_from bytes place)) (drop place bytes) ≡ row_bytes (row_from bytes place)
+
+-- Rows stand at these places, and each ends where the next one begins, or where the bytes end.
+pub record AreRowsAt (bytes places : List ℕ) : Type 0 where
+  pub there : All (IsRowAt bytes) places
+  pub ends : (i place : ℕ) → slice_get places i ≡ Some place
+      → slice_index_or places (i + 1) (length bytes) ≡ place + row_len (row_from bytes place)
 
 -- the places of rows, of which the first stands here
 abbrev pub places_from : ℕ → List Row → List ℕ

@@ -1,22 +1,20 @@
--- Each step keeps the rule of a queue of transfers.
-use Rattle.std.proofs.Common.{◌≡◌, ◌≢◌, ◌<◌, ◌≤◌, ℕ, zero, suc, ◌+◌, ◌-◌, List, [], ◌∷◌, ◌++◌, length, set, refl, sym, ap, ◌∙◌, subst, ⊎_elim, arith}
+-- Each step keeps the rule of the queue between servers and a carrier.
+use Rattle.std.proofs.Common.{◌≡◌, ◌≢◌, ◌<◌, ◌≤◌, ℕ, zero, suc, ◌+◌, ◌-◌, List, [], ◌∷◌, ◌++◌, set, refl, sym, ap, ◌∙◌, subst, ⊎_elim, arith}
 use mathlib.Core.Option.{some, some-ne-none, some-injective}
 use lib.ListN.{get_elem?}
 use Rattle.crossbeam_queue.specs.Fifo.{Pushes, Pops, Forks, Merges, Learns}
 use Rattle.crossbeam_queue.proofs.Lists.{at_set, at_snoc}
-use Rattle.yp_answer.specs.inside.session.Errands.{IsDue}
-use Rattle.yp_worker.specs.declared.datagrams.pending.Dealt.{Dealt}
-use Rattle.yp_worker.specs.datagrams.Mailing.{Awaited}
+use Rattle.yp_worker.specs.datagrams.Mailing.{Deferred}
 use Rattle.yp_worker.specs.datagrams.Queues.{weigh}
-use Rattle.yp_worker.specs.inside.Queues.{all_parts, dealt, dealt_all, total, IdleIsEmpty, AreDue, IsFair, Balances, Leaves, TakesOver}
+use Rattle.yp_worker.specs.inside.Queues.{Dealt, dealt, dealt_all, total, IdleIsEmpty, IsReady, AreReady, IsFair, Balances, Leaves, TakesOver}
 
-pub weigh_append : (h : Awaited → ℕ) (xs ys : List Awaited) → weigh h (xs ++ ys) ≡ weigh h xs + weigh h ys
+pub weigh_append : (h : Deferred → ℕ) (xs ys : List Deferred) → weigh h (xs ++ ys) ≡ weigh h xs + weigh h ys
 weigh_append h [] ys = omega arith
 weigh_append h (x ∷ xs) ys = let more = weigh_append h xs ys in omega (arith, more)
 
-due_append : (maps : ℕ) (items : List Awaited) (one : Awaited) → AreDue maps items → IsDue maps one.0 → AreDue maps (items ++ one ∷ [])
-due_append maps [] one due is = (is, tt)
-due_append maps (x ∷ items) one due is = (due.0, due_append maps items one due.1 is)
+ready_append : (maps : ℕ) (items : List Deferred) (one : Deferred) → AreReady maps items → IsReady maps one → AreReady maps (items ++ one ∷ [])
+ready_append maps [] one ready is = (is, tt)
+ready_append maps (x ∷ items) one ready is = (ready.0, ready_append maps items one ready.1 is)
 
 -- ---- the total of one number of each pass
 
@@ -91,10 +89,10 @@ begins maps = record {
   parts = omega arith;
   balanced = λ h. refl;
   idle = idle_first;
-  due = tt;
+  ready = tt;
 }
 
-pub leaves : (maps n seat : ℕ) (v : Dealt) (one : Awaited) → 0 < v.parts → IsDue maps one.0
+pub leaves : (maps n seat : ℕ) (v : Dealt) (one : Deferred) → 0 < v.parts → IsReady maps one
     → Pushes (IsFair maps) n seat v one (Leaves v one)
 leaves maps n seat v one some_part is items views room fair at =
     let w = dealt v.parts (v.left ++ one ∷ []) v.took in (
@@ -107,7 +105,7 @@ leaves maps n seat v one some_part is items views room fair at =
             let b = fair.balanced h in
             omega (arith, s, t, b, weigh_append h v.left (one ∷ []), weigh_append h items (one ∷ []));
         idle = idle_set views seat w (λ none. absurd (omega (arith, some_part, none))) fair.idle;
-        due = due_append maps items one fair.due is;
+        ready = ready_append maps items one fair.ready is;
       },
       refl,
     )
@@ -124,15 +122,15 @@ takes_over maps seat v some_part one items views fair at =
             let b = fair.balanced h in
             omega (arith, s, t, b, weigh_append h v.took (one ∷ []));
         idle = idle_set views seat w (λ none. absurd (omega (arith, some_part, none))) fair.idle;
-        due = fair.due.1;
+        ready = fair.ready.1;
       },
-      (refl, fair.due.0),
+      (refl, fair.ready.0),
     )
 
-weighs_none : (h : Awaited → ℕ) (u : Dealt) → (u.left ≡ []) × (u.took ≡ []) → weigh h u.left ≡ 0
+weighs_none : (h : Deferred → ℕ) (u : Dealt) → (u.left ≡ []) × (u.took ≡ []) → weigh h u.left ≡ 0
 weighs_none h u none = ap (weigh h) none.0
 
-took_none : (h : Awaited → ℕ) (u : Dealt) → (u.left ≡ []) × (u.took ≡ []) → weigh h u.took ≡ 0
+took_none : (h : Deferred → ℕ) (u : Dealt) → (u.left ≡ []) × (u.took ≡ []) → weigh h u.took ≡ 0
 took_none h u none = ap (weigh h) none.1
 
 pub balances : (maps seat : ℕ) (v : Dealt) → Learns (IsFair maps) seat v (Balances v)
@@ -158,7 +156,7 @@ cuts maps seat v more items views fair at =
           omega (arith, s, t, b, total_snoc (λ u. weigh h u.left) now one, total_snoc (λ u. weigh h u.took) now one);
       idle = idle_snoc now one (λ none. (refl, refl))
           (idle_set views seat w (λ none. absurd (omega (arith, more, none))) fair.idle);
-      due = fair.due;
+      ready = fair.ready;
     }
 
 pub joins : (maps seat : ℕ) (v : Dealt) (other : ℕ) (u : Dealt) → 0 < v.parts
@@ -179,5 +177,5 @@ joins maps seat v other u some_part items views fair at apart there =
           omega (arith, s, t, p, q, b, weigh_append h v.left u.left, weigh_append h v.took u.took);
       idle = idle_set now other spent (λ none. (refl, refl))
           (idle_set views seat both (λ none. absurd (omega (arith, some_part, none))) fair.idle);
-      due = fair.due;
+      ready = fair.ready;
     }

@@ -1,35 +1,45 @@
 -- A run of a handler, as turns that a server made.
-use Rattle.std.proofs.Common.{◌⊎◌, ◌≡◌, ◌≤◌, ℕ, suc, List, [], ◌∷◌, ◌++◌, length, Option, Some, None, Result, Ok, Err, inl, inr, refl, sym, ap, subst, ◌∙◌, append_assoc, arith}
-use Rattle.std.specs.Prelude.{IsSome, option_map, option_to_list}
+use Rattle.std.proofs.Common.{◌⊎◌, ◌≡◌, ◌≤◌, ℕ, suc, Bool, true, false, List, [], ◌∷◌, ◌++◌, length, Option, Some, None, Result, Ok, Err, inl, inr, refl, sym, ap, subst, ◌∙◌, append_assoc, arith}
+use Rattle.std.specs.Prelude.{IsSome}
 use Rattle.std.proofs.lemmas.List.{append-nil}
 use Rattle.yp_io.specs.declared.stream.Peer.{Peer}
 use Rattle.yp_io.specs.declared.stream.Failed.{Failed}
-use Rattle.yp_io.specs.Inboxes.{InboxEvent, Arrived, Silent, Sent}
-use Rattle.yp_answer.specs.Transfer.{Taken}
+use Rattle.yp_io.specs.Inboxes.{InboxEvent, Arrived}
 use Rattle.yp_answer.specs.session.Hosts.{Counts, Conduct}
 use Rattle.yp_rpc.specs.Turns.{Meets, drops, listens, replies, is_quiet, Runs, is_spent, is_done, sends, loses_letter, takes, loses_turn, loses_reply, InboxTells, datagram_max, TakesTurns}
 use Rattle.yp_rpc.specs.declared.turns.Ended.{Ended}
 use Rattle.yp_rpc.specs.declared.turns.Ended.TheVariants.{Done, Spent}
 use Rattle.yp_board.specs.Views.{Seen}
 use Rattle.yp_worker.specs.Working.{IsTold}
-use Rattle.yp_worker.specs.datagrams.Mailing.{Awaited, Holding, Mailing, AnswersMail, CarriesAll, Clears, Hears, Closes, held_behind, mail_ways}
-use Rattle.yp_worker.specs.datagrams.Serving.{MailTurn, Dropped, Rested, Answered, reply_posts, posts_in, posts_over, taken_in, taken_over, carried_in, carried_over, counts_all, counts_in, counts_served, DoesTurn, DoesTurns, LosesAnswer, EndsTurns, ServesPosts, ServesMail}
+use Rattle.yp_worker.specs.datagrams.Mailing.{Awaited, Deferred, Call, Holding, Mailing, AnswersMail, CarriesAll, Clears, Hears, Closes, carried_where, left_where, held_behind, mail_ways}
+use Rattle.yp_worker.specs.datagrams.Serving.{MailTurn, Dropped, Rested, Answered, Forwarded, reply_posts, posts_in, posts_over, taken_for, left_in, left_over, counts_all, counts_in, counts_served, DoesTurn, DoesTurns, LosesAnswer, EndsTurns, ServesPosts, ServesMail}
 use Rattle.yp_worker.proofs.datagrams.Answering.{Later, later_then, same}
-use Rattle.yp_worker.proofs.datagrams.Carrying.{behind_twice}
+use Rattle.yp_worker.proofs.datagrams.Carrying.{behind_twice, behind_nothing}
 
 -- ---- what a server holds of the queue
 
-behind_none : (holding : Holding) (a t : List Awaited) → held_behind holding a t ≡ held_behind holding (a ++ []) (t ++ [])
-behind_none holding a t = λ i. held_behind holding (sym (append-nil a) i) (sym (append-nil t) i)
+holding_then : (old mid new : Holding) (a b : List Deferred) → mid ≡ held_behind old a [] → new ≡ held_behind mid b []
+    → new ≡ held_behind old (a ++ b) []
+holding_then old mid new a b first second =
+    second ∙ ap (λ (h : Holding). held_behind h b []) first ∙ behind_twice old a [] b []
 
-holding_then : (old mid next new : Holding) (a t b u : List Awaited) → mid ≡ held_behind old a t → next ≡ mid
-    → new ≡ held_behind next b u → new ≡ held_behind old (a ++ b) (t ++ u)
-holding_then old mid next new a t b u first kept second =
-    second ∙ ap (λ (h : Holding). held_behind h b u) (kept ∙ first) ∙ behind_twice old a t b u
+holding_at_end : (old mid new : Holding) (a : List Deferred) → mid ≡ held_behind old a [] → new ≡ mid
+    → new ≡ held_behind old (a ++ []) []
+holding_at_end old mid new a first kept =
+    kept ∙ first ∙ ap (λ (l : List Deferred). held_behind old l []) (sym (append-nil a))
 
-holding_at_end : (old mid new : Holding) (a t : List Awaited) → mid ≡ held_behind old a t → new ≡ mid
-    → new ≡ held_behind old (a ++ []) (t ++ [])
-holding_at_end old mid new a t first kept = kept ∙ first ∙ behind_none old a t
+-- ---- where no transfer waits
+
+nothing_carried : (is_carried : Bool) → carried_where is_carried None ≡ []
+nothing_carried true = refl
+nothing_carried false = refl
+
+nothing_left : (is_carried : Bool) → left_where is_carried None ≡ []
+nothing_left true = refl
+nothing_left false = refl
+
+idle_left : (is_carried : Bool) (waiting : Option Awaited) → waiting ≡ None → left_where is_carried waiting ≡ []
+idle_left is_carried waiting none = ap (left_where is_carried) none ∙ nothing_left is_carried
 
 module _ {H T : Type 0} (conduct : Conduct H) (counted : H → T) where
   ends_later : (most count : ℕ) (end : Result Ended Failed) (events : List InboxEvent) (old new : H)
@@ -49,21 +59,25 @@ module _ {H T : Type 0} (conduct : Conduct H) (counted : H → T) where
   all_counted (one ∷ more) old new carries =
       all_counted more carries.0 new carries.2 ∙ ap (λ (c : Counts). counts_all c more) carries.1.counted
 
+  idle_ready : (is_carried : Bool) (waiting : Option Awaited) (old new : H) → waiting ≡ None
+      → CarriesAll conduct (carried_where is_carried waiting) old new → new ≡ old
+  idle_ready is_carried waiting old new none carries =
+      none_carried (carried_where is_carried waiting) old new (ap (carried_where is_carried) none ∙ nothing_carried is_carried) carries
+
   -- one turn before others
   before : (most : ℕ) (events : List InboxEvent) (end : Result Ended Failed) (old waiting next new : Mailing H) (one : MailTurn)
-      → Clears conduct old waiting → (later : ServesPosts conduct counted most end events next new)
+      (here : List Deferred) → Clears conduct old waiting → (later : ServesPosts conduct counted most end events next new)
       → DoesTurn conduct counted one waiting.host later.ready
       → conduct.counts later.ready ≡ counts_in (conduct.counts waiting.host) one
-      → next.holding ≡ waiting.holding → option_to_list next.waiting ≡ taken_in one → later.first ≡ carried_in one
+      → next.holding ≡ held_behind waiting.holding here [] → here ++ left_where later.first next.waiting ≡ left_in one
       → ServesPosts conduct counted (suc most) end (posts_in one ++ events) old new
-  before most events end old waiting next new one clears later does counts kept left took =
-      let behind = holding_then old.holding waiting.holding next.holding new.holding
-      (option_to_list old.waiting) clears.took
-      (option_to_list next.waiting ++ taken_over later.served) (later.first ++ carried_over later.served)
-      clears.holding kept later.holding in
+  before most events end old waiting next new one here clears later does counts kept left =
+      let first = left_where clears.is_carried old.waiting in
+      let behind = left_where later.first next.waiting in
+      let in_turns : here ++ (behind ++ left_over later.served) ≡ left_in one ++ left_over later.served =
+      sym (append_assoc here behind (left_over later.served)) ∙ ap (λ (l : List Deferred). l ++ left_over later.served) left in
       record {
-        first = clears.took;
-        idle = clears.idle;
+        first = clears.is_carried;
         ready = waiting.host;
         carries = clears.carries;
         served = one ∷ later.served;
@@ -75,13 +89,9 @@ module _ {H T : Type 0} (conduct : Conduct H) (counted : H → T) where
         all = ap (λ (l : List InboxEvent). posts_in one ++ l) later.all
             ∙ sym (append_assoc (posts_in one) (posts_over later.served) later.rest);
         cleared = later.cleared;
-        holding =
-            subst (λ (l : List Awaited). new.holding ≡ held_behind old.holding
-            (option_to_list old.waiting ++ (l ++ taken_over later.served))
-            (clears.took ++ (carried_in one ++ carried_over later.served))) left
-            (subst (λ (l : List Awaited). new.holding ≡ held_behind old.holding
-            (option_to_list old.waiting ++ (option_to_list next.waiting ++ taken_over later.served))
-            (clears.took ++ (l ++ carried_over later.served))) took behind);
+        holding = holding_then old.holding waiting.holding new.holding first (here ++ (behind ++ left_over later.served)) clears.holding
+            (holding_then waiting.holding next.holding new.holding here (behind ++ left_over later.served) kept later.holding)
+            ∙ ap (λ (l : List Deferred). held_behind old.holding (first ++ l) []) in_turns;
       }
 
   -- a datagram that was heard, before others
@@ -90,48 +100,53 @@ module _ {H T : Type 0} (conduct : Conduct H) (counted : H → T) where
       → Clears conduct old waiting → length bytes ≤ datagram_max → Hears conduct from bytes answer waiting next
       → ServesPosts conduct counted most end events next new
       → ServesPosts conduct counted (suc most) end (Arrived from bytes ∷ reply_posts from answer ++ events) old new
-  heard_before most events end old waiting next new from bytes answer clears short heard later =
+  heard_before most events end old waiting next new from bytes answer clears short (inl heard) later =
       let turn = heard.turn in
-      let idle : turn.taken ≡ None → later.first ≡ [] =
-      λ none. later.idle (heard.waits ∙ ap (λ (t : Option Taken). option_map (λ taken. (taken, from)) t) none) in
-      let whole = before most events end old waiting next new (Answered from turn later.first) clears later (
+      let carries : CarriesAll conduct (carried_where later.first (taken_for from turn)) next.host later.ready =
+      subst (λ (w : Option Awaited). CarriesAll conduct (carried_where later.first w) next.host later.ready) heard.waits later.carries in
+      let whole = before most events end old waiting next new (Answered from turn later.first) [] clears later (
         subst (λ (l : List ℕ). length l ≤ datagram_max) (sym heard.message_is) short,
-        record { mid = next.host; answers = heard.answers; idle = idle; carries = later.carries },
+        record { mid = next.host; answers = heard.answers; carries = carries },
       )
-      (all_counted later.first next.host later.ready later.carries
-      ∙ ap (λ (c : Counts). counts_all c later.first) heard.answers.counts)
-      heard.holding (ap option_to_list heard.waits) refl in
+      (all_counted (carried_where later.first (taken_for from turn)) next.host later.ready carries
+      ∙ ap (λ (c : Counts). counts_all c (carried_where later.first (taken_for from turn))) heard.answers.counts)
+      (heard.holding ∙ behind_nothing waiting.holding) (ap (left_where later.first) heard.waits) in
       subst (λ (l : List ℕ). ServesPosts conduct counted (suc most) end (Arrived from l ∷ reply_posts from answer ++ events) old new) heard.message_is
       (subst (λ (a : Option (List ℕ)). ServesPosts conduct counted (suc most) end (Arrived from turn.message ∷ reply_posts from a ++ events) old new)
       heard.answer_is whole)
+  heard_before most events end old waiting next new from bytes answer clears short (inr forwards) later =
+      let known = (conduct.seen waiting.host).known in
+      let ready = idle_ready later.first next.waiting next.host later.ready forwards.waits later.carries ∙ forwards.host in
+      let whole = before most events end old waiting next new (Forwarded from bytes known) (Call from bytes known ∷ []) clears later
+      (short, record { makes = forwards.makes; known_is = refl; same = ready }) (ap conduct.counts ready) forwards.holding
+      (ap (λ (l : List Deferred). Call from bytes known ∷ l) (idle_left later.first next.waiting forwards.waits)) in
+      subst (λ (a : Option (List ℕ)). ServesPosts conduct counted (suc most) end (Arrived from bytes ∷ reply_posts from a ++ events) old new)
+      (sym forwards.answer_is) whole
 
   met_before : (most : ℕ) (turn : InboxEvent) (answers events : List InboxEvent) (end : Result Ended Failed) (old waiting next new : Mailing H)
       → Clears conduct old waiting → Meets (mail_ways conduct counted) turn answers waiting next
       → ServesPosts conduct counted most end events next new → ServesPosts conduct counted (suc most) end (turn ∷ answers ++ events) old new
   met_before most turn answers events end old waiting next new clears (drops from bytes handler long) later =
-      let none = later.idle clears.cleared in
-      let ready = none_carried later.first waiting.host later.ready none later.carries in
-      before most events end old waiting waiting new (Dropped from bytes) clears later (long, ready) (ap conduct.counts ready)
-      refl (ap option_to_list clears.cleared) none
+      let ready = idle_ready later.first waiting.waiting waiting.host later.ready clears.cleared later.carries in
+      before most events end old waiting waiting new (Dropped from bytes) [] clears later (long, ready) (ap conduct.counts ready)
+      (behind_nothing waiting.holding) (idle_left later.first waiting.waiting clears.cleared)
   met_before most turn answers events end old waiting next new clears (listens from bytes a b short heard) later =
       heard_before most events end old waiting next new from bytes None clears short heard later
   met_before most turn answers events end old waiting next new clears (replies from bytes reply a b short heard) later =
       heard_before most events end old waiting next new from bytes (Some reply) clears short heard later
   met_before most turn answers events end old waiting next new clears (is_quiet a b rests) later =
       let cleared = rests.waiting ∙ clears.cleared in
-      let none = later.idle cleared in
-      let ready = none_carried later.first next.host later.ready none later.carries in
+      let ready = idle_ready later.first next.waiting next.host later.ready cleared later.carries in
       let told = subst (λ (h : H). IsTold conduct counted waiting.host h) (sym ready) rests.told in
-      before most events end old waiting next new Rested clears later told told.counts
-      rests.holding (ap option_to_list cleared) none
+      before most events end old waiting next new Rested [] clears later told told.counts
+      (rests.holding ∙ behind_nothing waiting.holding) (idle_left later.first next.waiting cleared)
 
   -- ---- the ends
 
   none_lost : (left : ℕ) (why : Failed) (old last new : Mailing H) → Clears conduct old last → Closes conduct (Err why) last new
       → ServesPosts conduct counted (suc left) (Err why) [] old new
   none_lost left why old last new clears closes = record {
-    first = clears.took;
-    idle = clears.idle;
+    first = clears.is_carried;
     ready = last.host;
     carries = clears.carries;
     served = [];
@@ -142,16 +157,17 @@ module _ {H T : Type 0} (conduct : Conduct H) (counted : H → T) where
     ends = (omega arith, inl (refl, ap (λ (m : Mailing H). m.host) closes));
     all = refl;
     cleared = ap (λ (m : Mailing H). m.waiting) closes;
-    holding = holding_at_end old.holding last.holding new.holding (option_to_list old.waiting) clears.took
+    holding = holding_at_end old.holding last.holding new.holding (left_where clears.is_carried old.waiting)
         clears.holding (ap (λ (m : Mailing H). m.holding) closes);
   }
 
   reply_lost : (left : ℕ) (turn reply : InboxEvent) (why : Failed) (old waiting last new : Mailing H) → Clears conduct old waiting
       → Meets (mail_ways conduct counted) turn (reply ∷ []) waiting last → Closes conduct (Err why) last new
       → ServesPosts conduct counted (suc left) (Err why) (turn ∷ []) old new
-  reply_lost left turn reply why old waiting last new clears (replies from bytes answer a b short heard) closes = record {
-    first = clears.took;
-    idle = clears.idle;
+  reply_lost left turn reply why old waiting last new clears (replies from bytes answer a b short (inr forwards)) closes =
+      let no : Some answer ≡ None = forwards.answer_is in cc
+  reply_lost left turn reply why old waiting last new clears (replies from bytes answer a b short (inl heard)) closes = record {
+    first = clears.is_carried;
     ready = waiting.host;
     carries = clears.carries;
     served = [];
@@ -172,15 +188,14 @@ module _ {H T : Type 0} (conduct : Conduct H) (counted : H → T) where
     );
     all = refl;
     cleared = ap (λ (m : Mailing H). m.waiting) closes;
-    holding = holding_at_end old.holding waiting.holding new.holding (option_to_list old.waiting) clears.took
+    holding = holding_at_end old.holding waiting.holding new.holding (left_where clears.is_carried old.waiting)
         clears.holding (ap (λ (m : Mailing H). m.holding) closes ∙ heard.holding);
   }
 
   pub served_in : (most : ℕ) (events : List InboxEvent) (end : Result Ended Failed) (old last new : Mailing H)
       → Runs (mail_ways conduct counted) most events end old last → Closes conduct end last new → ServesPosts conduct counted most end events old new
   served_in most events end old last new (is_spent handler) closes = record {
-    first = closes.took;
-    idle = closes.idle;
+    first = closes.is_carried;
     ready = new.host;
     carries = closes.carries;
     served = [];
@@ -191,7 +206,7 @@ module _ {H T : Type 0} (conduct : Conduct H) (counted : H → T) where
     ends = (refl, refl, refl);
     all = refl;
     cleared = closes.cleared;
-    holding = holding_at_end old.holding new.holding new.holding (option_to_list old.waiting) closes.took closes.holding refl;
+    holding = holding_at_end old.holding new.holding new.holding (left_where closes.is_carried old.waiting) closes.holding refl;
   }
   served_in most events end old last new (is_done left a b goes) closes = absurd goes
   served_in most events end old last new (sends left to bytes more w a b c goes runs) closes = absurd goes
@@ -215,11 +230,12 @@ module _ {H T : Type 0} (conduct : Conduct H) (counted : H → T) where
   turn_later (Dropped from bytes) old new does = same conduct old new does.1
   turn_later Rested old new does =
       record { grown = does.learned.grown; catalogue = ap (λ (s : Seen). s.catalogue) does.learned.same }
-  turn_later (Answered from turn behind) old new does =
+  turn_later (Forwarded from message known) old new does = same conduct old new does.1.same
+  turn_later (Answered from turn is_carried) old new does =
       let answered = does.1 in
       later_then (conduct.seen old) (conduct.seen answered.mid) (conduct.seen new)
       (record { grown = answered.answers.grown; catalogue = answered.answers.catalogue })
-      (all_later behind answered.mid new answered.carries)
+      (all_later (carried_where is_carried (taken_for from turn)) answered.mid new answered.carries)
 
   turns_later : (turns : List MailTurn) (old new : H) → DoesTurns conduct counted turns old new
       → Later (conduct.seen old) (conduct.seen new)
@@ -243,7 +259,7 @@ module _ {H T : Type 0} (conduct : Conduct H) (counted : H → T) where
       → ServesPosts conduct counted most end events old new → Later (conduct.seen old.host) (conduct.seen new.host)
   whole_later most end events old new serves =
       later_then (conduct.seen old.host) (conduct.seen serves.ready) (conduct.seen new.host)
-      (all_later serves.first old.host serves.ready serves.carries)
+      (all_later (carried_where serves.first old.waiting) old.host serves.ready serves.carries)
       (later_then (conduct.seen serves.ready) (conduct.seen serves.last) (conduct.seen new.host)
       (turns_later serves.served serves.ready serves.last serves.does)
       (end_later most (length serves.served) end serves.rest serves.last new.host serves.ends))

@@ -1,15 +1,58 @@
--- How a server of datagrams goes on with the queue of transfers.
-use Rattle.std.specs.Prelude.{◌≡◌, List, None}
+-- How servers of datagrams and a carrier go on with the queue between them.
+use Rattle.std.specs.Prelude.{◌≡◌, ◌≤◌, ℕ, Bool, true, false, List, [], ◌++◌, map}
+use Rattle.yp_io.specs.Counts.{HasRisen}
+use Rattle.yp_io.specs.Inboxes.{InboxEvent}
 use Rattle.yp_answer.specs.session.Hosts.{Conduct}
-use Rattle.yp_worker.specs.datagrams.Mailing.{Awaited, Holding, Mailing, CarriesAll, held_behind}
+use Rattle.yp_rpc.specs.Turns.{InboxTells}
+use Rattle.yp_worker.specs.datagrams.Mailing.{Deferred, Holding, held_behind}
+use Rattle.yp_worker.specs.datagrams.Queues.{WeighTheSame}
+use Rattle.yp_worker.specs.datagrams.Carrying.{CarrierStep, TakesCarrierStep, Sends, Delivers, left_for, sent_in}
+use Rattle.yp_worker.specs.inside.Queues.{all_parts}
 
--- a server for which no transfer waits
-abbrev pub resting : {H : Type 0} → H → Holding → Mailing H
-resting host holding = record { host = host; waiting = None; holding = holding }
+-- a carrier: its host, what it holds of the queue, the inbox that it sends replies from, and whether that has failed
+pub record Carrying (I H : Type 0) : Type 0 where
+  pub host : H
+  pub holding : Holding
+  pub inbox : I
+  pub fault : Bool
 
--- A server left these transfers in the queue, and carried out what it took over from there.
-pub record CarriesOn {H : Type 0} (conduct : Conduct H) (left : List Awaited) (old new : Mailing H) : Type 0 where
-  pub took : List Awaited
-  pub carries : CarriesAll conduct took old.host new.host
-  pub waiting : new.waiting ≡ old.waiting
-  pub holding : new.holding ≡ held_behind old.holding left took
+-- a carrier before its first step
+abbrev pub carrier_of : {I H : Type 0} → H → Holding → I → Carrying I H
+carrier_of host holding inbox = record { host = host; holding = holding; inbox = inbox; fault = false }
+
+-- A count of faults never falls, and a fault of an inbox is found only where it rises.
+pub record FaultsRise {I : Type 0} (faults : I → ℕ) (before after : Bool) (old new : I) : Type 0 where
+  pub never_fall : faults old ≤ faults new
+  pub risen : before ≡ false → after ≡ true → HasRisen (faults old) (faults new)
+
+-- what is sent where an inbox hasn't failed
+abbrev pub sent_unless : Bool → List InboxEvent → List InboxEvent
+sent_unless true posts = []
+sent_unless false posts = posts
+
+-- What was left was done by a host, and a reply to it was sent, unless the inbox had failed or fails at that.
+pub record DoesLeft {I H T : Type 0} (conduct : Conduct H) (counted : H → T) (box : I → InboxTells) (faults : I → ℕ)
+    (left : Deferred) (before after : Bool) (old new : H) (inbox inbox' : I) : Type 0 where
+  pub step : CarrierStep
+  pub step_is : left_for step ≡ left
+  pub takes : TakesCarrierStep conduct counted step old new
+  pub sends : Sends (sent_unless after (sent_in step)) (box inbox) (box inbox')
+  pub ended : before ≡ true → after ≡ true
+  pub cause : FaultsRise faults before after inbox inbox'
+
+-- A carrier took over these from the queue and did what was left. Where its inbox has failed it sends no more.
+pub record CarriesOn {I H T : Type 0} (conduct : Conduct H) (counted : H → T) (box : I → InboxTells) (faults : I → ℕ)
+    (old new : Carrying I H) : Type 0 where
+  pub steps : List CarrierStep
+  pub unsent : List CarrierStep
+  pub delivers : Delivers conduct counted steps unsent new.fault old.host new.host (box old.inbox) (box new.inbox)
+  pub ended : old.fault ≡ true → (steps ≡ []) × (new.fault ≡ true)
+  pub cause : FaultsRise faults old.fault new.fault old.inbox new.inbox
+  pub holding : new.holding ≡ held_behind old.holding [] (map left_for (steps ++ unsent))
+
+-- A carrier did what still waited in the queue. Where it has all parts, what was left there is what was taken over from
+-- there and done.
+pub record CarriesRest {I H T : Type 0} (conduct : Conduct H) (counted : H → T) (box : I → InboxTells)
+    (faults : I → ℕ) (old new : Carrying I H) : Type 0 where
+  pub carries : CarriesOn conduct counted box faults old new
+  pub all : old.holding.parts ≡ all_parts → WeighTheSame new.holding.left new.holding.took

@@ -1,16 +1,17 @@
-//! How the one who carries out transfers is told of those that come.
+//! How a carrier is told of what comes for it.
 
 use std::sync::{Condvar, Mutex, Wait};
 
-/// How often something was told, and how many servers may still leave a transfer.
+/// How often something was told, how many servers may still leave something, and whether a carrier attends.
 #[derive(Drop)]
 struct Tellings {
     told: u64,
     servers: u64,
+    is_attended: bool,
 }
 
-/// Where servers tell that a transfer came or that they have ended, and where the one who carries out transfers waits
-/// for that. No clause says that it wakes.
+/// Where servers tell that they left something or that they have ended, and where the carrier waits for that. No clause
+/// says that it wakes.
 #[derive(Drop)]
 pub(crate) struct Arrivals {
     tellings: Mutex<Tellings>,
@@ -18,35 +19,49 @@ pub(crate) struct Arrivals {
 }
 
 impl Arrivals {
-    /// Nothing was told yet, and so many servers may leave transfers.
+    /// Nothing was told yet, no carrier attends, and so many servers may leave something.
     pub(crate) fn new(servers: u64) -> Arrivals {
         Arrivals {
-            tellings: Mutex::new(Tellings { told: 0, servers }),
+            tellings: Mutex::new(Tellings {
+                told: 0,
+                servers,
+                is_attended: false,
+            }),
             changed: Condvar::new(),
         }
     }
 
-    /// Tells that a transfer came.
+    /// Tells that something came.
     pub(crate) fn tell<R: Wait>(&self, rt: &R) {
         let mut tellings = self.tellings.lock(rt);
         tellings.told = tellings.told.wrapping_add(1);
         self.changed.notify_all();
     }
 
-    /// Tells that a server has ended, and leaves no transfer any more.
+    /// Tells that a server has ended, and leaves nothing any more.
     pub(crate) fn end<R: Wait>(&self, rt: &R) {
         let mut tellings = self.tellings.lock(rt);
         tellings.servers = tellings.servers.saturating_sub(1);
         self.changed.notify_all();
     }
 
-    /// How often it was told that a transfer came, for one who looks for it then.
+    /// Tells that a carrier attends from now on.
+    pub(crate) fn attend<R: Wait>(&self, rt: &R) {
+        self.tellings.lock(rt).is_attended = true;
+    }
+
+    /// Whether a carrier attends.
+    pub(crate) fn is_attended<R: Wait>(&self, rt: &R) -> bool {
+        self.tellings.lock(rt).is_attended
+    }
+
+    /// How often it was told that something came, for one who looks for it then.
     pub(crate) fn told<R: Wait>(&self, rt: &R) -> u64 {
         self.tellings.lock(rt).told
     }
 
-    /// Waits until a transfer came since it was told so often, or until all servers have ended, and answers whether one
-    /// came.
+    /// Waits until something came since it was told so often, or until all servers have ended, and answers whether
+    /// something came.
     pub(crate) fn wait_past<R: Wait>(&self, rt: &R, seen: u64) -> bool {
         let tellings = self
             .changed

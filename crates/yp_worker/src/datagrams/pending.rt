@@ -1,31 +1,37 @@
-//! Transfers that datagrams took, until a server carries them out.
+//! What servers of datagrams leave, until a carrier does it.
 
 ghost use Rattle.std.specs.Prelude.{◌≡◌, ◌+◌, ◌<◌, ◌≤◌, [], ◌∷◌, length, IfOk, IfSome, IfNone, MatchResult};
-ghost use Rattle.yp_answer.specs.inside.session.Errands.{IsDue};
 ghost use Rattle.yp_worker.specs.datagrams.Mailing.{held_behind, nothing_held};
 ghost use Rattle.yp_worker.specs.datagrams.Queues.{WeighTheSame};
-ghost use Rattle.yp_worker.specs.inside.Queues.{all_parts};
+ghost use Rattle.yp_worker.specs.inside.Queues.{IsReady, all_parts};
 
+use crate::Known;
 use crate::datagrams::arrivals::Arrivals;
+use crate::datagrams::deferred::Deferred;
 use crossbeam_queue::protocol::{Join, Lesson, Outcome, Protocol, Split};
 use crossbeam_queue::{Pass, RuledArrayQueue};
 use std::alloc::Global;
-use std::collections::LinkedList;
 use std::marker::{Model, PhantomData};
 use std::sync::Wait;
-use yp_answer::session::Errand;
-use yp_io::{NoMemory, Peer};
+use yp_io::NoMemory;
 use yp_publisher::sharing::Site;
 
-/// The most transfers that wait.
+/// The most that waits.
 const PENDING_MAX: usize = 64;
 
-/// What a server left in a queue and took over from there, and its parts of the right to know the whole. No value of it
-/// is made.
+/// What a pass knows: its parts of the right to know the whole of the queue, what was left through it, and what was
+/// taken over through it. It stands in contracts alone, and no value of it is made.
 pub struct Dealt {
-    pub parts: u64,
-    pub left: LinkedList<(Errand, Peer)>,
-    pub took: LinkedList<(Errand, Peer)>,
+    parts: u64,
+}
+
+impl Model for Dealt {
+    ghost use Rattle.std.specs.Prelude.{[]};
+    ghost use Rattle.yp_worker.specs.inside.Queues.{Dealt, dealt};
+
+    ghost Value = { Dealt };
+
+    ghost view = { λ d. dealt d.parts [] [] };
 }
 
 /// The rule of the queue: what was left there is what was taken over from there and what waits.
@@ -33,7 +39,7 @@ pub struct Fair<J> {
     site: PhantomData<J>,
 }
 
-impl<J: Site> Protocol<(Errand, Peer), Dealt> for Fair<J> {
+impl<J: Site, F: Known> Protocol<Deferred<F>, Dealt> for Fair<J> {
     ghost use Rattle.std.specs.Prelude.{length};
     ghost use Rattle.yp_worker.specs.inside.Queues.{IsFair, dealt_all};
 
@@ -63,46 +69,47 @@ impl Join<Dealt> for Parts {
     ghost spent = { dealt 0 [] [] };
 }
 
-/// A transfer is left.
+/// One more is left.
 struct Leaving;
 
-impl Outcome<(Errand, Peer), Dealt> for Leaving {
+impl<F: Known> Outcome<Deferred<F>, Dealt> for Leaving {
     ghost use Rattle.yp_worker.specs.inside.Queues.{Leaves};
 
     ghost then = { Leaves };
 }
 
-impl Lesson<(Errand, Peer), Dealt> for Leaving {
+impl<F: Known> Lesson<Deferred<F>, Dealt> for Leaving {
     ghost use Rattle.std.specs.Prelude.{⊤};
 
     ghost fact = { λ v items. ⊤ };
 }
 
-/// A transfer is taken over.
+/// One is taken over.
 struct TakingOver<J> {
     site: PhantomData<J>,
 }
 
-impl<J: Site> Outcome<(Errand, Peer), Dealt> for TakingOver<J> {
+impl<J: Site, F: Known> Outcome<Deferred<F>, Dealt> for TakingOver<J> {
     ghost use Rattle.std.specs.Prelude.{length};
     ghost use Rattle.yp_worker.specs.inside.Queues.{TakesOver};
 
     ghost then = { TakesOver (length J.catalogue.maps) };
 }
 
-impl<J: Site> Lesson<(Errand, Peer), Dealt> for TakingOver<J> {
+impl<J: Site, F: Known> Lesson<Deferred<F>, Dealt> for TakingOver<J> {
     ghost use Rattle.yp_worker.specs.inside.Queues.{Balances};
 
     ghost fact = { Balances };
 }
 
-/// What a server holds of the queue: its parts, for contracts alone, and what it left there and took over from there.
+/// What a server or a carrier holds of the queue: its parts, what it left there, and what it took over from there, for
+/// contracts alone.
 #[derive(Drop)]
-pub struct TransferPass {
-    pass: Pass<(Errand, Peer), Dealt>,
+pub struct DeferredPass<F: Known> {
+    pass: Pass<Deferred<F>, Dealt>,
 }
 
-impl Model for TransferPass {
+impl<F: Known> Model for DeferredPass<F> {
     ghost use Rattle.std.specs.Prelude.{◌≡◌, ◌<◌, []};
     ghost use Rattle.crossbeam_queue.specs.Passes.{view as known};
     ghost use Rattle.yp_worker.specs.datagrams.Mailing.{Holding};
@@ -119,17 +126,17 @@ impl Model for TransferPass {
     ghost invariant = { λ p. (0 < (known p.pass).parts) × (p.pass.me.1 ≡ []) };
 }
 
-/// The transfers that datagrams took and that no host has carried out yet, oldest first, which the servers of datagrams
-/// leave for the one who carries them out, and where that one is told of them.
+/// What servers of datagrams left for a carrier and that isn't done yet, oldest first, and where the carrier is told of
+/// that: transfers that datagrams took, and calls for which a map may have to be made.
 ///
 /// It is seen as the name of the queue.
 #[derive(Drop)]
-pub struct PendingTransfers<J: Site> {
-    queue: RuledArrayQueue<(Errand, Peer), Dealt, Fair<J>>,
+pub struct DeferredQueue<J: Site, F: Known> {
+    queue: RuledArrayQueue<Deferred<F>, Dealt, Fair<J>>,
     arrivals: Arrivals,
 }
 
-impl<J: Site> Model for PendingTransfers<J> {
+impl<J: Site, F: Known> Model for DeferredQueue<J, F> {
     ghost use Rattle.atomic_table.specs.Seated.{TableId};
 
     ghost Value = { TableId };
@@ -137,82 +144,93 @@ impl<J: Site> Model for PendingTransfers<J> {
     ghost view = { λ p. p.queue.table.shared.table_id };
 }
 
-impl<J: Site> PendingTransfers<J> {
+impl<J: Site, F: Known> DeferredQueue<J, F> {
     /// An empty queue, and all parts of it, for so many servers of datagrams. It takes all its memory.
-    pub fn new(alloc: Global, servers: u64) -> Result<(PendingTransfers<J>, TransferPass), NoMemory>
+    pub fn new(
+        alloc: Global,
+        servers: u64,
+    ) -> Result<(DeferredQueue<J, F>, DeferredPass<F>), NoMemory>
         ensures { IfOk result (λ made. made.1 ≡ nothing_held made.0 all_parts) }
     {
         let (queue, pass) = RuledArrayQueue::ruled(alloc, PENDING_MAX).map_err(|_| NoMemory)?;
-        let pending = PendingTransfers {
+        let pending = DeferredQueue {
             queue,
             arrivals: Arrivals::new(servers),
         };
-        Ok((pending, TransferPass { pass }))
+        Ok((pending, DeferredPass { pass }))
     }
 
-    /// One part, of a server that has left nothing yet.
-    pub fn split_off(&self, pass: &mut TransferPass) -> TransferPass
+    /// One part, for a server that has left nothing yet.
+    pub fn split_off(&self, pass: &mut DeferredPass<F>) -> DeferredPass<F>
         requires queue { pass.old.queue ≡ self.now }
         requires some { 1 < pass.old.parts }
         ensures one { result ≡ nothing_held self.now 1 }
         ensures parts { pass.new.parts + 1 ≡ pass.old.parts }
         ensures same { pass.new ≡ record pass.old { parts = pass.new.parts } }
     {
-        TransferPass {
+        DeferredPass {
             pass: self.queue.another::<Parts>(&mut pass.pass),
         }
     }
 
-    /// Takes in what another server holds, once that has ended.
-    pub fn merge(&self, pass: &mut TransferPass, other: TransferPass)
+    /// Takes in what another holds, once that has ended.
+    pub(crate) fn merge(&self, pass: &mut DeferredPass<F>, other: DeferredPass<F>)
         requires queue { (pass.old.queue ≡ self.now) × (other.queue ≡ self.now) }
         ensures parts { pass.new.parts ≡ pass.old.parts + other.parts }
         ensures same { pass.new ≡ record (held_behind pass.old other.left other.took) { parts = pass.new.parts } }
     {
-        let TransferPass { pass: other } = other;
+        let DeferredPass { pass: other } = other;
         self.queue.absorb::<Parts>(&mut pass.pass, other);
     }
 
-    /// Leaves a transfer in the queue, and wakes the one who carries out what is there. Where there is no room, the
-    /// transfer comes back.
+    /// Leaves one more in the queue, and wakes the carrier. Where there is no room, it comes back.
     pub(crate) fn leave<R: Wait>(
         &self,
         rt: &R,
-        pass: &mut TransferPass,
-        transfer: (Errand, Peer),
-    ) -> Result<(), (Errand, Peer)>
+        pass: &mut DeferredPass<F>,
+        one: Deferred<F>,
+    ) -> Result<(), Deferred<F>>
         requires queue { pass.old.queue ≡ self.now }
-        requires due { IsDue (length J.catalogue.maps) transfer.0 }
-        ensures { MatchResult result (λ _. pass.new ≡ held_behind pass.old (transfer ∷ []) [])
-            (λ back. (back ≡ transfer) × (pass.new ≡ pass.old)) }
+        requires ready { IsReady (length J.catalogue.maps) one }
+        ensures { MatchResult result (λ _. pass.new ≡ held_behind pass.old (one ∷ []) [])
+            (λ back. (back ≡ one) × (pass.new ≡ pass.old)) }
     {
-        self.queue
-            .push_as::<Leaving, R>(rt, &mut pass.pass, transfer)?;
+        self.queue.push_as::<Leaving, R>(rt, &mut pass.pass, one)?;
         self.arrivals.tell(rt);
         Ok(())
     }
 
-    /// Tells that a server of datagrams has ended, and leaves no transfer any more.
+    /// Tells that a server of datagrams has ended, and leaves nothing any more.
     pub(crate) fn end<R: Wait>(&self, rt: &R) {
         self.arrivals.end(rt);
     }
 
-    /// How often a transfer was left, for one who looks for it then.
+    /// Tells that a carrier attends from now on.
+    pub(crate) fn attend<R: Wait>(&self, rt: &R) {
+        self.arrivals.attend(rt);
+    }
+
+    /// Whether a carrier attends. Where none does, what is left waits until all servers have ended.
+    pub(crate) fn is_attended<R: Wait>(&self, rt: &R) -> bool {
+        self.arrivals.is_attended(rt)
+    }
+
+    /// How often something was left, for one who looks for it then.
     pub(crate) fn told<R: Wait>(&self, rt: &R) -> u64 {
         self.arrivals.told(rt)
     }
 
-    /// Waits until a transfer was left since so many were, or until all servers have ended, and answers whether one
+    /// Waits until something was left since so much was, or until all servers have ended, and answers whether something
     /// was.
     pub(crate) fn wait_past<R: Wait>(&self, rt: &R, seen: u64) -> bool {
         self.arrivals.wait_past(rt, seen)
     }
 
-    /// Takes over the transfer that has waited longest, where one waits.
-    pub(crate) fn oldest<R: Wait>(&self, rt: &R, pass: &mut TransferPass) -> Option<(Errand, Peer)>
+    /// Takes over what has waited longest, where something waits.
+    pub(crate) fn oldest<R: Wait>(&self, rt: &R, pass: &mut DeferredPass<F>) -> Option<Deferred<F>>
         requires queue { pass.old.queue ≡ self.now }
         ensures one { IfSome result (λ one. (pass.new ≡ held_behind pass.old [] (one ∷ []))
-            × IsDue (length J.catalogue.maps) one.0) }
+            × IsReady (length J.catalogue.maps) one) }
         ensures none { IfNone result (pass.new ≡ pass.old) }
         ensures all { IfNone result (pass.old.parts ≡ all_parts → WeighTheSame pass.old.left pass.old.took) }
     {

@@ -1,43 +1,75 @@
 //! A server of datagrams, as what its turns change.
 
-ghost use Rattle.std.specs.Prelude.{◌≡◌, ◌+◌, ℕ, ◌≤◌, [], ◌∷◌, None, false, length, option_map, IfSome};
-ghost use Rattle.yp_answer.specs.declared.procedure.Path.TheVariants as paths;
+ghost use Rattle.std.specs.Prelude.{◌≡◌, ◌≤◌, [], None, Some, true, false, length};
 ghost use Rattle.yp_answer.specs.inside.session.Errands.{IsDue};
-ghost use Rattle.yp_answer.specs.session.Hosts.{Turn, Link};
 ghost use Rattle.yp_answer.specs.inside.session.Hosts.{conduct_by};
 ghost use Rattle.yp_rpc.specs.Turns.{datagram_max};
 ghost use Rattle.yp_rpc.specs.inside.Turns.{reply_of};
-ghost use Rattle.yp_worker.specs.datagrams.Mailing.{Clears, Goes, Hears, Rests, held_behind};
-ghost use Rattle.yp_worker.specs.datagrams.Queues.{WeighTheSame};
-ghost use Rattle.yp_worker.specs.inside.Queues.{CarriesRest, all_parts};
-ghost use Rattle.yp_worker.specs.inside.Mailing.{CarriesOn};
+ghost use Rattle.yp_worker.specs.datagrams.Mailing.{Answers, CarriesAll, Clears, Forwards, Goes, Hears, Rests};
+ghost use Rattle.yp_worker.specs.datagrams.Mailing.{carried_where, held_behind, left_where};
 
-use crate::CatchUp;
-use crate::datagrams::carrier::carry_oldest;
-use crate::datagrams::pending::{PendingTransfers, TransferPass};
+use crate::datagrams::deferred::{Deferred, Work};
+use crate::datagrams::pending::{DeferredPass, DeferredQueue};
+use crate::datagrams::reply::reply_to;
+use crate::{HandsOver, Known};
+use std::alloc::Global;
 use std::marker::Model;
 use std::sync::Wait;
-use yp_answer::session::{Errand, Host};
-use yp_answer::{Answered, answer_datagram, make_reply};
+use yp_answer::Path;
+use yp_answer::session::{Errand, may_make};
+use yp_board::View;
 use yp_io::Peer;
 use yp_publisher::sharing::Site;
 use yp_rpc::{Handler, Wish};
 
+/// Leaves a transfer in the queue, for a carrier, or has the host carry it out where there is no room, and answers
+/// whether that did.
+fn leave_or_carry_out<J: Site, H: HandsOver, R: Wait>(
+    rt: &R,
+    pending: &DeferredQueue<J, H::Front>,
+    pass: &mut DeferredPass<H::Front>,
+    host: &mut H,
+    transfer: (Errand, Peer),
+) -> bool
+    requires queue { pass.old.queue ≡ pending.now }
+    requires catalogue { (H.seen host.old).catalogue ≡ J.catalogue }
+    requires due { IsDue (length J.catalogue.maps) transfer.0 }
+    ensures carries { CarriesAll (conduct_by H.Host) (carried_where result (Some transfer)) host.old host.new }
+    ensures catalogue { (H.seen host.new).catalogue ≡ J.catalogue }
+    ensures left { pass.new ≡ held_behind pass.old (left_where result (Some transfer)) [] }
+{
+    let (errand, peer) = transfer;
+    match pending.leave(rt, pass, Deferred::of_transfer(errand, peer)) {
+        Ok(()) => false,
+        Err(back) => match back.into_work() {
+            Work::Transfer { errand, peer } => {
+                host.transfer(&errand.job(), peer);
+                true
+            }
+            Work::Call { .. } => unreachable!(),
+        },
+    }
+}
+
 /// A host that answers datagrams. It takes no memory for that. A transfer that it took waits until the next turn is
-/// wanted, when the reply is out. Then it is left in a queue, for a carrier. What still waits where a datagram is heard
-/// is dropped.
+/// wanted, when the reply is out. Then it is left in a queue, for a carrier, and where there is no room it is carried
+/// out at once. What still waits where a datagram is heard is dropped.
+///
+/// A call for which a map may have to be made is left in the queue in place of a reply, so that it holds up no other.
+/// Where there is no carrier, no room or no memory for that, it is answered as any other is.
 ///
 /// It is seen as its host, the transfer that waits, and what it holds of the queue.
 #[derive(Drop)]
-pub struct MailServer<'a, J: Site, H: CatchUp, R> {
+pub struct MailServer<'a, J: Site, H: View, F: Known, R> {
+    alloc: Global,
     host: H,
     waiting: Option<(Errand, Peer)>,
-    pending: &'a PendingTransfers<J>,
-    pass: TransferPass,
+    pending: &'a DeferredQueue<J, F>,
+    pass: DeferredPass<F>,
     rt: &'a R,
 }
 
-impl<'a, J: Site, H: CatchUp, R> Model for MailServer<'a, J, H, R> {
+impl<'a, J: Site, H: View, F: Known, R> Model for MailServer<'a, J, H, F, R> {
     ghost use Rattle.std.specs.Prelude.{◌≡◌, ◌<◌, length, IfSome};
     ghost use Rattle.yp_answer.specs.inside.session.Errands.{IsDue};
     ghost use Rattle.yp_worker.specs.datagrams.Mailing.{Mailing};
@@ -50,19 +82,21 @@ impl<'a, J: Site, H: CatchUp, R> Model for MailServer<'a, J, H, R> {
         × IfSome s.waiting (λ awaited. IsDue (length J.catalogue.maps) awaited.0) };
 }
 
-impl<'a, J: Site, H: CatchUp, R: Wait> MailServer<'a, J, H, R> {
+impl<'a, J: Site, F: Known, H: HandsOver<Front = F>, R: Wait> MailServer<'a, J, H, F, R> {
     /// A server with this host, for which no transfer waits.
     pub fn new(
+        alloc: Global,
         host: H,
-        pending: &'a PendingTransfers<J>,
-        pass: TransferPass,
+        pending: &'a DeferredQueue<J, F>,
+        pass: DeferredPass<F>,
         rt: &'a R,
-    ) -> MailServer<'a, J, H, R>
+    ) -> MailServer<'a, J, H, F, R>
         requires catalogue { (H.seen host).catalogue ≡ J.catalogue }
         requires queue { pass.queue ≡ pending.now }
         ensures { result ≡ record { host = host; waiting = None; holding = pass } }
     {
         MailServer {
+            alloc,
             host,
             waiting: None,
             pending,
@@ -72,11 +106,12 @@ impl<'a, J: Site, H: CatchUp, R: Wait> MailServer<'a, J, H, R> {
     }
 
     /// The host, and what the server held of the queue.
-    pub fn into_parts(self) -> (H, TransferPass)
+    pub fn into_parts(self) -> (H, DeferredPass<F>)
         ensures host { result.0 ≡ self.entry.host }
         ensures pass { result.1 ≡ self.entry.holding }
     {
         let MailServer {
+            alloc: _,
             host,
             waiting: _,
             pending: _,
@@ -86,71 +121,63 @@ impl<'a, J: Site, H: CatchUp, R: Wait> MailServer<'a, J, H, R> {
         (host, pass)
     }
 
-    /// Leaves the transfer that waits in the queue, for the one who carries out what is there.
+    /// Leaves the transfer that waits in the queue, for a carrier, or carries it out where there is no room.
     pub(crate) fn carry_out(&mut self)
         ensures { Clears (conduct_by H.Host) self.old self.new }
     {
         let Some(transfer) = self.waiting.take() else {
             return;
         };
-        self.leave(transfer);
+        leave_or_carry_out(
+            self.rt,
+            self.pending,
+            &mut self.pass,
+            &mut self.host,
+            transfer,
+        );
     }
 
-    /// Leaves a transfer in the queue. While there is no room it carries out the one that has waited longest.
-    fn leave(&mut self, transfer: (Errand, Peer))
-        requires due { IsDue (length J.catalogue.maps) transfer.0 }
-        ensures { CarriesOn (conduct_by H.Host) (transfer ∷ []) self.old self.new }
+    /// Leaves a call of a peer in the queue, for a carrier, with what the host knows, where a map may have to be made
+    /// for it, and answers whether it did.
+    fn forward(&mut self, from: Peer, mail: &[u8]) -> bool
+        requires short { length mail.now ≤ datagram_max }
+        ensures forwards { result ≡ true → Forwards (conduct_by H.Host) from mail.now None self.old self.new }
+        ensures same { result ≡ false → self.new ≡ self.old }
     {
-        let mut transfer = transfer;
-        let rt = self.rt;
-        for _ in rt.forever() {
-            match self.pending.leave(rt, &mut self.pass, transfer) {
-                Ok(()) => return,
-                Err(back) => transfer = back,
-            }
-            self.carry_oldest();
+        if !may_make(&Path::Datagram, from, mail) {
+            return false;
         }
-        unreachable!()
+        if !self.pending.is_attended(self.rt) {
+            return false;
+        }
+        let Ok(message) = mail.to_vec(self.alloc) else {
+            return false;
+        };
+        let Ok(front) = self.host.front() else {
+            return false;
+        };
+        let call = Deferred::of_call(from, message, front);
+        let Ok(()) = self.pending.leave(self.rt, &mut self.pass, call) else {
+            return false;
+        };
+        self.waiting = None;
+        true
     }
 
-    /// Carries out the transfer that has waited longest, where one waits, and answers whether one did.
-    fn carry_oldest(&mut self) -> bool
-        ensures carries { CarriesOn (conduct_by H.Host) [] self.old self.new }
-        ensures all { result ≡ false → self.old.holding.parts ≡ all_parts
-            → WeighTheSame self.new.holding.left self.new.holding.took }
+    /// Puts the reply to a datagram of a peer at the front of the buffer, and answers its length, or 0 for silence.
+    fn answer(&mut self, from: Peer, mail: &[u8], buf: &mut [u8]) -> usize
+        requires buf { datagram_max ≤ length buf.old }
+        ensures within { result ≤ length buf.new }
+        ensures answers { Answers (conduct_by H.Host) from mail.now (reply_of result buf.new) self.old self.new }
     {
-        carry_oldest(self.rt, self.pending, &mut self.pass, &mut self.host)
+        let (len, waiting) = reply_to(&mut self.host, mail, from, buf);
+        self.waiting = waiting;
+        len
     }
 
-    /// Tells the one who carries out transfers that this server leaves none any more.
+    /// Tells the carrier that this server leaves nothing any more.
     pub fn end(&self) {
         self.pending.end(self.rt);
-    }
-
-    /// Takes in what another server of the queue holds, once that has ended.
-    pub fn merge(&mut self, other: TransferPass)
-        requires queue { other.queue ≡ self.old.holding.queue }
-        ensures same { self.new ≡ record self.old { holding = self.new.holding } }
-        ensures parts { self.new.holding.parts ≡ self.old.holding.parts + other.parts }
-        ensures holding { self.new.holding ≡ record (held_behind self.old.holding other.left other.took) {
-          parts = self.new.holding.parts;
-        } }
-    {
-        self.pending.merge(&mut self.pass, other);
-    }
-
-    /// Carries out what still waits in the queue, once all other servers have ended and been taken in. All that was
-    /// left there was carried out then.
-    pub fn carry_rest(&mut self)
-        ensures { CarriesRest (conduct_by H.Host) self.old self.new }
-    {
-        let rt = self.rt;
-        for _ in rt.forever() {
-            if !self.carry_oldest() {
-                return;
-            }
-        }
-        unreachable!()
     }
 
     /// Drops what waits.
@@ -161,39 +188,8 @@ impl<'a, J: Site, H: CatchUp, R: Wait> MailServer<'a, J, H, R> {
     }
 }
 
-/// Puts the reply to a datagram at the front of the buffer. It answers its length, or 0 for silence, and the transfer
-/// that it took.
-fn reply_to<H: Host>(
-    host: &mut H,
-    mail: &[u8],
-    peer: Peer,
-    buf: &mut [u8],
-) -> (usize, Option<(Errand, Peer)>)
-    requires { datagram_max ≤ length buf.old }
-    ensures replied { (turn : Turn) × (turn.message ≡ mail.now) × (turn.answer ≡ reply_of result.0 buf.new)
-        × (turn.flushed ≡ false) × (result.1 ≡ option_map (λ taken. (taken, peer)) turn.taken)
-        × Link (conduct_by H.Host) paths.Datagram peer turn host.old host.new }
-    ensures within { result.0 ≤ length buf.new }
-    ensures due { IfSome result.1 (λ awaited. IsDue (length (H.seen host.new).catalogue.maps) awaited.0) }
-{
-    match answer_datagram(host, mail, peer, buf) {
-        Answered::Silent => (0, None),
-        Answered::Reply { len } => {
-            host.replied(peer, mail, &buf[..len]);
-            (len, None)
-        }
-        Answered::Transfer { len, job } => (len, Some((Errand::new(&job), peer))),
-        Answered::Make { xid, job } => {
-            let stat = host.make(job);
-            let len = make_reply(buf, xid, stat);
-            host.replied(peer, mail, &buf[..len]);
-            (len, None)
-        }
-        Answered::Stream(_) => unreachable!(),
-    }
-}
-
-impl<'a, J: Site, H: CatchUp, R: Wait> Handler for MailServer<'a, J, H, R> {
+impl<'a, J: Site, F: Known, H: HandsOver<Front = F>, R: Wait> Handler
+    for MailServer<'a, J, H, F, R> {
     ghost goes = { Goes (conduct_by H.Host) };
 
     ghost hears = { Hears (conduct_by H.Host) };
@@ -208,9 +204,10 @@ impl<'a, J: Site, H: CatchUp, R: Wait> Handler for MailServer<'a, J, H, R> {
     }
 
     fn hear(&mut self, from: Peer, mail: &[u8], buf: &mut [u8]) -> usize {
-        let (len, waiting) = reply_to(&mut self.host, mail, from, buf);
-        self.waiting = waiting;
-        len
+        if self.forward(from, mail) {
+            return 0;
+        }
+        self.answer(from, mail, buf)
     }
 
     fn rest(&mut self) {

@@ -1,22 +1,17 @@
-use Rattle.std.proofs.Common.{◌≡◌, ◌+◌, ◌-◌, ◌<◌, ◌≤◌, ◌++◌, length, take}
-use Rattle.yp_rpc.specs.Records.{joined}
-use Rattle.yp_answer.specs.inside.Streams.{item_parts, between}
+use Rattle.std.proofs.Common.{◌≡◌, ◌+◌, ◌-◌, ◌<◌, ◌≤◌, length}
+use Rattle.yp_answer.specs.inside.Streams.{PutsParts, item_parts, rows_in}
 use Rattle.yp_version.specs.Limits.{rows_max}
 use Rattle.yp_answer.specs.inside.Items.{items_view}
+use Rattle.yp_answer.specs.declared.stream.TheConstants.{ITEM_MAX}
 use Rattle.yp_answer.proofs.stream.put_items.Given as goal
 
 abbrev pub invariant-loop-item : goal.invariant-loop-item
 invariant-loop-item l =
-    let parts = item_parts (items_view l.items) in
+    let items = items_view l.items in
     record {
-      put : take l.end l.buf ≡ take l.at l.initial.buf ++ joined (between l.first l.next parts);
-      within : l.end ≤ length l.buf;
-      forward : l.first ≤ l.next;
-      later : l.at ≤ l.end;
-      starts : l.next ≡ l.first → l.end ≡ l.at;
-      moved : l.first < l.next → l.at < l.end;
-      inside : l.first < l.next → l.next ≤ length parts;
+      puts : PutsParts (item_parts items) l.first l.next l.at l.end l.fn.buf l.buf;
       few : l.first < l.next → l.next ≤ rows_max + 1;
+      some : l.first < rows_in items → l.at + ITEM_MAX ≤ length l.fn.buf → l.at < l.end;
     }
 
 abbrev pub decreases-loop-item : goal.decreases-loop-item

@@ -1,33 +1,10 @@
--- Which records may have a map made for them.
-use Rattle.std.specs.Prelude.{◌≡◌, ℕ, ◌&&◌, Bool, true, false, List, ◌++◌}
-use Rattle.std.specs.Prelude.{bytes_eq}
+-- Records for which a map may be made.
+use Rattle.std.specs.Prelude.{◌≡◌, ℕ, true, List, ◌++◌}
 use Rattle.yp_io.specs.declared.stream.Peer.{Peer}
-use Rattle.yp_io.specs.Peers.{own_host}
-use Rattle.yp_rpc.specs.Judging.{judged}
 use Rattle.yp_rpc.specs.Records.{Fragments}
-use Rattle.yp_rpc.specs.declared.judging.Judged.{Judged}
-use Rattle.yp_rpc.specs.declared.judging.Judged.TheVariants.{Ignored, Refused, Admitted}
 use Rattle.yp_answer.specs.Numbers.{record_max}
-use Rattle.yp_answer.specs.Procedures.{programs_on}
 use Rattle.yp_answer.specs.declared.procedure.Path.TheVariants.{Stream}
-use Rattle.yp_answer.specs.declared.procedure.Procedure.{Procedure}
-use Rattle.yp_answer.specs.declared.procedure.Procedure.TheVariants.{Make, MakeNamed}
-
--- it is MAKE, or MAKE_NAMED
-abbrev pub is_make : Procedure → Bool
-is_make Make = true
-is_make MakeNamed = true
-is_make _ = false
-
--- a message is let to one of these
-abbrev pub is_let_to_make : Judged Procedure → Bool
-is_let_to_make Ignored = false
-is_let_to_make (Refused xid head) = false
-is_let_to_make (Admitted call procedure) = is_make procedure
-
--- A map may be made for a record: it is a call of one of these, by a caller on the server's own host.
-abbrev pub may_make : Peer → List ℕ → Bool
-may_make peer message = bytes_eq peer.addr own_host && is_let_to_make (judged (programs_on Stream) message)
+use Rattle.yp_answer.specs.session.Makes.{may_make}
 
 -- Bytes begin with a whole record for which a map may be made.
 pub record BeginsWithMake (peer : Peer) (bytes : List ℕ) : Type 0 where
@@ -36,4 +13,4 @@ pub record BeginsWithMake (peer : Peer) (bytes : List ℕ) : Type 0 where
   pub rest : List ℕ
   pub fragments : Fragments record_max message first
   pub all : bytes ≡ first ++ rest
-  pub makes : may_make peer message ≡ true
+  pub makes : may_make Stream peer message ≡ true

@@ -2,7 +2,7 @@ use Rattle.std.proofs.Common.{Result, ℕ, [], subst}
 use Rattle.yp_command.specs.Words.{Meaning}
 use Rattle.yp_command.specs.office.Seeing.{Seeing, seeing}
 use Rattle.yp_command_serve.specs.serve.Hosting.{doors_by}
-use Rattle.yp_program.specs.Commands.{Does, office_of, doors_of}
+use Rattle.yp_program.specs.Commands.{Does}
 use Rattle.yp_headline.proofs.whole.run_told.Goals as goal
 
 pub returns : goal.returns
@@ -14,7 +14,7 @@ returns g c =
     let did = c.run in
     let does = did.ensures.does in
     λ meaning is.
-    c.run_holds.ensures meaning did.result.0 (office_of outside) (office_of did.result.1) (tells (doors_of outside))
-    (tells (doors_of did.result.1)) [] does.0 does.1
-    (subst (λ (command : Result Meaning ℕ). Does seen command did.result.0 (office_of outside) (office_of did.result.1)
-    (tells (doors_of outside)) (tells (doors_of did.result.1)) [] does.0 does.1) is does.2)
+    c.run_holds.ensures meaning did.result.0 outside.office did.result.1.office (tells outside.doors)
+    (tells did.result.1.doors) [] does.0 does.1
+    (subst (λ (command : Result Meaning ℕ). Does seen command did.result.0 outside.office did.result.1.office
+    (tells outside.doors) (tells did.result.1.doors) [] does.0 does.1) is does.2)

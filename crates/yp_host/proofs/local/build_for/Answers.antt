@@ -5,7 +5,7 @@ use Rattle.yp_host.proofs.local.build_for.Goals as goal
 
 pub returns-clause-follows : goal.returns-clause-follows
 returns-clause-follows g c =
-    let own = ap (λ (k : Catalogue). k.own) c.catalog.ensures.catalogue in
+    let own = ap (λ (k : Catalogue). k.own) c.of-task.ensures.catalogue in
     if_ok c.build_anew.result
-    (λ version follows. follows_at version _ _ _ c.args.job.map _ (rw c.held-shown.ensures.version at follows) own c.held-shown.ensures.kept)
+    (λ version follows. follows_at version _ _ _ c.args.job.map _ (rw c.of-task.ensures.shown at follows) own c.shown-kept.ensures.kept)
     c.build_anew.ensures.follows

@@ -4,6 +4,7 @@ use Rattle.yp_io.specs.Counts.{last_count}
 use Rattle.yp_messages.specs.declared.transfer.XfrStat.{XfrStat}
 use Rattle.yp_messages.specs.declared.transfer.XfrStat.TheVariants as stats
 use Rattle.yp_board.specs.Logs.{Log}
+use Rattle.yp_publisher.specs.inside.sharing.Failures.{files_in}
 use Rattle.yp_host.specs.declared.workers.call_backs.CallBack.{CallBack}
 use Rattle.yp_host.specs.declared.workers.charges.Counted.{Counted}
 use Rattle.yp_host.specs.declared.workers.outcome.Group.{Group}
@@ -82,11 +83,7 @@ pub record ChargesMore (cost : Cost) (old new : Charged) : Type 0 where
   pub sources_are : old.sources + cost.sources ≤ new.sources
   pub made_are : old.made + cost.made ≤ new.made
 
--- how many failures a status stands for, and how many built versions
-abbrev pub files_in : XfrStat → ℕ
-files_in stats.File = 1
-files_in _ = 0
-
+-- how many built versions a status stands for
 abbrev pub made_in : XfrStat → ℕ
 made_in stats.Succ = 1
 made_in _ = 0

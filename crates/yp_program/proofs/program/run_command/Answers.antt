@@ -3,7 +3,7 @@ use Rattle.yp_board.specs.Catalogues.{name_view}
 use Rattle.yp_command_serve.specs.serve.Hosting.{doors_by}
 use Rattle.yp_command.specs.Words.{Meaning, Serve, meaning, host_view}
 use Rattle.yp_command.specs.office.Seeing.{Seeing, seeing}
-use Rattle.yp_program.specs.Commands.{CommandDoes, may_end, office_of, doors_of}
+use Rattle.yp_program.specs.Commands.{CommandDoes, may_end}
 use Rattle.yp_program.proofs.Dispatch.{same_end}
 use Rattle.yp_program.proofs.Noting.{logs_nothing}
 use Rattle.yp_program.proofs.program.run_command.Goals as goal
@@ -18,8 +18,8 @@ returns-in-Serve-clause-does g c =
     let did = c.run_server in
     let does = did.ensures.does in (
       does.0,
-      subst (λ (m : Meaning). CommandDoes seen m did.result.0 (office_of outside) (office_of did.result.1)
-          (tells (doors_of outside)) (tells (doors_of did.result.1)) wires wires does.0) (sym (ap meaning c.in-Serve.is))
+      subst (λ (m : Meaning). CommandDoes seen m did.result.0 outside.office did.result.1.office
+          (tells outside.doors) (tells did.result.1.doors) wires wires does.0) (sym (ap meaning c.in-Serve.is))
           (does.1, refl),
       does.2,
     )
@@ -41,8 +41,8 @@ returns-in_default-clause-does g c =
     let outside = c.args.outside in
     let did = c.run_alone in (
       [],
-      logs_nothing seen did.result.0 (meaning c.args.command) (office_of outside) (office_of did.result.1)
-          (tells (doors_of outside)) (tells (doors_of did.result.1)) (g.W.Witness.wires c.args.witness.now)
+      logs_nothing seen did.result.0 (meaning c.args.command) outside.office did.result.1.office
+          (tells outside.doors) (tells did.result.1.doors) (g.W.Witness.wires c.args.witness.now)
           (g.W.Witness.wires did.new.witness) (ap tells did.ensures.doors) did.ensures.does,
       did.ensures.note,
     )

@@ -3,7 +3,7 @@ use Rattle.yp_command.specs.Words.{Meaning, command_of, texts}
 use Rattle.yp_command.specs.declared.office.status.Status.{Status}
 use Rattle.yp_command_serve.specs.serve.Hosting.{doors_by}
 use Rattle.yp_command.specs.office.Seeing.{Seeing, seeing}
-use Rattle.yp_program.specs.Commands.{Does, MayEnd, office_of, doors_of}
+use Rattle.yp_program.specs.Commands.{Does, MayEnd}
 use Rattle.yp_program.proofs.Unparsed.{unparsed_may, unparsed_does}
 use Rattle.yp_program.proofs.program.run_watched.Goals as goal
 
@@ -16,8 +16,8 @@ returns-in-Ok-clause-does g c =
     let did = c.run_command in
     let does = did.ensures.does in (
       does.0,
-      subst (λ (command : Result Meaning ℕ). Does seen command did.result.0 (office_of outside)
-          (office_of did.result.1) (tells (doors_of outside)) (tells (doors_of did.result.1))
+      subst (λ (command : Result Meaning ℕ). Does seen command did.result.0 outside.office
+          did.result.1.office (tells outside.doors) (tells did.result.1.doors)
           (g.W.Witness.wires c.args.witness.now) (g.W.Witness.wires did.new.witness) does.0)
           (sym c.in-Ok.ensures.sentence) (inl does.1),
       does.2,
@@ -27,8 +27,8 @@ pub returns-in-Err-clause-does : goal.returns-in-Err-clause-does
 returns-in-Err-clause-does g c =
     let seen : Seeing g.row.S.Denot g.row.K.Denot g.row.D.Denot g.row.C.Denot g.row.A.Denot g.row.I.Denot g.row.T.Denot =
     seeing g.S.Source g.K.Sink g.D.Disk g.C.Clock g.A.Dial g.I.Inbox g.T.Texts in
-    let office = office_of c.args.outside in
-    let door = doors_by g.L.Hall g.I.Inbox (doors_of c.args.outside) in
+    let office = c.args.outside.office in
+    let door = doors_by g.L.Hall g.I.Inbox c.args.outside.doors in
     let wires = g.W.Witness.wires c.args.witness.now in (
       [],
       subst (λ (status : Status). Does seen (command_of (texts c.args.words.now)) status office office door door wires

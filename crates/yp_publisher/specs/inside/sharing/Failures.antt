@@ -3,24 +3,23 @@ use Rattle.std.specs.Prelude.{◌≡◌, ◌≢◌, ℕ, ◌+◌, ◌<◌, ◌�
 use Rattle.yp_io.specs.Counts.{last_count}
 use Rattle.yp_io.specs.Disk.{History}
 use Rattle.yp_map_file.specs.Commits.{generation_max}
-use Rattle.yp_map_file.specs.declared.fault.SlotFault.TheVariants as slot
-use Rattle.yp_publisher.specs.declared.install.InstallFault.TheVariants as fault
+use Rattle.yp_messages.specs.declared.transfer.XfrStat.{XfrStat}
+use Rattle.yp_messages.specs.declared.transfer.XfrStat.TheVariants.{File}
 use Rattle.yp_publisher.specs.declared.install.Origin.{Origin}
 use Rattle.yp_publisher.specs.declared.install.Origin.TheVariants.{Built, Fetched}
 use Rattle.yp_publisher.specs.Standing.{Level, StoredMap, OfMap}
 use Rattle.yp_publisher.specs.declared.sharing.locked.ShareFault.{ShareFault}
-use Rattle.yp_publisher.specs.declared.sharing.locked.ShareFault.TheVariants.{Shut, Unfit, Untold}
+use Rattle.yp_publisher.specs.Stats.{share_stat}
 use Rattle.yp_publisher.specs.sharing.Failures.{faults_over, disks_of}
+
+-- how many failures a status stands for
+abbrev pub files_in : XfrStat → ℕ
+files_in File = 1
+files_in _ = 0
 
 -- how many failed files a fault stands for: none, where memory ran out or the version doesn't follow what is shown
 abbrev pub failures_in : ShareFault → ℕ
-failures_in (Shut slot.NoMemory) = 0
-failures_in (Shut _) = 1
-failures_in (Unfit fault.NoMemory) = 0
-failures_in (Unfit (fault.Refused master)) = 0
-failures_in (Unfit (fault.Age last offered)) = 0
-failures_in (Unfit _) = 1
-failures_in Untold = 0
+failures_in why = files_in (share_stat why)
 
 abbrev pub failures_of : {T : Type 0} → Result T ShareFault → ℕ
 failures_of (Ok installed) = 0

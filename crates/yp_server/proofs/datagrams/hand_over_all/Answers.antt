@@ -1,8 +1,9 @@
-use Rattle.std.proofs.Common.{[], ◌∷◌, ◌≡◌, ◌++◌, ◌||◌, refl, ap, ◌∙◌, subst, length, reverse, arith}
+use Rattle.std.proofs.Common.{[], ◌∷◌, ◌≡◌, ◌++◌, ◌||◌, refl, ap, sym, ◌∙◌, subst, length, reverse, arith}
 use Rattle.std.proofs.lemmas.List.{length_push}
 use Rattle.std.specs.List.{AllByRecursion, list_any}
 use Rattle.yp_answer.specs.session.Hosts.{conduct_of}
 use Rattle.yp_worker.specs.Summing.{counting_of}
+use Rattle.yp_worker.specs.inside.Mailing.{Carrying}
 use Rattle.yp_server.specs.inside.Handing.{HandsOverMails}
 use Rattle.yp_server.proofs.Handing.{rec_before, none_handed, one_handed, one_inbox, one_fault, one_server, all_servers}
 use Rattle.yp_server.proofs.datagrams.hand_over_all.Goals as goal
@@ -14,11 +15,13 @@ loop-datagram_worker-init g c =
     record {
       inboxes = rw c.requires.none refl;
       fault = refl;
-      handed = ([], refl, none_handed conduct counting g.H.HandsOver.summed g.H.HandsOver.reached c.args.others c.args.sum.now);
+      handed = ([], refl, none_handed conduct counting g.H.HandsOver.summed g.H.HandsOver.reached c.args.carrier.now.holding c.args.sum.now);
+      carrier = refl;
       queue = c.requires.queue;
       room = rw c.requires.none (omega (arith, c.requires.room));
       hosts = refl;
       hosts_room = c.requires.hosts;
+      hosts_same = refl;
     }
 
 pub loop-datagram_worker-preserved : goal.loop-datagram_worker-preserved
@@ -27,6 +30,7 @@ loop-datagram_worker-preserved g c =
     let counting = counting_of g.H.CatchUp.counted g.H.HandsOver.none g.H.HandsOver.plus in
     let before = c.loop-datagram_worker.invariant in
     let did = c.hand_over-one in
+    let merged = c.merge.ensures in
     let added = c.add.ensures in
     let this = c.in-Some.datagram_worker in
     let popped = c.in-Some.ensures.items in
@@ -43,13 +47,16 @@ loop-datagram_worker-preserved g c =
       handed = (
         before.handed.0 ++ this.server ∷ [],
         one_server _ _ this popped before.handed.0 _ before.handed.1,
-        one_handed conduct counting g.H.HandsOver.summed g.H.HandsOver.reached before.handed.0 this.server _ _ _ _ _ _ before.handed.2 did.ensures.handed,
+        one_handed conduct counting g.H.HandsOver.summed g.H.HandsOver.reached before.handed.0 this.server _ _ _ _ _ _ _ before.handed.2 did.ensures.handed
+            merged.parts (ap (λ m. m.holding) merged.same ∙ merged.holding),
       );
-      queue = (rec_before (λ m. m.server.holding.queue ≡ c.args.others.queue) _ this
-          (subst (AllByRecursion (λ m. m.server.holding.queue ≡ c.args.others.queue)) popped before.queue)).0;
+      carrier = merged.same ∙ ap (λ (m : Carrying g.row.I.Denot g.row.H.Denot). record m { holding = c.merge.new.self.holding }) before.carrier;
+      queue = (rec_before (λ m. m.server.holding.queue ≡ c.args.carrier.now.holding.queue) _ this
+          (subst (AllByRecursion (λ m. m.server.holding.queue ≡ c.args.carrier.now.holding.queue)) popped before.queue)).0;
       room = omega (arith, longer, long, before.room, shorter, added.room);
       hosts = omega (arith, one_host, one_more, before.hosts, shorter);
       hosts_room = omega (arith, one_host, one_more, before.hosts_room, shorter, c.push_reserved.ensures.capacity);
+      hosts_same = c.push_reserved.ensures.capacity ∙ before.hosts_same;
     }
 
 pub returns-clause-handed : goal.returns-clause-handed
@@ -58,6 +65,20 @@ returns-clause-handed g c =
     let counting = counting_of g.H.CatchUp.counted g.H.HandsOver.none g.H.HandsOver.plus in
     let after = c.loop-datagram_worker.invariant in
     let none : length c.loop-datagram_worker.datagram_workers.items ≡ 0 = omega (arith, c.in_default.ensures.cases.0) in
-    subst (λ l. HandsOverMails conduct counting g.H.HandsOver.summed g.H.HandsOver.reached l c.args.others c.loop-datagram_worker.pass c.args.sum.now c.loop-datagram_worker.sum)
+    subst (λ l. HandsOverMails conduct counting g.H.HandsOver.summed g.H.HandsOver.reached l c.args.carrier.now.holding c.loop-datagram_worker.carrier.holding c.args.sum.now c.loop-datagram_worker.sum)
     (all_servers after.handed.0 _ c.loop-datagram_worker.datagram_workers.items none after.handed.1)
     after.handed.2
+
+pub merge-requires : goal.merge-requires
+merge-requires g c =
+    let before = c.loop-datagram_worker.invariant in
+    let this = c.in-Some.datagram_worker in
+    let own = (rec_before (λ m. m.server.holding.queue ≡ c.args.carrier.now.holding.queue) _ this
+    (subst (AllByRecursion (λ m. m.server.holding.queue ≡ c.args.carrier.now.holding.queue)) c.in-Some.ensures.items before.queue)).1 in
+    record { queue = ap (λ h. h.queue) c.hand_over-one.ensures.handed.held_is ∙ own ∙ sym before.handed.2.queue }
+
+pub returns-clause-carrier : goal.returns-clause-carrier
+returns-clause-carrier g c = c.loop-datagram_worker.invariant.carrier
+
+pub returns-clause-hosts_room : goal.returns-clause-hosts_room
+returns-clause-hosts_room g c = c.loop-datagram_worker.invariant.hosts_same

@@ -5,5 +5,5 @@ use Rattle.yp_server.proofs.serving.serve.Goals as goal
 pub returns-clause-all : goal.returns-clause-all
 returns-clause-all g c =
     let tells = opening_by g.L.Hall in
-    all_accepted c.under_locks.result (tells c.args.resources.listen) (λ s. tells s.listen) (λ s. s.tally.connections)
-    (λ s. s.tally.listen_fault) c.under_locks.ensures.gone
+    all_accepted c.with_queue.result (tells c.args.resources.listen) (λ s. tells s.listen) (λ s. s.tally.connections)
+    (λ s. s.tally.listen_fault) c.with_queue.ensures.gone

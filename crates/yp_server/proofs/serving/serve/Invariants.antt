@@ -6,18 +6,18 @@ use Rattle.yp_host.specs.workers.Makings.{IsBuiltAsNamed}
 use Rattle.yp_server.proofs.serving.serve.Given as goal
 
 -- what is lent, as it is before the first connection
-abbrev pub ghosts-under_locks-J-Reception : goal.ghosts-under_locks-J-Reception
-ghosts-under_locks-J-Reception g a = record {
+abbrev pub ghosts-with_queue-J-Reception : goal.ghosts-with_queue-J-Reception
+ghosts-with_queue-J-Reception g a = record {
   starts = g.B.Show.log a.resources.publisher.board;
   most = a.setting.spec.most;
   opening = opening_by g.L.Hall a.resources.listen;
 }
 
-abbrev pub ghosts-under_locks-J-Site : goal.ghosts-under_locks-J-Site
-ghosts-under_locks-J-Site g a = record { catalogue = a.resources.publisher.catalogue }
+abbrev pub ghosts-with_queue-J-Site : goal.ghosts-with_queue-J-Site
+ghosts-with_queue-J-Site g a = record { catalogue = a.resources.publisher.catalogue }
 
-abbrev pub ghosts-under_locks-J-Supplies : goal.ghosts-under_locks-J-Supplies
-ghosts-under_locks-J-Supplies g a = record {
+abbrev pub ghosts-with_queue-J-Supplies : goal.ghosts-with_queue-J-Supplies
+ghosts-with_queue-J-Supplies g a = record {
   text = g.T.Texts.text a.resources.desk.texts;
   hosts = a.resources.desk.hosts;
   text_faults = g.T.Texts.faults a.resources.desk.texts;
@@ -27,17 +27,17 @@ ghosts-under_locks-J-Supplies g a = record {
   unread = a.blanks.charges.unread.name;
   orders = a.blanks.charges.orders.name;
   sources = a.blanks.charges.sources.name;
-  call_backs = a.call_backs;
+  call_backs = a.blanks.call_backs;
 }
 
-abbrev pub ghosts-under_locks-J-Ledger : goal.ghosts-under_locks-J-Ledger
-ghosts-under_locks-J-Ledger g a = record { name = a.blanks.listener.out.name; parts = a.blanks.listener.out.parts }
+abbrev pub ghosts-with_queue-J-Ledger : goal.ghosts-with_queue-J-Ledger
+ghosts-with_queue-J-Ledger g a = record { name = a.blanks.listener.out.name; parts = a.blanks.listener.out.parts }
 
-abbrev pub ghosts-under_locks-E-Ledger : goal.ghosts-under_locks-E-Ledger
-ghosts-under_locks-E-Ledger g a = record { name = a.blanks.listener.ended.name; parts = a.blanks.listener.ended.parts }
+abbrev pub ghosts-with_queue-E-Ledger : goal.ghosts-with_queue-E-Ledger
+ghosts-with_queue-E-Ledger g a = record { name = a.blanks.listener.ended.name; parts = a.blanks.listener.ended.parts }
 
-abbrev pub ghosts-under_locks-J-Accounts : goal.ghosts-under_locks-J-Accounts
-ghosts-under_locks-J-Accounts g a = record {
+abbrev pub ghosts-with_queue-J-Accounts : goal.ghosts-with_queue-J-Accounts
+ghosts-with_queue-J-Accounts g a = record {
   built = IsBuiltAsNamed (g.T.Texts.text a.resources.desk.texts) a.resources.publisher.catalogue;
   first = publisher_state g.B.Show.log a.resources.publisher;
   histories = map g.D.Disk.history (disks_of a.resources.publisher.maps);

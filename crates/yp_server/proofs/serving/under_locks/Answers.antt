@@ -6,14 +6,14 @@ use Rattle.yp_server.proofs.serving.under_locks.Goals as goal
 
 pub returns-clause-datagrams : goal.returns-clause-datagrams
 returns-clause-datagrams g c =
-    served_of _ _ _ _ _ _ _ _ _ _ _
+    served_of _ _ _ _ _ _ _ _ _ _ _ _ _
     (c.serve-listen.ensures.counted (g.B.Show.log c.unlock-disks.result.1) c.unlock-disks.ensures.grown).of_datagrams
 
 pub returns-clause-grown : goal.returns-clause-grown
 returns-clause-grown g c =
     let some = c.requires.inboxes.0 in
     let long = length-map c.args.resources.inboxes.items (box_by g.I.Inbox) in
-    starts_in _ _ _ _ _ _ _ _ _ _ _ (omega (arith, some, long))
+    starts_in _ _ _ _ _ _ _ _ _ _ _ _ _ (omega (arith, some, long))
     (c.serve-listen.ensures.counted (g.B.Show.log c.unlock-disks.result.1) c.unlock-disks.ensures.grown).of_datagrams
 
 pub returns-clause-rises : goal.returns-clause-rises

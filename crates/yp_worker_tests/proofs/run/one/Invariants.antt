@@ -5,7 +5,7 @@ use Rattle.yp_worker_tests.proofs.run.one.Given as goal
 abbrev pub ghosts-served-J-Reception : goal.ghosts-served-J-Reception
 ghosts-served-J-Reception g a = record {
   starts = a.host.reader.known;
-  most = 9;
+  most = 12;
   opening = record {
     past = entries_of a.listen;
     most = a.listen.most;

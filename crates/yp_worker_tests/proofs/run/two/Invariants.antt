@@ -6,7 +6,7 @@ use Rattle.yp_worker_tests.proofs.run.two.Given as goal
 abbrev pub ghosts-shared-J-Reception : goal.ghosts-shared-J-Reception
 ghosts-shared-J-Reception g a = record {
   starts = [];
-  most = 9;
+  most = 12;
   opening = record {
     past = entries_of a.listen;
     most = a.listen.most;

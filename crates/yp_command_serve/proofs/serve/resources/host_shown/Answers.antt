@@ -52,20 +52,21 @@ returns-in-Ok-serve-clause-hosted g c =
     let did = c.in-Ok-serve.ensures in
     let made = c.publisher_of-publisher.ensures in
     let here = opening_by g.L.Hall in
-    let letters = map (box_by g.I.Inbox) in
+    let box = box_by g.I.Inbox in
+    let letters = map box in
     let tells = dial_by g.A.Dial in
     let given = supply_of (g.T.Texts.faults c.shared-desk.result.texts) (tells c.shared-desk.result.dial) in
     let left = supply_of (g.T.Texts.faults c.in-Ok-serve.served.desk.texts) (tells c.in-Ok-serve.served.desk.dial) in
     served_as g.D.Disk.history g.D.Disk.faults c.args.resources.loaded _ _ _
-    (server_tells (here c.args.resources.listen) (letters c.args.resources.inboxes.items) given)
-    (server_tells (here c.in-Ok-serve.served.listen) (letters c.in-Ok-serve.served.inboxes.items) left)
+    (server_tells (here c.args.resources.listen) (letters c.args.resources.inboxes.items) (box c.args.resources.outbox) given)
+    (server_tells (here c.in-Ok-serve.served.listen) (letters c.in-Ok-serve.served.inboxes.items) (box c.in-Ok-serve.served.outbox) left)
     c.in-Ok-serve.served.disks.items c.in-Ok-serve.served.writer.log
     c.args.spec.now.turns c.args.resources.catalog c.publisher_of-publisher.result.catalogue _ _ _ _
     (publisher_state (λ (w : Written). w.log) c.publisher_of-publisher.result) c.args.spec.now.most
     (ap (λ (d : Desk g.row.A.Denot g.row.T.Denot g.row.C.Denot). server_tells (here c.args.resources.listen) (letters c.args.resources.inboxes.items)
-    (supply_of (g.T.Texts.faults d.texts) (tells d.dial))) c.shared-desk.ensures)
+    (box c.args.resources.outbox) (supply_of (g.T.Texts.faults d.texts) (tells d.dial))) c.shared-desk.ensures)
     (ap (λ (d : Desk g.row.A.Denot g.row.T.Denot g.row.C.Denot). server_tells (here c.in-Ok-serve.served.listen)
-    (letters c.in-Ok-serve.served.inboxes.items)
+    (letters c.in-Ok-serve.served.inboxes.items) (box c.in-Ok-serve.served.outbox)
     (supply_of (g.T.Texts.faults d.texts) (tells d.dial))) (sym c.unshared.ensures.desk))
     (ap (λ (p : Published g.row.D.Denot Written). p.catalogue) made.publisher)
     (ap (λ (d : Desk g.row.A.Denot g.row.T.Denot g.row.C.Denot). g.T.Texts.text d.texts) c.shared-desk.ensures)
@@ -107,7 +108,7 @@ returns-in-Ok-serve-clause-count g c =
 pub returns-in-Ok-serve-clause-inboxes : goal.returns-in-Ok-serve-clause-inboxes
 returns-in-Ok-serve-clause-inboxes g c =
     let box = box_by g.I.Inbox in
-    let long = served_long _ _ _ _ _ _ _ (map box c.args.resources.inboxes.items) (map box c.in-Ok-serve.served.inboxes.items) c.in-Ok-serve.ensures.datagrams in
+    let long = served_long _ _ _ _ _ _ _ (map box c.args.resources.inboxes.items) (map box c.in-Ok-serve.served.inboxes.items) _ _ c.in-Ok-serve.ensures.datagrams in
     let old = length-map c.args.resources.inboxes.items box in
     let new = length-map c.in-Ok-serve.served.inboxes.items box in
     omega (arith, long, old, new)

@@ -26,9 +26,9 @@ returns-then-is_err-clause-does g c = (
   λ connections.
       nothing_done (seeing g.S.Source g.K.Sink g.D.Disk g.C.Clock g.A.Dial g.I.Inbox g.T.Texts)
       (serve_job_of c.args.spec.catalog.own connections c.args.spec.serve.turns c.args.spec.catalog.maps c.args.hosts c.args.spec.log)
-      c.args.outside.office (doors_by g.L.Hall g.I.Inbox c.args.outside.doors) (doors_by g.L.Hall g.I.Inbox (record { listen = c.args.outside.doors.listen; more = c.reserve.new.self }))
-      (ap (λ (l : List g.row.I.Denot). record { listen = opening_by g.L.Hall c.args.outside.doors.listen; more = map (end_by g.I.Inbox) l }) c.reserve.ensures.items),
-  λ fine. Appends-nil (g.N.Sink.output c.args.outside.notes),
+      c.args.outside.office (doors_by g.L.Hall g.I.Inbox c.args.outside.doors) (doors_by g.L.Hall g.I.Inbox (record { listen = c.args.outside.doors.listen; more = c.reserve.new.self; outbox = c.args.outside.doors.outbox }))
+      (ap (λ (l : List g.row.I.Denot). record { listen = opening_by g.L.Hall c.args.outside.doors.listen; more = map (end_by g.I.Inbox) l; out = end_by g.I.Inbox c.args.outside.doors.outbox }) c.reserve.ensures.items),
+  λ fine. Appends-nil (g.K.Sink.output c.args.outside.notes),
 )
 
 pub returns-in-Err-clause-does : goal.returns-in-Err-clause-does
@@ -37,9 +37,9 @@ returns-in-Err-clause-does g c = (
   λ connections. rw c.in-Err.ensures.err
       (nothing_done (seeing g.S.Source g.K.Sink g.D.Disk g.C.Clock g.A.Dial g.I.Inbox g.T.Texts)
       (serve_job_of c.args.spec.catalog.own connections c.args.spec.serve.turns c.args.spec.catalog.maps c.args.hosts c.args.spec.log)
-      c.args.outside.office (doors_by g.L.Hall g.I.Inbox c.args.outside.doors) (doors_by g.L.Hall g.I.Inbox (record { listen = c.args.outside.doors.listen; more = c.reserve.new.self }))
-      (ap (λ (l : List g.row.I.Denot). record { listen = opening_by g.L.Hall c.args.outside.doors.listen; more = map (end_by g.I.Inbox) l }) c.reserve.ensures.items)),
-  λ fine. Appends-nil (g.N.Sink.output c.args.outside.notes),
+      c.args.outside.office (doors_by g.L.Hall g.I.Inbox c.args.outside.doors) (doors_by g.L.Hall g.I.Inbox (record { listen = c.args.outside.doors.listen; more = c.reserve.new.self; outbox = c.args.outside.doors.outbox }))
+      (ap (λ (l : List g.row.I.Denot). record { listen = opening_by g.L.Hall c.args.outside.doors.listen; more = map (end_by g.I.Inbox) l; out = end_by g.I.Inbox c.args.outside.doors.outbox }) c.reserve.ensures.items)),
+  λ fine. Appends-nil (g.K.Sink.output c.args.outside.notes),
 )
 
 pub tell_end-status-requires-clause-number : goal.tell_end-status-requires-clause-number
@@ -87,11 +87,13 @@ returns-clause-does g c =
             desk = record { dial = old.dial; texts = old.texts; clock = old.clock; hosts = c.args.hosts };
             listen = c.args.outside.doors.listen;
             inboxes = c.push_reserved.new.self;
+            outbox = c.args.outside.doors.outbox;
           } in
-          let tells : g.row.L.Denot → List g.row.I.Denot → DoorTells = λ l more. record { listen = opening_by g.L.Hall l; more = map (end_by g.I.Inbox) more } in
+          let tells : g.row.L.Denot → List g.row.I.Denot → g.row.I.Denot → DoorTells = λ l more o.
+          record { listen = opening_by g.L.Hall l; more = map (end_by g.I.Inbox) more; out = end_by g.I.Inbox o } in
           let more = c.args.outside.doors.more.items in
-          let door : DoorTells = tells c.args.outside.doors.listen more in
-          let door' : DoorTells = tells back.listen rest in
+          let door : DoorTells = tells c.args.outside.doors.listen more c.args.outside.doors.outbox in
+          let door' : DoorTells = tells back.listen rest back.outbox in
           let lent : resources.inboxes.items ≡ more ++ old.inbox ∷ [] =
           c.push_reserved.ensures.items ∙ ap (λ (l : List g.row.I.Denot). l ++ old.inbox ∷ []) c.reserve.ensures.items in
           let came : back.inboxes.items ≡ rest ++ inbox ∷ [] = c.in-Some.ensures.items in
@@ -105,14 +107,14 @@ returns-clause-does g c =
           let shut = shut_of job old new resources back inbox more door door' tells logged.0 did.result.0 log refl refl refl lent rest came
           refl refl refl did.ensures.untouched told.ensures.untold in
           let hosted = hosted_at g.D.Disk.history g.D.Disk.faults (setup seen job old) did.result.0
-          (server_tells (opening_by g.L.Hall c.args.outside.doors.listen) (map (box_by g.I.Inbox) resources.inboxes.items) (supply seen old))
-          (server_tells (opening_by g.L.Hall back.listen) (map (box_by g.I.Inbox) back.inboxes.items) (supply seen new))
+          (server_tells (opening_by g.L.Hall c.args.outside.doors.listen) (map (box_by g.I.Inbox) resources.inboxes.items) (box_by g.I.Inbox resources.outbox) (supply seen old))
+          (server_tells (opening_by g.L.Hall back.listen) (map (box_by g.I.Inbox) back.inboxes.items) (box_by g.I.Inbox back.outbox) (supply seen new))
           (place seen old door) (place seen new door')
-          (ap (λ l. server_tells door.listen l (supply seen old)) (boxes_are g.I.Inbox resources.inboxes.items more old.inbox lent))
-          (ap (λ l. server_tells door'.listen l (supply seen new)) (boxes_are g.I.Inbox back.inboxes.items rest inbox came))
+          (ap (λ l. server_tells door.listen l door.out.box (supply seen old)) (boxes_are g.I.Inbox resources.inboxes.items more old.inbox lent))
+          (ap (λ l. server_tells door'.listen l door'.out.box (supply seen new)) (boxes_are g.I.Inbox back.inboxes.items rest inbox came))
           apart.disks.items back.disks.items did.ensures.hosted in
           let fails = some_fails seen old new door door' did.result.0 resources.inboxes.items back.inboxes.items more rest
-          lent came did.ensures.inboxes refl refl did.ensures.inbox_fault in
+          resources.outbox back.outbox lent came did.ensures.inboxes refl refl refl refl did.ensures.inbox_fault in
           all_done seen job told.result old new door door' logged.0 did.result.0 apart.disks.items
           back.disks.items c.in-Ok.ensures.disks (sym c.put_together.ensures.disks) hosted did.ensures.unhosted shut log
           (subst (λ (l : List Name). TellsServeEnd did.result.0 l told.result (output seen old) (output seen new))

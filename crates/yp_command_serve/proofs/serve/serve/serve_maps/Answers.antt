@@ -16,7 +16,7 @@ returns-in_default-clause-does g c = (
   [],
   nothing_done (seeing g.S.Source g.K.Sink g.D.Disk g.C.Clock g.A.Dial g.I.Inbox g.T.Texts) (serve_job_view c.args.job)
       c.args.outside.office (doors_by g.L.Hall g.I.Inbox c.args.outside.doors) (doors_by g.L.Hall g.I.Inbox c.args.outside.doors) refl,
-  λ fine. Appends-nil (g.N.Sink.output c.args.outside.notes),
+  λ fine. Appends-nil (g.K.Sink.output c.args.outside.notes),
 )
 
 pub returns-in-Err-NoMemory-clause-does : goal.returns-in-Err-NoMemory-clause-does
@@ -24,7 +24,7 @@ returns-in-Err-NoMemory-clause-does g c = (
   [],
   nothing_done (seeing g.S.Source g.K.Sink g.D.Disk g.C.Clock g.A.Dial g.I.Inbox g.T.Texts) (serve_job_view c.args.job)
       c.args.outside.office (doors_by g.L.Hall g.I.Inbox c.args.outside.doors) (doors_by g.L.Hall g.I.Inbox c.args.outside.doors) refl,
-  λ fine. Appends-nil (g.N.Sink.output c.args.outside.notes),
+  λ fine. Appends-nil (g.K.Sink.output c.args.outside.notes),
 )
 
 pub serve_catalog-requires-clause-named : goal.serve_catalog-requires-clause-named

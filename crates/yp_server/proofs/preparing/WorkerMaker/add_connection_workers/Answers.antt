@@ -29,7 +29,6 @@ loop-buffers-preserved g c =
         out = (let less = made.ensures.out.0 in let old = before.shares.out.0 in omega (arith, less, old, one), made.ensures.out.1);
         ended = (let less = made.ensures.ended.0 in let old = before.shares.ended.0 in omega (arith, less, old, one), made.ensures.ended.1);
       };
-      transfers = made.ensures.transfers ∙ before.transfers;
     }
 
 pub loop-buffers-init : goal.loop-buffers-init
@@ -39,13 +38,9 @@ loop-buffers-init g c = record {
   readers = c.requires.readers;
   knows = c.requires.knows;
   shares = c.requires.shares;
-  transfers = refl;
 }
 
 pub connection_worker-connection_worker-requires-clause-knows : goal.connection_worker-connection_worker-requires-clause-knows
 connection_worker-connection_worker-requires-clause-knows g c =
     all_last (λ reader. IsAtStart g.J.Site.catalogue g.J.Reception.starts (g.B.Reader.View.seen reader)) _ _ _
     c.in-Some-pop.ensures.items c.loop-buffers.invariant.knows
-
-pub returns-clause-transfers : goal.returns-clause-transfers
-returns-clause-transfers g c = c.loop-buffers.invariant.transfers

@@ -14,7 +14,6 @@ invariant-loop-buffers g l = record {
   readers : length l.readers.items ≡ length l.all_buffers.items;
   knows : All (λ reader. IsAtStart g.J.Site.catalogue g.J.Reception.starts (g.B.Reader.View.seen reader)) l.readers.items;
   shares : SharesFor (length l.all_buffers.items) 0 l.shares;
-  transfers : l.shares.transfers ≡ l.initial.shares.transfers;
 }
 
 abbrev pub decreases-loop-buffers : goal.decreases-loop-buffers

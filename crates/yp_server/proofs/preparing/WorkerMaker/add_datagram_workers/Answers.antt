@@ -25,7 +25,7 @@ loop-inbox-init g c =
       readers = omega (arith, long);
       knows = c.requires.knows;
       charges = (omega (arith, long), refl);
-      transfers = (c.requires.transfers.0, omega (arith, long));
+      parts = (c.requires.parts.0, omega (arith, long));
     }
 
 pub loop-inbox-preserved : goal.loop-inbox-preserved
@@ -70,11 +70,11 @@ loop-inbox-preserved g c =
             omega (arith, before.charges.0, one, parts),
             ap (λ (charged : Charged). charged.left) less.same ∙ before.charges.1,
           );
-      transfers =
-          let cut = c.split_off.ensures in
+      parts =
+          let cut = c.split_off-part.ensures in
           let parts = cut.parts in (
-            cut.same ∙ ap (λ (h : Holding). record h { parts = c.split_off.new.pass.parts }) before.transfers.0,
-            omega (arith, before.transfers.1, parts, one),
+            cut.same ∙ ap (λ (h : Holding). record h { parts = c.split_off-part.new.pass.parts }) before.parts.0,
+            omega (arith, before.parts.1, parts, one),
           );
     }
 

@@ -1,7 +1,6 @@
 use Rattle.std.proofs.Common.{◌≡◌, ◌+◌, ◌++◌, List, length, reverse, vec_len, vec_capacity}
 use Rattle.std.specs.List.{All, AllZip}
 use Rattle.yp_host.specs.workers.Workers.{WorkerState}
-use Rattle.yp_host.specs.declared.workers.charges.Counted.{Counted}
 use Rattle.yp_worker.specs.datagrams.Mailing.{nothing_held}
 use Rattle.yp_server.specs.declared.datagrams.DatagramWorker.{DatagramWorker}
 use Rattle.yp_server.specs.Counting.{count_told}
@@ -13,7 +12,7 @@ use Rattle.yp_server.proofs.preparing.WorkerMaker.add_datagram_workers.Given as 
 
 abbrev pub invariant-loop-inbox : goal.invariant-loop-inbox
 invariant-loop-inbox g l = record {
-  workers : (datagram_workers : List (DatagramWorker g.row.I.Denot g.row.J.Denot (WorkerState g.row.B-Reader.Denot) g.row.R.Denot Counted)) × (done : List g.row.I.Denot)
+  workers : (datagram_workers : List (DatagramWorker g.row.I.Denot g.row.J.Denot (WorkerState g.row.B-Reader.Denot) g.row.B-Knowledge.Denot g.row.R.Denot)) × (done : List g.row.I.Denot)
       × (l.all_workers.items ≡ workers_of datagram_workers 0 before_work) × (done ++ reverse l.inboxes.items ≡ l.fn.inboxes.items)
       × AllZip (BeginsMail (conduct_at g.B.Reader.View.seen g.B.Reader.View.stepped g.J.Supplies.text g.J.Supplies.hosts) count_told
       g.J.Site.catalogue g.J.Reception.starts l.self.pending.now l.turns) done datagram_workers;
@@ -24,8 +23,8 @@ invariant-loop-inbox g l = record {
   knows : All (λ reader. IsAtStart g.J.Site.catalogue g.J.Reception.starts (g.B.Reader.View.seen reader)) l.readers.items;
   charges : (l.charges.parts + length l.fn.inboxes.items ≡ l.fn.charges.parts + length l.inboxes.items)
       × (l.charges.left ≡ l.fn.charges.left);
-  transfers : (l.transfers ≡ nothing_held l.self.pending.now l.transfers.parts)
-      × (l.transfers.parts + length l.fn.inboxes.items ≡ l.fn.transfers.parts + length l.inboxes.items);
+  parts : (l.parts ≡ nothing_held l.self.pending.now l.parts.parts)
+      × (l.parts.parts + length l.fn.inboxes.items ≡ l.fn.parts.parts + length l.inboxes.items);
 }
 
 abbrev pub decreases-loop-inbox : goal.decreases-loop-inbox

@@ -1,5 +1,4 @@
-use Rattle.std.proofs.Common.{length, ap, sym, ◌∙◌, arith}
-use Rattle.yp_worker.specs.datagrams.Mailing.{nothing_held}
+use Rattle.std.proofs.Common.{length, ◌∙◌, arith}
 use Rattle.yp_server.specs.inside.Serving.{before_work}
 use Rattle.yp_server.proofs.Posted.{others_behind, connections_more}
 use Rattle.yp_server.proofs.preparing.WorkerMaker.add_workers.Goals as goal
@@ -36,13 +35,3 @@ returns-clause-count g c =
     let more = connections_more (length c.args.worker_resources.memory.all_buffers.items) before_work _ _
     c.add_connection_workers.ensures.all_workers in
     omega (arith, first, more)
-
-pub returns-clause-transfers : goal.returns-clause-transfers
-returns-clause-transfers g c =
-    let same = c.add_connection_workers.ensures.transfers in
-    let parts = ap (λ h. h.parts) same in
-    let cut = c.add_datagram_workers.ensures.transfers in
-    let less = cut.1 in (
-      same ∙ cut.0 ∙ ap (nothing_held c.args.self.now.pending.now) (sym parts),
-      omega (arith, parts, less),
-    )

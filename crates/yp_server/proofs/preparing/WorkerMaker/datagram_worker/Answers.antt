@@ -13,6 +13,6 @@ returns g c =
       turns = resources.turns;
       fault = false;
     })
-    (c.new-server.ensures ∙ ap (λ host. record { host = host; waiting = None; holding = resources.transfers })
+    (c.new-server.ensures ∙ ap (λ host. record { host = host; waiting = None; holding = c.args.part })
     (c.new-host.ensures ∙ ap (λ (charged : Charged). record (fresh_worker resources.reader) { told = charged.left }) c.requires.charges)
-    ∙ ap (λ holding. record { host = fresh_worker resources.reader; waiting = None; holding = holding }) c.requires.transfers)
+    ∙ ap (λ holding. record { host = fresh_worker resources.reader; waiting = None; holding = holding }) c.requires.part)

@@ -9,7 +9,7 @@ invariant_of-self-2 g c =
     let conduct = conduct_of g.H.View.seen g.H.Host.told g.H.Host.counts g.H.View.stepped g.H.Host.made g.H.Host.carried in
     let counting = counting_of g.H.CatchUp.counted g.H.HandsOver.none g.H.HandsOver.plus in
     let terms = terms_of g.J.Site.catalogue g.J.Reception.starts g.J.Reception.most in
-    hands_on g.L.In.TrySource g.L.Out.TrySink conduct counting terms g.H.HandsOver.kept g.J.Reception.opening (opening_by g.L.Hall c.self.inside.listen) c.self.invariant
+    hands_on g.L.In.TrySource g.L.Out.TrySink conduct counting terms g.H.Front.Known.known g.J.Reception.opening (opening_by g.L.Hall c.self.inside.listen) c.self.invariant
     c.in_ok-waiting.waiting _ _ _ _ c.in_ok-waiting.ensures.items c.in_ok-waiting.ensures.len c.transfer.ensures.amount_left
     c.transfer.ensures.parts_left
 
@@ -18,5 +18,5 @@ returns-clause-waits g c =
     let conduct = conduct_of g.H.View.seen g.H.Host.told g.H.Host.counts g.H.View.stepped g.H.Host.made g.H.Host.carried in
     let counting = counting_of g.H.CatchUp.counted g.H.HandsOver.none g.H.HandsOver.plus in
     let terms = terms_of g.J.Site.catalogue g.J.Reception.starts g.J.Reception.most in
-    first_waits g.L.In.TrySource g.L.Out.TrySink conduct counting terms g.H.HandsOver.kept g.J.Reception.opening (opening_by g.L.Hall c.self.inside.listen) c.self.invariant
+    first_waits g.L.In.TrySource g.L.Out.TrySink conduct counting terms g.H.Front.Known.known g.J.Reception.opening (opening_by g.L.Hall c.self.inside.listen) c.self.invariant
     c.in_ok-waiting.waiting _ c.in_ok-waiting.ensures.items

@@ -16,9 +16,9 @@ invariant_of-self-2 g c =
     let conduct = conduct_of g.H.View.seen g.H.Host.told g.H.Host.counts g.H.View.stepped g.H.Host.made g.H.Host.carried in
     let counting = counting_of g.H.CatchUp.counted g.H.HandsOver.none g.H.HandsOver.plus in
     let terms = terms_of g.J.Site.catalogue g.J.Reception.starts g.J.Reception.most in
-    keeps g.L.In.TrySource g.L.Out.TrySink conduct counting terms g.H.HandsOver.kept g.J.Reception.opening (opening_by g.L.Hall c.self.inside.listen) c.self.invariant
+    keeps g.L.In.TrySource g.L.Out.TrySink conduct counting terms g.H.Front.Known.known g.J.Reception.opening (opening_by g.L.Hall c.self.inside.listen) c.self.invariant
     (record { guest = c.in-Some.guest; front = c.args.front }) _ _ _ _
-    (if_found (λ guest. IsWaiting g.L.In.TrySource g.L.Out.TrySink conduct counting terms g.J.Reception.opening.past g.H.HandsOver.kept
+    (if_found (λ guest. IsWaiting g.L.In.TrySource g.L.Out.TrySink conduct counting terms g.J.Reception.opening.past g.H.Front.Known.known
     (record { guest = guest; front = c.args.front })) _ c.in-Some.guest (sym c.in-Some.ensures.value) c.requires.waits)
     (rw (c.new.ensures, c.reserve.ensures.items) at c.push_back_reserved.ensures.items)
     (c.push_back_reserved.ensures.len ∙ ap (λ (n : ℕ). n + 1) c.reserve.ensures.len) c.transfer.ensures.amount_given

@@ -16,7 +16,7 @@ invariant_of-result g c =
       state = rw (c.requires.none_out, c.requires.none_ended, c.requires.opening) (kept_none g.J.Reception.opening);
       sums = rw (c.requires.none_counted, c.requires.opening) (sums_none conduct counting terms g.J.Reception.opening
           (g.H.HandsOver.reached c.args.sum));
-      waits = rw c.new.ensures.items (All-nil (IsWaiting g.L.In.TrySource g.L.Out.TrySink conduct counting terms g.J.Reception.opening.past g.H.HandsOver.kept));
+      waits = rw c.new.ensures.items (All-nil (IsWaiting g.L.In.TrySource g.L.Out.TrySink conduct counting terms g.J.Reception.opening.past g.H.Front.Known.known));
       held = c.requires.held.1 ∙ sym c.new.ensures.len;
       one_part = c.requires.held.0;
     }

@@ -17,8 +17,8 @@ kept_waiting-requires-clause-waits g c =
     let conduct = conduct_of g.H.View.seen g.H.Host.told g.H.Host.counts g.H.View.stepped g.H.Host.made g.H.Host.carried in
     let counting = counting_of g.H.CatchUp.counted g.H.HandsOver.none g.H.HandsOver.plus in
     let terms = terms_of g.J.Site.catalogue g.J.Reception.starts g.J.Reception.most in
-    if_there (λ guest. IsWaiting g.L.In.TrySource g.L.Out.TrySink conduct counting terms g.J.Reception.opening.past g.H.HandsOver.kept (record { guest = guest; front = c.in-Ok.front })) _
-    (λ guest there. may_leave g.L.In.TrySource g.L.Out.TrySink conduct counting terms g.J.Reception.opening.past g.H.HandsOver.kept _
+    if_there (λ guest. IsWaiting g.L.In.TrySource g.L.Out.TrySink conduct counting terms g.J.Reception.opening.past g.H.Front.Known.known (record { guest = guest; front = c.in-Ok.front })) _
+    (λ guest there. may_leave g.L.In.TrySource g.L.Out.TrySink conduct counting terms g.J.Reception.opening.past g.H.Front.Known.known _
     (record { host = c.self.inside.host; most = c.self.inside.most; carries = c.self.inside.carries }) c.args.place guest c.in-Ok.front
     (rw (← c.self.view_is) at c.requires.served) c.if-self.false c.in-Ok.ensures there)
 

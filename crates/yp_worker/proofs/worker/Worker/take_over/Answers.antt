@@ -18,7 +18,7 @@ seat-requires-clause-comes g c =
     let conduct = conduct_of g.H.View.seen g.H.Host.told g.H.Host.counts g.H.View.stepped g.H.Host.made g.H.Host.carried in
     let counting = counting_of g.H.CatchUp.counted g.H.HandsOver.none g.H.HandsOver.plus in
     let terms = terms_of g.J.Site.catalogue g.J.Reception.starts g.J.Reception.most in
-    taken_over g.L.In.TrySource g.L.Out.TrySink conduct counting terms g.J.Reception.opening.past g.H.HandsOver.kept _ c.args.self.now c.reach.new.self
+    taken_over g.L.In.TrySource g.L.Out.TrySink conduct counting terms g.J.Reception.opening.past g.H.Front.Known.known _ c.args.self.now c.reach.new.self
     c.args.waiting c.renumber.new.self c.requires.served c.requires.waits c.reach.ensures.told
     (rw c.into_parts-guest.ensures.front at c.reach.ensures.reached) (ap (λ (w : Working g.row.H.Denot). w.carries) c.reach.ensures.same) c.requires.carries
     (rw c.into_parts-guest.ensures.guest at c.renumber.ensures)

@@ -18,12 +18,12 @@ returns-then-len-max-clause-refused c =
     refused_is_not_spelled (Opaque c.args.max) (unread c.args.self.now) (TooLong c.args.self.now.at c.in_ok-len.len)
     (search rules)
 
-pub returns-in_err-bytes-clause-refused : goal.returns-in_err-bytes-clause-refused
+pub returns-in-Err-clause-refused : goal.returns-in-Err-clause-refused
 unfolding opaque_at
-returns-in_err-bytes-clause-refused c =
-    refused (Opaque c.args.max) (λ s. s.now) _ (unread c.args.self.now) (unread c.args.self.now) (search rules)
+returns-in-Err-clause-refused c =
+    refused_is_not_spelled (Opaque c.args.max) (unread c.args.self.now) c.in-Err.fault (search rules)
 
-pub returns-clause-spelled : goal.returns-clause-spelled
+pub returns-in-Ok-clause-spelled : goal.returns-in-Ok-clause-spelled
 unfolding opaque_at
-returns-clause-spelled c =
+returns-in-Ok-clause-spelled c =
     read_is_spelled (Opaque c.args.max) (unread c.args.self.now) _ _ c.args.self.now.are_bytes (search rules)

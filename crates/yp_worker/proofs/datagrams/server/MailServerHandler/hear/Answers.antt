@@ -1,31 +1,14 @@
-use Rattle.std.proofs.Common.{refl, length, subst, ◌∙◌}
-use Rattle.std.specs.Prelude.{IfSome}
-use Rattle.yp_board.specs.Catalogues.{Catalogue}
-use Rattle.yp_answer.specs.inside.session.Errands.{IsDue}
+use Rattle.std.proofs.Common.{inl, inr, subst}
 use Rattle.yp_answer.specs.session.Hosts.{conduct_of}
-use Rattle.yp_worker.proofs.datagrams.Answering.{answered}
+use Rattle.yp_rpc.specs.inside.Turns.{reply_of}
+use Rattle.yp_worker.specs.datagrams.Mailing.{Answers}
 use Rattle.yp_worker.proofs.datagrams.server.MailServerHandler.hear.Goals as goal
+
+pub returns-then-forward-clause-hears : goal.returns-then-forward-clause-hears
+returns-then-forward-clause-hears g c = inr (c.forward.ensures.forwards c.if-forward.true)
 
 pub returns-clause-hears : goal.returns-clause-hears
 returns-clause-hears g c =
     let conduct = conduct_of g.H.View.seen g.H.Host.told g.H.Host.counts g.H.View.stepped g.H.Host.made g.H.Host.carried in
-    let replied = c.reply_to-len.ensures.replied in
-    rw (← c.self.view_is) (record {
-      turn = replied.0;
-      message_is = replied.1;
-      answer_is = replied.2;
-      answers = answered conduct c.args.from replied.0 c.self.inside.host c.reply_to-len.new.host replied.3 replied.5;
-      waits = replied.4;
-      holding = refl;
-    })
-
-pub invariant_of-self : goal.invariant_of-self
-invariant_of-self g c =
-    let conduct = conduct_of g.H.View.seen g.H.Host.told g.H.Host.counts g.H.View.stepped g.H.Host.made g.H.Host.carried in
-    let replied = c.reply_to-len.ensures.replied in
-    let heard = answered conduct c.args.from replied.0 c.self.inside.host c.reply_to-len.new.host replied.3 replied.5 in
-    let same = heard.catalogue ∙ c.self.invariant.0 in (
-      same,
-      c.self.invariant.1,
-      subst (λ (k : Catalogue). IfSome c.reply_to-len.result.1 (λ awaited. IsDue (length k.maps) awaited.0)) same c.reply_to-len.ensures.due,
-    )
+    inl (subst (λ m. Answers conduct c.args.from c.args.mail.now (reply_of c.answer.result c.answer.new.buf) m c.answer.new.self)
+    (c.forward.ensures.same c.if-forward.false) c.answer.ensures.answers)

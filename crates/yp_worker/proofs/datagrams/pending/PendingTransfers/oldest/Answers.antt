@@ -1,7 +1,0 @@
-use Rattle.std.proofs.Common.{length}
-use Rattle.yp_worker.proofs.datagrams.Queues.{takes_over, balances}
-use Rattle.yp_worker.proofs.datagrams.pending.PendingTransfers.oldest.Goals as goal
-
-pub pop_as-requires-clause-rule : goal.pop_as-requires-clause-rule
-pop_as-requires-clause-rule g c =
-    (takes_over (length g.J.Site.catalogue.maps) _ _ c.pass.invariant.0, balances (length g.J.Site.catalogue.maps) _ _)
