@@ -73,12 +73,12 @@ def value_of(value):
 
 
 class Server:
-    """A server of the maps in the folder ROOM, which has answered a datagram."""
+    """A server of the maps in the folder ROOM, and of what FURTHER words name, which has answered a datagram."""
 
-    def __init__(self, room, port, workers):
+    def __init__(self, room, port, workers, further=()):
         self.address = (HOST, port)
         stores = [f"{DOMAIN.decode()}/{name.decode()}" for name in KINDS]
-        words = [PROGRAM, "serve", "m1", port, workers, LIFE, LIFE, *stores]
+        words = [PROGRAM, "serve", "m1", port, workers, LIFE, LIFE, *stores, *further]
         self.process = subprocess.Popen(list(map(str, words)), cwd=room)
         if rpc.ask(rpc.call(1, rpc.YP, rpc.NULL), self.address, 60) is None:
             self.kill()
