@@ -7,8 +7,9 @@ cut, left out or put in; fragments of any size, records over the limits; bytes o
 the middle of a call, some ask for whole maps and don't read, and for each 50 calls one comes and goes. A call that is
 sound is sent between, and must have its reply. Afterwards the server must answer MATCH over a connection and in a
 datagram, with the threads that it had, with no descriptors more but those of a connection for each worker, and with
-no more memory than it had behind a first attack of a tenth as many calls but a mebibyte. It prints its seed, what was
-sent and what the server has, and ends with status 1 where that isn't so. It isn't part of the gate.
+no more memory than it had behind a first attack of as many calls but a mebibyte: the most that a thread ever had stays
+with it. It prints its seed, what was sent and what the server has, and ends with status 1 where that isn't so. It isn't
+part of the gate.
 """
 
 import os
@@ -222,6 +223,18 @@ class Attack:
             self.count("coming")
 
 
+def begun(served):
+    """What the server has once it has answered, and all its threads were started."""
+    answers(served)
+    used = served.used()
+    for _ in range(SECONDS):
+        time.sleep(0.5)
+        before, used = used, served.used()
+        if used[1] == before[1]:
+            break
+    return used
+
+
 def settled(served, idle):
     """What the server has once its callers are gone, or after a while. Each worker may have its last connection yet: it
     closes it once it may accept the next one."""
@@ -245,10 +258,9 @@ def answers(served):
 
 
 def attack(served, seed, calls):
-    """Attacks a server twice, with a tenth of the calls first, and prints what it got and has."""
-    idle = served.used()
-    answers(served)
-    Attack(served, seed, calls // 10).run()
+    """Attacks a server twice, with as many calls, and prints what it got and has."""
+    idle = begun(served)
+    Attack(served, seed, calls).run()
     before = settled(served, idle)
     began = time.monotonic()
     main_attack = Attack(served, seed + 1, calls)
