@@ -22,14 +22,15 @@ ghost use Rattle.yp_client.specs.inside.Listed.{row_view};
 ghost use Rattle.yp_client.specs.inside.Windows.{IsRowRefusal};
 
 use crate::answers::read_results;
+use crate::connection::Connection;
 use crate::exchange::{RemoteProcedure, ask};
 use crate::fault::ClientFault;
 use crate::limits::ALL_MAX;
 use std::snapshot::Snapshot;
-use yp_io::{Failed, Pair, Sink, Source};
+use yp_io::{Failed, Sink, Source};
 use yp_messages::protocol::{ALL, KEY_MAX, VALUE_MAX, YPPROG, YPVERS};
 use yp_messages::{ReadMessage, ReqNokey, YpStat};
-use yp_rpc::{RecordFault, RecordReader, RecordWriter};
+use yp_rpc::{RecordFault, RecordReader};
 use yp_version::{VersionBuilder, VersionFault};
 use yp_xdr::Cursor;
 
@@ -360,8 +361,7 @@ impl AllReply {
     }
 
     /// Reads the whole reply, and pushes its rows up to the end of them or the first refusal. It answers what the reply
-    /// says, or
-    /// why there is none.
+    /// says, or why there is none.
     pub fn read<S: Source>(
         &mut self,
         source: &mut S,
@@ -389,50 +389,56 @@ impl AllReply {
     }
 }
 
-/// Sends a call of ALL, reads its reply to the end, and pushes the rows of it. It answers what the reply says, or why
-/// there is
-/// none.
-pub fn fetch<S: Source, K: Sink>(
-    wire: &mut Pair<S, K>,
-    reader: &mut RecordReader,
-    writer: &mut RecordWriter,
-    buf: &mut [u8],
-    waited: &mut Snapshot<Pair<S, K>>,
-    asked: &ReqNokey<'_>,
-    reply: &mut AllReply,
-    into: &mut VersionBuilder,
-) -> Result<Result<(), ClientFault>, ClientFault>
-    requires idle { writer.old ≡ [] }
-    requires between { reader.old.part ≡ not_begun }
-    requires within { ReqNokeyIsWithin asked.now }
-    requires room { length buf.old ≡ reply_max }
-    requires new { reply.old ≡ record { xid = reply.old.xid; start = 0; end = 0; at = 0; whole = false; rows = 0 } }
-    ensures idle { writer.new ≡ [] }
-    ensures between { OnOk result (reader.new.part ≡ not_begun) }
-    ensures sent { SendsCall (all_call asked.now.domain.now asked.now.map.now reply.old.xid) result
-        (told_by S.Source K.Sink wire.old) (told_by S.Source K.Sink wire.new) }
-    ensures waited { WaitsForReply result (told_by S.Source K.Sink waited.new.value)
-        (told_by S.Source K.Sink wire.old) (told_by S.Source K.Sink wire.new) }
-    ensures says { IfOk result (λ said. (message : List ℕ)
-        × TakesRecord all_max message (S.input wire.old.source)
-        (S.input wire.new.source) reader.old.place reader.new.place
-        × SaysAll into.old into.new reply.old.xid message said) }
-    ensures kept { Grows into.old into.new }
-    ensures of_reply { IfOk result IsOfReply }
-    ensures cause { IfErr result (λ fault. NoReply all_max fault
-        (state_of S.Source K.Sink (unspent wire.old reply.old.xid reader.old.place))
-        (state_of S.Source K.Sink (unspent wire.new reply.old.xid reader.new.place))) }
-    ensures reads { S.faults wire.old.source ≤ S.faults wire.new.source }
-    ensures writes { K.faults wire.old.sink ≤ K.faults wire.new.sink }
-{
-    let called = RemoteProcedure {
-        prog: YPPROG,
-        vers: YPVERS,
-        procedure: ALL,
-    };
-    if let Err(Failed) = ask(&mut wire.sink, writer, buf, reply.xid, called, asked) {
-        return Err(ClientFault::WriteFault);
+impl<S: Source, K: Sink> Connection<S, K> {
+    /// Sends a call of ALL, reads its reply to the end, and pushes the rows of it. It answers what the reply says, or
+    /// why there is none.
+    pub fn fetch(
+        &mut self,
+        asked: &ReqNokey<'_>,
+        reply: &mut AllReply,
+        into: &mut VersionBuilder,
+    ) -> Result<Result<(), ClientFault>, ClientFault>
+        requires idle { self.old.writer ≡ [] }
+        requires between { self.old.reader.part ≡ not_begun }
+        requires within { ReqNokeyIsWithin asked.now }
+        requires room { length self.old.buf.items ≡ reply_max }
+        requires new { reply.old ≡ record { xid = reply.old.xid; start = 0; end = 0; at = 0; whole = false; rows = 0 } }
+        ensures idle { self.new.writer ≡ [] }
+        ensures between { OnOk result (self.new.reader.part ≡ not_begun) }
+        ensures room { length self.new.buf.items ≡ reply_max }
+        ensures sent { SendsCall (all_call asked.now.domain.now asked.now.map.now reply.old.xid) result
+            (told_by S.Source K.Sink self.old.wire) (told_by S.Source K.Sink self.new.wire) }
+        ensures waited { WaitsForReply result (told_by S.Source K.Sink self.new.waited.value)
+            (told_by S.Source K.Sink self.old.wire) (told_by S.Source K.Sink self.new.wire) }
+        ensures says { IfOk result (λ said. (message : List ℕ)
+            × TakesRecord all_max message (S.input self.old.wire.source)
+            (S.input self.new.wire.source) self.old.reader.place self.new.reader.place
+            × SaysAll into.old into.new reply.old.xid message said) }
+        ensures kept { Grows into.old into.new }
+        ensures of_reply { IfOk result IsOfReply }
+        ensures cause { IfErr result (λ fault. NoReply all_max fault
+            (state_of S.Source K.Sink (unspent self.old.wire reply.old.xid self.old.reader.place))
+            (state_of S.Source K.Sink (unspent self.new.wire reply.old.xid self.new.reader.place))) }
+        ensures reads { S.faults self.old.wire.source ≤ S.faults self.new.wire.source }
+        ensures writes { K.faults self.old.wire.sink ≤ K.faults self.new.wire.sink }
+    {
+        let called = RemoteProcedure {
+            prog: YPPROG,
+            vers: YPVERS,
+            procedure: ALL,
+        };
+        let sink = &mut self.wire.sink;
+        if let Err(Failed) = ask(
+            sink,
+            &mut self.writer,
+            &mut self.buf,
+            reply.xid,
+            called,
+            asked,
+        ) {
+            return Err(ClientFault::WriteFault);
+        }
+        self.waited = Snapshot::of(&self.wire);
+        Ok(reply.read(&mut self.wire.source, &mut self.reader, &mut self.buf, into)?)
     }
-    *waited = Snapshot::of(wire);
-    Ok(reply.read(&mut wire.source, reader, buf, into)?)
 }

@@ -17,9 +17,10 @@ ghost use Rattle.yp_client.specs.Results.{row_of};
 ghost use Rattle.yp_client.specs.Calls.{Calls};
 ghost use Rattle.yp_client.specs.inside.Lent.{ClientRests};
 
-use crate::all::{AllReply, fetch};
+use crate::all::AllReply;
 use crate::answers::{Lending, ProcedureResult, Row, read_found};
-use crate::exchange::{RemoteProcedure, exchange};
+use crate::connection::Connection;
+use crate::exchange::RemoteProcedure;
 use crate::fault::{ClientFault, is_spent_by};
 use crate::limits::REPLY_MAX;
 use std::alloc::Global;
@@ -43,13 +44,9 @@ pub struct ClientRefused<S, K> {
 #[derive(Drop)]
 pub struct Client<S: Source, K: Sink> {
     alloc: Global,
-    wire: Pair<S, K>,
-    reader: RecordReader,
-    writer: RecordWriter,
-    buf: Vec<u8>,
+    connection: Connection<S, K>,
     xid: u32,
     spent: bool,
-    waited: Snapshot<Pair<S, K>>,
 }
 
 impl<S: Source, K: Sink> Model for Client<S, K> {
@@ -62,15 +59,16 @@ impl<S: Source, K: Sink> Model for Client<S, K> {
     ghost use Rattle.yp_client.specs.Limits.{reply_max};
 
     ghost view = { λ c. record {
-      wire = c.wire;
+      wire = c.connection.wire;
       xid = c.xid;
-      place = c.reader.place;
+      place = c.connection.reader.place;
       spent = c.spent;
-      waited = c.waited.value;
+      waited = c.connection.waited.value;
     } };
 
     ghost invariant = { λ c.
-        (c.spent ≡ false → c.reader.part ≡ not_begun) × (c.writer ≡ []) × (length c.buf.items ≡ reply_max) };
+        (c.spent ≡ false → c.connection.reader.part ≡ not_begun) × (c.connection.writer ≡ [])
+        × (length c.connection.buf.items ≡ reply_max) };
 }
 
 impl<S: Source, K: Sink> Client<S, K> {
@@ -93,13 +91,15 @@ impl<S: Source, K: Sink> Client<S, K> {
         let waited = Snapshot::of(&wire);
         Ok(Client {
             alloc,
-            wire,
-            reader: RecordReader::new(),
-            writer,
-            buf,
+            connection: Connection {
+                wire,
+                reader: RecordReader::new(),
+                writer,
+                buf,
+                waited,
+            },
             xid,
             spent: false,
-            waited,
         })
     }
 
@@ -107,12 +107,11 @@ impl<S: Source, K: Sink> Client<S, K> {
     pub fn into_wire(self) -> Pair<S, K>
         ensures { result ≡ self.wire }
     {
-        self.wire
+        self.connection.wire
     }
 
     /// ALL: pushes the rows of a map onto a builder, up to the end of them or the first that is refused. The reply is
-    /// read
-    /// piece by piece, and to its end before the answer.
+    /// read piece by piece, and to its end before the answer.
     pub fn all(
         &mut self,
         domain: &[u8],
@@ -132,16 +131,8 @@ impl<S: Source, K: Sink> Client<S, K> {
         }
         let mut reply = AllReply::new(self.xid);
         self.xid = self.xid.wrapping_add(1);
-        let fetched = fetch(
-            &mut self.wire,
-            &mut self.reader,
-            &mut self.writer,
-            &mut self.buf,
-            &mut self.waited,
-            &ReqNokey { domain, map },
-            &mut reply,
-            into,
-        );
+        let asked = ReqNokey { domain, map };
+        let fetched = self.connection.fetch(&asked, &mut reply, into);
         let said = match fetched {
             Ok(said) => said,
             Err(fault) => Err(fault),
@@ -168,18 +159,9 @@ impl<S: Source, K: Sink> Client<S, K> {
         }
         let xid = self.xid;
         self.xid = xid.wrapping_add(1);
-        let read = exchange(
-            &mut self.wire,
-            &mut self.reader,
-            &mut self.writer,
-            &mut self.buf,
-            &mut self.waited,
-            xid,
-            called,
-            arguments,
-        );
+        let read = self.connection.exchange(xid, called, arguments);
         let judged = match read {
-            Ok(len) => answer.judge(self.alloc, &self.buf[..len], xid),
+            Ok(len) => answer.judge(self.alloc, &self.connection.buf[..len], xid),
             Err(fault) => Err(fault),
         };
         self.spent = is_spent_by(&judged);
@@ -204,16 +186,7 @@ impl<S: Source, K: Sink> Client<S, K> {
         }
         let xid = self.xid;
         self.xid = xid.wrapping_add(1);
-        let read = exchange(
-            &mut self.wire,
-            &mut self.reader,
-            &mut self.writer,
-            &mut self.buf,
-            &mut self.waited,
-            xid,
-            called,
-            arguments,
-        );
+        let read = self.connection.exchange(xid, called, arguments);
         let len = match read {
             Ok(len) => len,
             Err(fault) => {
@@ -221,8 +194,8 @@ impl<S: Source, K: Sink> Client<S, K> {
                 return Err(fault);
             }
         };
-        self.spent = is_spent_by(&lending.read(&self.buf[..len], xid));
-        let reply = &self.buf;
+        self.spent = is_spent_by(&lending.read(&self.connection.buf[..len], xid));
+        let reply = &self.connection.buf;
         lending.read(&reply[..len], xid)
     }
 
@@ -243,16 +216,7 @@ impl<S: Source, K: Sink> Client<S, K> {
         }
         let xid = self.xid;
         self.xid = xid.wrapping_add(1);
-        let read = exchange(
-            &mut self.wire,
-            &mut self.reader,
-            &mut self.writer,
-            &mut self.buf,
-            &mut self.waited,
-            xid,
-            called,
-            arguments,
-        );
+        let read = self.connection.exchange(xid, called, arguments);
         let len = match read {
             Ok(len) => len,
             Err(fault) => {
@@ -260,8 +224,8 @@ impl<S: Source, K: Sink> Client<S, K> {
                 return Err(fault);
             }
         };
-        self.spent = is_spent_by(&read_found(&self.buf[..len], xid));
-        let reply = &self.buf;
+        self.spent = is_spent_by(&read_found(&self.connection.buf[..len], xid));
+        let reply = &self.connection.buf;
         read_found(&reply[..len], xid)
     }
 }

@@ -11,9 +11,10 @@ ghost use Rattle.yp_client.specs.Limits.{reply_max};
 ghost use Rattle.yp_client.specs.inside.States.{told_by, state_of, unspent};
 ghost use Rattle.yp_client.specs.Calls.{SendsCall, WaitsForReply, NoReply};
 
+use crate::connection::Connection;
 use crate::fault::ClientFault;
 use std::snapshot::Snapshot;
-use yp_io::{Failed, Pair, Sink, Source};
+use yp_io::{Failed, Sink, Source};
 use yp_messages::Message;
 use yp_rpc::{RecordReader, RecordWriter, write_call};
 use yp_xdr::{NoRoom, laws};
@@ -72,45 +73,54 @@ pub fn ask<K: Sink, M: Message>(
     writer.send(sink, &buf[..len])
 }
 
-/// Sends a call, notes its wire, and then reads its reply to the front of the buffer. It answers the length of the
-/// reply.
-pub fn exchange<S: Source, K: Sink, M: Message>(
-    wire: &mut Pair<S, K>,
-    reader: &mut RecordReader,
-    writer: &mut RecordWriter,
-    buf: &mut [u8],
-    waited: &mut Snapshot<Pair<S, K>>,
-    xid: u32,
-    called: RemoteProcedure,
-    arguments: &M,
-) -> Result<usize, ClientFault>
-    requires idle { writer.old ≡ [] }
-    requires between { reader.old.part ≡ not_begun }
-    requires within { M.is_within arguments.now }
-    requires buffer { length buf.old ≡ reply_max }
-    requires room { 40 + length (spelling M.kind (M.view arguments.now)) ≤ reply_max }
-    ensures idle { writer.new ≡ [] }
-    ensures between { reader.new.part ≡ not_begun }
-    ensures sent { SendsCall (call_of M.kind xid called.prog called.vers called.procedure (M.view arguments.now)) result
-        (told_by S.Source K.Sink wire.old) (told_by S.Source K.Sink wire.new) }
-    ensures waited { WaitsForReply result (told_by S.Source K.Sink waited.new.value)
-        (told_by S.Source K.Sink wire.old) (told_by S.Source K.Sink wire.new) }
-    ensures within { IfOk result (λ len. len ≤ length buf.new) }
-    ensures taken { IfOk result (λ len. TakesRecord reply_max (take len buf.new)
-        (S.input wire.old.source) (S.input wire.new.source) reader.old.place reader.new.place) }
-    ensures cause { IfErr result (λ fault. NoReply reply_max fault
-        (state_of S.Source K.Sink (unspent wire.old xid reader.old.place))
-        (state_of S.Source K.Sink (unspent wire.new xid reader.new.place))) }
-    ensures reads { S.faults wire.old.source ≤ S.faults wire.new.source }
-    ensures writes { K.faults wire.old.sink ≤ K.faults wire.new.sink }
-{
-    if let Err(Failed) = ask(&mut wire.sink, writer, buf, xid, called, arguments) {
-        return Err(ClientFault::WriteFault);
-    }
-    *waited = Snapshot::of(wire);
-    match reader.next(&mut wire.source, buf) {
-        Ok(Some(len)) => Ok(len),
-        Ok(None) => Err(ClientFault::Torn { at: reader.place() }),
-        Err(fault) => Err(fault.into()),
+impl<S: Source, K: Sink> Connection<S, K> {
+    /// Sends a call, notes its wire, and then reads its reply to the front of the buffer. It answers the length of the
+    /// reply.
+    pub fn exchange<M: Message>(
+        &mut self,
+        xid: u32,
+        called: RemoteProcedure,
+        arguments: &M,
+    ) -> Result<usize, ClientFault>
+        requires idle { self.old.writer ≡ [] }
+        requires between { self.old.reader.part ≡ not_begun }
+        requires within { M.is_within arguments.now }
+        requires buffer { length self.old.buf.items ≡ reply_max }
+        requires room { 40 + length (spelling M.kind (M.view arguments.now)) ≤ reply_max }
+        ensures idle { self.new.writer ≡ [] }
+        ensures between { self.new.reader.part ≡ not_begun }
+        ensures buffer { length self.new.buf.items ≡ reply_max }
+        ensures sent { SendsCall (call_of M.kind xid called.prog called.vers called.procedure (M.view arguments.now))
+            result (told_by S.Source K.Sink self.old.wire) (told_by S.Source K.Sink self.new.wire) }
+        ensures waited { WaitsForReply result (told_by S.Source K.Sink self.new.waited.value)
+            (told_by S.Source K.Sink self.old.wire) (told_by S.Source K.Sink self.new.wire) }
+        ensures within { IfOk result (λ len. len ≤ length self.new.buf.items) }
+        ensures taken { IfOk result (λ len. TakesRecord reply_max (take len self.new.buf.items)
+            (S.input self.old.wire.source) (S.input self.new.wire.source) self.old.reader.place self.new.reader.place) }
+        ensures cause { IfErr result (λ fault. NoReply reply_max fault
+            (state_of S.Source K.Sink (unspent self.old.wire xid self.old.reader.place))
+            (state_of S.Source K.Sink (unspent self.new.wire xid self.new.reader.place))) }
+        ensures reads { S.faults self.old.wire.source ≤ S.faults self.new.wire.source }
+        ensures writes { K.faults self.old.wire.sink ≤ K.faults self.new.wire.sink }
+    {
+        let sink = &mut self.wire.sink;
+        if let Err(Failed) = ask(
+            sink,
+            &mut self.writer,
+            &mut self.buf,
+            xid,
+            called,
+            arguments,
+        ) {
+            return Err(ClientFault::WriteFault);
+        }
+        self.waited = Snapshot::of(&self.wire);
+        match self.reader.next(&mut self.wire.source, &mut self.buf) {
+            Ok(Some(len)) => Ok(len),
+            Ok(None) => Err(ClientFault::Torn {
+                at: self.reader.place(),
+            }),
+            Err(fault) => Err(fault.into()),
+        }
     }
 }

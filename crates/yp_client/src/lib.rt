@@ -14,6 +14,7 @@
 mod all;
 mod answers;
 mod client;
+mod connection;
 mod dialed;
 mod exchange;
 mod fault;

@@ -43,7 +43,7 @@ use yp_io::{
 };
 use yp_map_file::SlotFault;
 use yp_publisher::{InstallFault, Installed, OpenFault, Origin, Publisher, open_publisher};
-use yp_texts::{AfterFault, BuildFault, Kind, Reading, build_after};
+use yp_texts::{AfterFault, BuildFault, Kind, Maker, Reading, SourceText, build_after};
 use yp_version::{Order, Version};
 
 /// What is to be built.
@@ -229,7 +229,15 @@ fn renew<D: Disk>(
 {
     let _standing = publisher.standing(0);
     let last = shown_of(publisher);
-    let version = build_after(alloc, rt, job.reading, text, last, job.flag, now, &job.name)?;
+    let source = SourceText {
+        reading: job.reading,
+        text,
+    };
+    let maker = Maker {
+        name: &job.name,
+        moment: now,
+    };
+    let version = build_after(alloc, rt, source, last, job.flag, &maker)?;
     let (order, rows) = (version.order(), version.len());
     let installed = store_version(alloc, publisher, version)?;
     Ok(Built {

@@ -10,7 +10,7 @@ use Rattle.yp_command.specs.declared.office.office.Office.{Office}
 use Rattle.yp_command.specs.declared.office.status.Status.{Status}
 use Rattle.yp_command.specs.declared.office.status.Status.TheVariants.{ReadFault, WriteFault, DiskFault, NoMemory, Rows}
 use Rattle.yp_command.specs.office.Seeing.{Seeing, input, HasCauses}
-use Rattle.yp_command_serve.specs.Served.{ServesInput, IsWatched, traffic_of, wire}
+use Rattle.yp_command_serve.specs.Served.{ServesInput, witnessed, IsWatched, traffic_of, wire}
 use Rattle.yp_command_serve.specs.Once.{once_maps, once_board, rows_fault, OnceDoes}
 use Rattle.yp_command_serve.specs.inside.Once.{IsRows}
 
@@ -38,7 +38,7 @@ module _ {S K D C A I T : Type 0} (seen : Seeing S K D C A I T) (store : Name) (
   nothing_watched status (inl e) = record { more = []; behind = sym (append-nil seen_before); done = rw e (refl, refl) }
   nothing_watched status (inr (row, rule, e)) = record { more = []; behind = sym (append-nil seen_before); done = rw e (refl, refl) }
 
-  without_memory : OnceDoes seen store rows NoMemory office office seen_before seen_before
+  without_memory : OnceDoes seen store rows NoMemory (witnessed office seen_before) (witnessed office seen_before)
   without_memory = record {
     serves = λ none. no_stream (input seen office) refl;
     watched = nothing_watched NoMemory (inl refl);
@@ -48,7 +48,7 @@ module _ {S K D C A I T : Type 0} (seen : Seeing S K D C A I T) (store : Name) (
     stays = refl;
   }
 
-  refused_at : (fault : Option (ℕ × ℕ)) (status : Status) → rows_fault rows ≡ fault → IsRows fault status → OnceDoes seen store rows status office office seen_before seen_before
+  refused_at : (fault : Option (ℕ × ℕ)) (status : Status) → rows_fault rows ≡ fault → IsRows fault status → OnceDoes seen store rows status (witnessed office seen_before) (witnessed office seen_before)
   refused_at None status e is = absurd is
   refused_at (Some (row, rule)) status e is = record {
     serves = λ none. absurd (let no : ◌≡◌ {A = Option (ℕ × ℕ)} None (Some (row, rule)) = cc in cc);
@@ -59,6 +59,6 @@ module _ {S K D C A I T : Type 0} (seen : Seeing S K D C A I T) (store : Name) (
     stays = refl;
   }
 
-  pub nothing_served : (status : Status) → (status ≡ NoMemory) ⊎ IsRows (rows_fault rows) status → OnceDoes seen store rows status office office seen_before seen_before
+  pub nothing_served : (status : Status) → (status ≡ NoMemory) ⊎ IsRows (rows_fault rows) status → OnceDoes seen store rows status (witnessed office seen_before) (witnessed office seen_before)
   nothing_served status (inl e) = rw e without_memory
   nothing_served status (inr is) = refused_at (rows_fault rows) status refl is

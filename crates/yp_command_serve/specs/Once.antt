@@ -8,13 +8,13 @@ use Rattle.yp_version.specs.Drafts.{Draft, with_rows, first_refused, empty_draft
 use Rattle.yp_board.specs.Catalogues.{Name}
 use Rattle.yp_board.specs.Views.{Seen}
 use Rattle.yp_answer.specs.Maps.{Maps}
-use Rattle.yp_answer.specs.session.Wires.{Wire, SeesMore}
+use Rattle.yp_answer.specs.session.Wires.{SeesMore}
 use Rattle.yp_command.specs.declared.office.status.Status.{Status}
 use Rattle.yp_command.specs.declared.office.status.Status.TheVariants.{NoMemory, Rows}
 use Rattle.yp_command.specs.office.Rows.{rule_of}
 use Rattle.yp_command.specs.declared.office.office.Office.{Office}
 use Rattle.yp_command.specs.office.Seeing.{Seeing, input, HasCauses}
-use Rattle.yp_command_serve.specs.Served.{ServesInput, IsWatched, serve_may_end, traffic_of, wire, Completes}
+use Rattle.yp_command_serve.specs.Served.{ServesInput, Witnessed, IsWatched, serve_may_end, traffic_of, wire, Completes}
 
 -- its own name
 abbrev pub once_name : List ℕ
@@ -58,12 +58,14 @@ once_may_end status = serve_may_end status
 -- then nothing is read or written. Where nothing fails its status is that of the one cut of the input. What a witness
 -- has seen grows by the wires behind the records that were answered.
 pub record OnceDoes {S K D C A I T : Type 0} (seen : Seeing S K D C A I T) (store : Name) (rows : List Row)
-    (status : Status) (old new : Office S K D C A I T) (before after : List Wire) : Type 0 where
+    (status : Status) (old new : Witnessed (Office S K D C A I T)) : Type 0 where
   pub serves : rows_fault rows ≡ None
-      → IfSome (input seen old) (λ stream. ServesInput (once_maps store rows) status stream (traffic_of seen old new))
-  pub watched : SeesMore before after (IsWatched (once_board store rows) status (wire seen old) (wire seen new))
+      → IfSome (input seen old.reached) (λ stream. ServesInput (once_maps store rows) status stream
+      (traffic_of seen old.reached new.reached))
+  pub watched : SeesMore old.wires new.wires
+      (IsWatched (once_board store rows) status (wire seen old.reached) (wire seen new.reached))
   pub refused : (row rule : ℕ) → rows_fault rows ≡ Some (row, rule)
-      → ((status ≡ Rows row rule) ⊎ (status ≡ NoMemory)) × (new ≡ old)
-  pub complete : rows_fault rows ≡ None → Completes seen status old new
-  pub causes : HasCauses seen status old new
-  pub stays : new ≡ record old { wire = new.wire }
+      → ((status ≡ Rows row rule) ⊎ (status ≡ NoMemory)) × (new.reached ≡ old.reached)
+  pub complete : rows_fault rows ≡ None → Completes seen status old.reached new.reached
+  pub causes : HasCauses seen status old.reached new.reached
+  pub stays : new.reached ≡ record old.reached { wire = new.reached.wire }

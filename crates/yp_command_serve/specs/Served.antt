@@ -130,6 +130,15 @@ IsStatusOf stream messages rest _ = ⊥
 
 -- ---- what a witness sees
 
+-- what is reached, an office or all of the outside, and the wires that a witness of it has seen, each behind a record
+-- that was answered
+pub record Witnessed (P : Type 0) : Type 0 where
+  pub reached : P
+  pub wires : List Wire
+
+abbrev pub witnessed : {P : Type 0} → P → List Wire → Witnessed P
+witnessed reached wires = record { reached = reached; wires = wires }
+
 -- a board whose maps are never made or fetched, and how many transfers it counted
 pub record Fixed : Type 0 where
   pub board : Seen

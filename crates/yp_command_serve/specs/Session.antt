@@ -26,7 +26,7 @@ use Rattle.yp_command.specs.declared.office.office.Office.{Office}
 use Rattle.yp_command.specs.office.Seeing.{Seeing, moment, HasCauses, DiskFails}
 use Rattle.yp_command.specs.declared.office.disks.NamedDisk.{NamedDisk}
 use Rattle.yp_command.specs.office.Disks.{names_of, disks_of}
-use Rattle.yp_command_serve.specs.Served.{serve_may_end, wire, Completes}
+use Rattle.yp_command_serve.specs.Served.{Witnessed, serve_may_end, wire, Completes}
 use Rattle.yp_command.specs.declared.office.status.Status.{Status}
 use Rattle.yp_command.specs.declared.office.status.Status.TheVariants.{Done, ReadFault, WriteFault, Torn, TooLong, NoMemory}
 use Rattle.yp_command.specs.declared.office.status.Status.TheVariants.{Damaged, DiskFault, Enough}
@@ -74,6 +74,16 @@ pub record DiskIsSound {D : Type 0} (history : D → Option History) (disk : Nam
 
 -- ---- what `session` does
 
+-- the own name, from whom the calls come, the maps, and the hosts that are known
+pub record Job : Type 0 where
+  pub own : List ℕ
+  pub peer : Peer
+  pub stores : List Name
+  pub hosts : HostList
+
+abbrev pub session_job_of : List ℕ → Peer → List Name → HostList → Job
+session_job_of own peer stores hosts = record { own = own; peer = peer; stores = stores; hosts = hosts }
+
 -- what it serves by: what the parts of the office tell, and the maps, by their host
 abbrev pub service : {S K D C A I T : Type 0} → Seeing S K D C A I T → List ℕ → Peer → List Name
     → Service D Seen (Desk A T C)
@@ -101,16 +111,15 @@ session_may_end status = serve_may_end status
 -- leaves of each map what was shown of it, or the version that was being installed. Where a file can't be loaded
 -- nothing is read or written. Over files that aren't damaged its status is that of the one cut of its input. What a
 -- witness has seen grows by the wires behind the records that were answered.
-pub record SessionDoes {S K D C A I T : Type 0} (seen : Seeing S K D C A I T) (own : List ℕ) (peer : Peer)
-    (stores : List Name) (hosts : HostList) (status : Status) (old new : Office S K D C A I T)
-    (before after : List Wire) : Type 0 where
-  pub serves : SeesMore before after
-      (Sessions (service seen own peer stores) status (connection seen hosts old) (connection seen hosts new))
-  pub bound : (number : ℕ) → AtDisk number (disks_of old.disks.items) (disks_of new.disks.items)
+pub record SessionDoes {S K D C A I T : Type 0} (seen : Seeing S K D C A I T) (job : Job) (status : Status)
+    (old new : Witnessed (Office S K D C A I T)) : Type 0 where
+  pub serves : SeesMore old.wires new.wires (Sessions (service seen job.own job.peer job.stores) status
+      (connection seen job.hosts old.reached) (connection seen job.hosts new.reached))
+  pub bound : (number : ℕ) → AtDisk number (disks_of old.reached.disks.items) (disks_of new.reached.disks.items)
       (LeavesOr seen.disk.history (λ image. length image ≤ file_max))
-  pub complete : All (DiskIsSound seen.disk.history) old.disks.items → ¬ DiskFails seen old new
-      → Completes seen status old new
-  pub causes : HasCauses seen status old new
-  pub names : names_of new.disks.items ≡ names_of old.disks.items
-  pub told : moment seen new ≡ moment seen old
-  pub inbox : new.inbox ≡ old.inbox
+  pub complete : All (DiskIsSound seen.disk.history) old.reached.disks.items
+      → ¬ DiskFails seen old.reached new.reached → Completes seen status old.reached new.reached
+  pub causes : HasCauses seen status old.reached new.reached
+  pub names : names_of new.reached.disks.items ≡ names_of old.reached.disks.items
+  pub told : moment seen new.reached ≡ moment seen old.reached
+  pub inbox : new.reached.inbox ≡ old.reached.inbox

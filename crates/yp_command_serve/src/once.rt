@@ -14,7 +14,7 @@ ghost use Rattle.yp_command.specs.Words.{row_view};
 ghost use Rattle.yp_command.specs.office.Rows.{row_status};
 ghost use Rattle.yp_command.specs.office.Seeing.{seeing, IsPassedOn};
 ghost use Rattle.yp_command.specs.inside.office.Status.{IsTellable};
-ghost use Rattle.yp_command_serve.specs.Served.{ServesInput, IsWatched, IsStatusOf, serve_may_end};
+ghost use Rattle.yp_command_serve.specs.Served.{ServesInput, witnessed, IsWatched, IsStatusOf, serve_may_end};
 ghost use Rattle.yp_command_serve.specs.Once.{once_draft, once_name, once_version, rows_fault, word_of};
 ghost use Rattle.yp_command_serve.specs.inside.Once.{IsRows};
 ghost use Rattle.yp_command_serve.specs.Once.{OnceDoes, once_may_end};
@@ -194,8 +194,8 @@ pub fn serve_once<
     witness: &mut W,
 ) -> Status
     ensures does { OnceDoes (seeing S.Source K.Sink D.Disk C.Clock A.Dial I.Inbox T.Texts)
-        (name_view store) (map row_view rows.now) result office.old office.new
-        (W.wires witness.old) (W.wires witness.new) }
+        (name_view store) (map row_view rows.now) result
+        (witnessed office.old (W.wires witness.old)) (witnessed office.new (W.wires witness.new)) }
     ensures may_end { IsTrue (once_may_end result) }
     ensures passed_on { IsPassedOn (seeing S.Source K.Sink D.Disk C.Clock A.Dial I.Inbox T.Texts)
         result office.old office.new }

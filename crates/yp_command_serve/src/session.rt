@@ -16,7 +16,8 @@ ghost use Rattle.yp_command.specs.inside.Words.{IsNamed};
 ghost use Rattle.yp_command.specs.office.Disks.{names_of, disks_of, faults_of};
 ghost use Rattle.yp_command_serve.specs.Session.{Sessions, connection_at};
 ghost use Rattle.yp_command_serve.specs.inside.Session.{TellsSessionEnd, HasMapNumber};
-ghost use Rattle.yp_command_serve.specs.Session.{SessionDoes, session_may_end};
+ghost use Rattle.yp_command_serve.specs.Served.{witnessed};
+ghost use Rattle.yp_command_serve.specs.Session.{SessionDoes, session_job_of, session_may_end};
 ghost use Rattle.yp_command.specs.office.Seeing.{seeing, IsPassedOn};
 ghost use Rattle.yp_command.specs.inside.office.Status.{IsTellable};
 
@@ -146,8 +147,8 @@ fn session_over<
     requires count { length (map name_view spec.stores.items) ≤ maps_max }
     requires disks { names_of office.disks.items ≡ map name_view spec.stores.items }
     ensures does { SessionDoes (seeing S.Source K.Sink D.Disk C.Clock A.Dial I.Inbox T.Texts)
-        spec.own.items spec.peer (map name_view spec.stores.items) hosts result.0 office result.1
-        (W.wires witness.old) (W.wires witness.new) }
+        (session_job_of spec.own.items spec.peer (map name_view spec.stores.items) hosts) result.0
+        (witnessed office (W.wires witness.old)) (witnessed result.1 (W.wires witness.new)) }
     ensures may_end { IsTrue (session_may_end result.0) }
     ensures passed_on { IsPassedOn (seeing S.Source K.Sink D.Disk C.Clock A.Dial I.Inbox T.Texts)
         result.0 office result.1 }
@@ -213,8 +214,8 @@ pub fn serve_session<
     requires count { length (map name_view spec.stores.items) ≤ maps_max }
     requires disks { names_of office.disks.items ≡ map name_view spec.stores.items }
     ensures does { SessionDoes (seeing S.Source K.Sink D.Disk C.Clock A.Dial I.Inbox T.Texts)
-        spec.own.items spec.peer (map name_view spec.stores.items) (map host_view hosts.items) result.0 office result.1
-        (W.wires witness.old) (W.wires witness.new) }
+        (session_job_of spec.own.items spec.peer (map name_view spec.stores.items) (map host_view hosts.items)) result.0
+        (witnessed office (W.wires witness.old)) (witnessed result.1 (W.wires witness.new)) }
     ensures may_end { IsTrue (session_may_end result.0) }
     ensures passed_on { IsPassedOn (seeing S.Source K.Sink D.Disk C.Clock A.Dial I.Inbox T.Texts)
         result.0 office result.1 }

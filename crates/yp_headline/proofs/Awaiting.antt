@@ -24,6 +24,7 @@ use Rattle.yp_host.specs.declared.workers.charges.Counted.{Counted}
 use Rattle.yp_host.specs.workers.Charges.{counted_of, counted_plus, nothing_counted}
 use Rattle.yp_host.specs.workers.Statuses.{HasStatus}
 use Rattle.yp_host.specs.workers.Workers.{WorkerState, TellsOf}
+use Rattle.yp_server.specs.Serving.{MailService, mail_service}
 use Rattle.yp_server.specs.Counting.{count_told, CountsDatagrams, EachCounts, CountsBeside, CountsInboxes}
 use Rattle.yp_headline.specs.World.{World}
 use Rattle.yp_headline.specs.Publishing.{IsAmong}
@@ -48,6 +49,10 @@ module _ {V : Type 0} (seen : V → Seen) (stepped : V → V → Type 0) (text :
     (world : World) (begun log : Log) where
   abbrev its : Conduct (WorkerState V)
   its = conduct seen stepped text hosts
+
+  -- how they serve inboxes of so many turns
+  abbrev service : ℕ → MailService (WorkerState V) Counted
+  service turns = mail_service its count_told world.catalogue begun log turns
 
   abbrev Q : Awaited → Type 0
   Q one = IsOfMails world.catalogue begun log world.datagrams one
@@ -149,7 +154,7 @@ module _ {V : Type 0} (seen : V → Seen) (stepped : V → V → Type 0) (text :
   nothing_told host none = subst (λ (l : List CallBack). AllByRecursion P l) (sym (ap (λ (c : Counted). c.told) none)) tt
 
   inbox_tells : (turns : ℕ) (fault : Bool) (before after : InboxTells) (left : List Deferred) (count : Counted)
-      → (counts : CountsDatagrams its count_told world.catalogue begun log turns fault before after left count)
+      → (counts : CountsDatagrams (service turns) fault before after left count)
       → AllByRecursion Q (took_over counts.served.serves.serves.served) → AllByRecursion P count.told
   inbox_tells turns fault before after left count counts of =
       let serves = counts.served in
@@ -196,10 +201,10 @@ module _ {V : Type 0} (seen : V → Seen) (stepped : V → V → Type 0) (text :
       (link_told seen stepped text hosts Mail peer turn answers.mid next answers.answers.unflushed answers.answers.link)
       (none_told seen stepped text hosts P old answers.mid (ap (λ (c : Counted). c.told) answers.told.kept) told))
 
-  beside_tells : (fault : Bool) (before after : InboxTells) (took : List Deferred) (count : Counted)
-      → CountsBeside its count_told world.catalogue begun log fault before after took count
+  beside_tells : (turns : ℕ) (fault : Bool) (before after : InboxTells) (took : List Deferred) (count : Counted)
+      → CountsBeside (service turns) fault before after took count
       → AllByRecursion Q (transfers_of took) → AllByRecursion P count.told
-  beside_tells fault before after took count counts of =
+  beside_tells turns fault before after took count counts of =
       let carries = counts.carries in
       let begins : IsFront begun (known its carries.old) =
       subst (λ (l : Log). IsFront l (known its carries.old)) carries.start.known ([], sym (append-nil (known its carries.old))) in
@@ -213,12 +218,12 @@ module _ {V : Type 0} (seen : V → Seen) (stepped : V → V → Type 0) (text :
 
   module _ (loses : Bool) where
     abbrev taken : (turns : ℕ) (fault : Bool) (before after : List InboxTells) (left : List Deferred) (counts : List Counted)
-        → EachCounts its count_told world.catalogue begun log turns fault before after left counts → List Awaited
+        → EachCounts (service turns) fault before after left counts → List Awaited
     taken turns fault before after left counts each =
         taken_by world.catalogue begun log loses its count_told turns fault before after left counts each
 
     each_tells : (turns : ℕ) (fault : Bool) (before after : List InboxTells) (left : List Deferred) (counts : List Counted)
-        → (each : EachCounts its count_told world.catalogue begun log turns fault before after left counts)
+        → (each : EachCounts (service turns) fault before after left counts)
         → AllByRecursion Q (taken turns fault before after left counts each)
         → AllByRecursion (λ (c : Counted). AllByRecursion P c.told) counts
     each_tells turns fault [] [] left [] each of = tt
@@ -243,7 +248,7 @@ module _ {V : Type 0} (seen : V → Seen) (stepped : V → V → Type 0) (text :
   -- what was left by those that served datagrams, and by one beside them, on top of others
   pub inboxes_tell : (loses : Bool) (turns : ℕ) (fault : Bool) (before after : List InboxTells) (out out' : InboxTells)
       (counts : List Counted) (of_carrier : Counted)
-      → (counted : CountsInboxes its count_told world.catalogue begun log turns fault before after out out' counts of_carrier)
+      → (counted : CountsInboxes (service turns) fault before after out out' counts of_carrier)
       → AllByRecursion Q (taken_by world.catalogue begun log loses its count_told turns counted.failed before after counted.left
       counts counted.each)
       → (sum : Counted) → AllByRecursion P sum.told
@@ -259,4 +264,4 @@ module _ {V : Type 0} (seen : V → Seen) (stepped : V → V → Type 0) (text :
       all_both P both.told of_carrier.told
       (sums_tell sum counts told
       (each_tells loses turns counted.failed before after counted.left counts counted.each of))
-      (beside_tells counted.lost out out' counted.took of_carrier counted.carrier all_took)
+      (beside_tells turns counted.lost out out' counted.took of_carrier counted.carrier all_took)

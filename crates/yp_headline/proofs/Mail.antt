@@ -32,7 +32,7 @@ use Rattle.yp_rpc.specs.declared.turns.Ended.TheVariants.{Done, Spent}
 use Rattle.yp_worker.specs.datagrams.Mailing.{Awaited, Deferred, Holding, AnswersMail, CarriesAll, carried_where, left_where}
 use Rattle.yp_worker.specs.datagrams.Serving.{MailTurn, Dropped, Rested, Answered, Forwarded, reply_posts, posts_over, taken_for, left_over, DoesTurn, DoesTurns, LosesAnswer, EndsTurns}
 use Rattle.yp_worker.specs.Summing.{Counting}
-use Rattle.yp_server.specs.Serving.{ServesDatagrams}
+use Rattle.yp_server.specs.Serving.{MailService, mail_service, ServesDatagrams}
 use Rattle.yp_worker.specs.datagrams.Carrying.{CarrierStep, left_for, sent_over}
 use Rattle.yp_worker.specs.datagrams.Queues.{weigh, WeighTheSame}
 use Rattle.yp_server.specs.Counting.{CountsDatagrams, EachCounts, CountsInboxes}
@@ -368,7 +368,14 @@ module _ (catalogue : Catalogue) (begun log : Log) (loses : Bool) where
         };
       }
 
-  module _ {H T : Type 0} (conduct : Conduct H) (counted : H → T) where
+  module _ {H T : Type 0} (conduct : Conduct H) (counting : Counting H T) where
+    abbrev counted : H → T
+    counted = counting.counted
+
+    -- how hosts serve inboxes of so many turns
+    abbrev service : ℕ → MailService H T
+    service turns = mail_service conduct counting catalogue begun log turns
+
     abbrev Follow : List Datagram → H → Type 0
     Follow mails host = AreServed catalogue (known conduct host) log mails
 
@@ -629,7 +636,7 @@ module _ (catalogue : Catalogue) (begun log : Log) (loses : Bool) where
 
     -- what a host knew once it had made so many turns
     serves_fronts : (turns : ℕ) (fault : Bool) (before after : InboxTells) (left : List Deferred)
-        → (serves : ServesDatagrams conduct counted catalogue begun log turns fault before after left)
+        → (serves : ServesDatagrams (service turns) fault before after left)
         → IsFront (known conduct serves.serves.serves.last) log
     serves_fronts turns fault before after left serves =
         let posts = serves.serves.serves in
@@ -639,7 +646,7 @@ module _ (catalogue : Catalogue) (begun log : Log) (loses : Bool) where
 
     -- the calls that were left are those of the turns
     serves_calls : (turns : ℕ) (fault : Bool) (before after : InboxTells) (left : List Deferred)
-        → (serves : ServesDatagrams conduct counted catalogue begun log turns fault before after left)
+        → (serves : ServesDatagrams (service turns) fault before after left)
         → left ≡ left_over serves.serves.serves.served
     serves_calls turns fault before after left serves =
         let posts = serves.serves.serves in
@@ -648,7 +655,7 @@ module _ (catalogue : Catalogue) (begun log : Log) (loses : Bool) where
     -- the datagrams of one inbox
     mail_served : (turns : ℕ) (fault : Bool) (before after : InboxTells) (left : List Deferred)
         → (fault ≡ true → loses ≡ true)
-        → (serves : ServesDatagrams conduct counted catalogue begun log turns fault before after left)
+        → (serves : ServesDatagrams (service turns) fault before after left)
         → (lates : List Late) → AllZip Match (calls_of left) lates
         → (heard : Heard) → before.past ≡ Some heard.before → after.past ≡ Some (heard.before ++ heard.more)
         → MailIsServed lates (took_over serves.serves.serves.served) heard
@@ -701,7 +708,7 @@ module _ (catalogue : Catalogue) (begun log : Log) (loses : Bool) where
 
   module _ {H T : Type 0} (conduct : Conduct H) (counting : Counting H T) where
     abbrev Each : (turns : ℕ) → (fault : Bool) → (before after : List InboxTells) → List Deferred → List T → Type 0
-    Each turns fault before after left counts = EachCounts conduct counting catalogue begun log turns fault before after left counts
+    Each turns fault before after left counts = EachCounts (service conduct counting turns) fault before after left counts
 
     -- what all inboxes took
     abbrev pub taken_by : (turns : ℕ) (fault : Bool) (before after : List InboxTells) (left : List Deferred) (counts : List T)
@@ -729,10 +736,10 @@ module _ (catalogue : Catalogue) (begun log : Log) (loses : Bool) where
         let Front : LeftCall → Type 0 = λ call. IsFront call.known log in
         let serves = one.served in
         let posts = serves.serves.serves in
-        let here = calls_front conduct counting.counted posts.served posts.ready posts.last posts.does
-        (serves_fronts conduct counting.counted turns failed old new left_here serves) in
+        let here = calls_front conduct counting posts.served posts.ready posts.last posts.does
+        (serves_fronts conduct counting turns failed old new left_here serves) in
         let calls : calls_of left_here ≡ forwarded posts.served =
-        ap calls_of (serves_calls conduct counting.counted turns failed old new left_here serves) ∙ left_calls posts.served in
+        ap calls_of (serves_calls conduct counting turns failed old new left_here serves) ∙ left_calls posts.served in
         subst (λ (l : List LeftCall). AllByRecursion Front l) (sym (ap calls_of left_is ∙ calls_both left_here left_there))
         (all_both Front (calls_of left_here) (calls_of left_there)
         (subst (λ (l : List LeftCall). AllByRecursion Front l) (sym calls) here)
@@ -756,7 +763,7 @@ module _ (catalogue : Catalogue) (begun log : Log) (loses : Bool) where
         subst (λ (l : List Awaited). AllByRecursion Q l) (sym (ap transfers_of left_is ∙ transfers_both left_here left_there))
         (all_both Q (transfers_of left_here) (transfers_of left_there)
         (subst (λ (l : List Deferred). AllByRecursion Q (transfers_of l))
-        (sym (serves_calls conduct counting.counted turns failed old new left_here serves))
+        (sym (serves_calls conduct counting turns failed old new left_here serves))
         (left_took Q served (all_front Q (took_over served) there all)))
         (each_left Q turns others before after left_there counts rest (all_back Q (took_over served) there all)))
 
@@ -789,7 +796,7 @@ module _ (catalogue : Catalogue) (begun log : Log) (loses : Bool) where
         (map (λ one. Some (one.before ++ one.more)) inboxes) is in
         let apart = both_split Match (calls_of left_here) (calls_of left_there) lates
         (subst (λ (l : List LeftCall). AllZip Match l lates) (ap calls_of left_is ∙ calls_both left_here left_there) match) in
-        let here = mail_served conduct counting.counted turns failed old new left_here
+        let here = mail_served conduct counting turns failed old new left_here
         (λ fails. lossy (faults ∙ ap (λ (b : Bool). b || others) fails)) one.served apart.0 apart.3 heard first.0 last.0 in
         let there = each_served turns others before after left_there counts
         (λ fails. lossy (faults ∙ ap (λ (b : Bool). failed || b) fails ∙ or_true failed)) rest apart.1 apart.4 inboxes
@@ -823,7 +830,7 @@ module _ (catalogue : Catalogue) (begun log : Log) (loses : Bool) where
 
     pub boxes_served : (turns : ℕ) (fault : Bool) (before after : List InboxTells) (out out' : InboxTells) (counts : List T)
         (of_carrier : T) → (fault ≡ true → loses ≡ true)
-        → (counted : CountsInboxes conduct counting catalogue begun log turns fault before after out out' counts of_carrier)
+        → (counted : CountsInboxes (service conduct counting turns) fault before after out out' counts of_carrier)
         → (inboxes : List Heard) → map (λ box. box.past) before ≡ map (λ one. Some one.before) inboxes
         → map (λ box. box.past) after ≡ map (λ one. Some (one.before ++ one.more)) inboxes
         → (heard : Heard) → out.past ≡ Some heard.before → out'.past ≡ Some (heard.before ++ heard.more)

@@ -96,15 +96,15 @@ one_rises false version = λ k within. absurd (omega (arith, within))
 
 module _ {S K D C A I T : Type 0} (seen : Seeing S K D C A I T) where
   pub once_replies : OnceReplies seen
-  once_replies store rows s old new before after does unrefused some came taken sent input_is output_is sent_is =
+  once_replies store rows s old new does unrefused some came taken sent input_is output_is sent_is =
       let board = once_board store rows in
       let log = (once_maps store rows).log in
-      let serves = subst (λ o. IfSome o (λ stream. ServesInput (once_maps store rows) s stream (traffic_of seen old new)))
+      let serves = subst (λ o. IfSome o (λ stream. ServesInput (once_maps store rows) s stream (traffic_of seen old.reached new.reached)))
       input_is (does.serves unrefused) in
-      let is = watched (once_maps store rows) came (traffic_of seen old new) board s (wire seen old) (wire seen new)
+      let is = watched (once_maps store rows) came (traffic_of seen old.reached new.reached) board s (wire seen old.reached) (wire seen new.reached)
       does.watched.more some serves does.watched.done in
-      let start = dialogue_at (fixed board) (wire seen old) begun in
-      let finish = dialogue_at is.finish (wire seen new) is.progress in
+      let start = dialogue_at (fixed board) (wire seen old.reached) begun in
+      let finish = dialogue_at is.finish (wire seen new.reached) is.progress in
       let same : is.finish.board.known ≡ log = ends_known CALLS_MAX _ is.end is.runs.last finish is.runs.ends
       ∙ chain_known is.runs.answered start is.runs.last is.runs.chain in
       let served = run_served fixed_conduct nobody CALLS_MAX start finish does.watched.more came taken sent input_is output_is

@@ -9,8 +9,9 @@ use Rattle.yp_texts.specs.declared.kind.Kind.{Kind}
 use Rattle.yp_texts.specs.declared.reading.Reading.{Reading}
 use Rattle.yp_texts.specs.declared.reading.Reading.TheVariants.{Text, Rows}
 use Rattle.yp_texts.specs.Readings.{reading_of}
-use Rattle.yp_answer.specs.session.Wires.{Wire}
-use Rattle.yp_command_serve.specs.serve.Hosting.{DoorTells}
+use Rattle.yp_command_serve.specs.Served.{Witnessed}
+use Rattle.yp_command_serve.specs.Session.{session_job_of}
+use Rattle.yp_command_serve.specs.serve.Hosting.{OutsideTells}
 use Rattle.yp_end_to_end.specs.inside.transfer.Laws.{FetchedIsShown}
 use Rattle.yp_end_to_end.specs.inside.transfer.Shown.{ShownBetween}
 use Rattle.yp_end_to_end.specs.inside.walk.Laws.{WalkedIsShown}
@@ -21,17 +22,18 @@ use Rattle.yp_command.specs.declared.office.status.Status.{Status}
 use Rattle.yp_command.specs.declared.office.status.Status.TheVariants as status
 use Rattle.yp_command.specs.office.Seeing.{Seeing, history}
 use Rattle.yp_command_serve.specs.serve.Serve.{serve_job_of}
-use Rattle.yp_command_maps.specs.Build.{job_of, tells_stored, JobDoes}
+use Rattle.yp_command_maps.specs.Build.{Job, job_of, tells_stored, JobDoes}
 use Rattle.yp_command_maps.specs.Revnet.{store_history}
 use Rattle.yp_command_maps.specs.Xfr.{xfr_job_of}
-use Rattle.yp_program.specs.Commands.{AloneDoes, CommandDoes}
+use Rattle.yp_program.specs.Commands.{AloneDoes, CommandDoes, in_office}
 use Rattle.yp_headline.specs.World.{Dialed}
 use Rattle.yp_headline.specs.Publishing.{IsAmong}
 use Rattle.yp_headline.specs.Headline.{Crashes}
 use Rattle.yp_headline.specs.inside.Files.{dialed_of, walked_of, file_world, file_log, done_where}
 use Rattle.yp_headline.specs.inside.Worlds.{was_served}
 use Rattle.yp_headline.specs.inside.Server.{was_hosted}
-use Rattle.yp_headline.specs.inside.Running.{BuildHolds, CommandHolds, RunHolds}
+use Rattle.yp_headline.specs.inside.Laws.{BuildHolds}
+use Rattle.yp_headline.specs.inside.Running.{CommandHolds, RunHolds}
 use Rattle.yp_headline.proofs.Runs.{none_among}
 use Rattle.yp_headline.proofs.Once.{once_replies}
 use Rattle.yp_headline.proofs.Session.{session_holds}
@@ -70,60 +72,59 @@ module _ (own : List ℕ) (name : Name) (text : List ℕ → Option (List ℕ)) 
 module _ {S K D C A I T : Type 0} (seen : Seeing S K D C A I T) (read : ReadIsBody) (shown : FetchedIsShown) (between : ShownBetween)
     (walked : WalkedIsShown) where
   -- a command that was carried out
-  commanded : (meaning : Meaning) (s : Status) (old new : Office S K D C A I T) (door door' : DoorTells)
-      (before after : List Wire) (logged : List ℕ) → CommandDoes seen meaning s old new door door' before after logged
-      → CommandHolds seen meaning s old new door door'
+  commanded : (meaning : Meaning) (s : Status) (old new : Witnessed (OutsideTells S K D C A I T)) (logged : List ℕ)
+      → CommandDoes seen meaning s old new logged → CommandHolds seen meaning s old.reached new.reached
   unfolding AloneDoes
-  commanded (Once store rows) s old new door door' before after logged does =
+  commanded (Once store rows) s old new logged does =
       λ unrefused some came taken sent input output took.
-      once_replies seen store rows s old new before after does.0 unrefused some came taken sent input output took
-  commanded (Session own peer stores hosts) s old new door door' before after logged does =
+      once_replies seen store rows s (in_office old) (in_office new) does.0 unrefused some came taken sent input output took
+  commanded (Session own peer stores hosts) s old new logged does =
       λ served named came taken sent input output took told told' first last wires was is few more inputs.
-      session_holds seen read shown between own peer stores hosts s old new before after does.0 served named came taken sent input output took told told'
+      session_holds seen read shown between (session_job_of own peer stores hosts) s (in_office old) (in_office new) does.0 served named came taken sent input output took told told'
       first last wires was is few more inputs
-  commanded (Xfr name force store host flag) s old new door door' before after logged does =
+  commanded (Xfr name force store host flag) s old new logged does =
       λ h h' was is held stood first last wires dial dial' few came inputs.
-      xfr_holds seen read shown between (xfr_job_of name force store host flag) s old new does.0.0 h h' was is held stood first last wires
+      xfr_holds seen read shown between (xfr_job_of name force store host flag) s old.reached.office new.reached.office does.0.0 h h' was is held stood first last wires
       dial dial' few came inputs
-  commanded (Walk name force store host port count flag) s old new door door' before after logged does =
+  commanded (Walk name force store host port count flag) s old new logged does =
       λ h h' was is held stood told events told_before told_after.
-      walk_holds seen read walked (xfr_job_of name force store host flag) count s old new does.0.0 h h' was is held stood told events
+      walk_holds seen read walked (xfr_job_of name force store host flag) count s old.reached.office new.reached.office does.0.0 h h' was is held stood told events
       told_before told_after
-  commanded (Build name store flag) s old new door door' before after logged does =
+  commanded (Build name store flag) s old new logged does =
       λ kind of_kind text h h' now input was is moment_is held stood.
       let same : does.0.0.kind ≡ kind = same_kind does.0.0.kind kind (sym does.0.0.of_kind ∙ of_kind) in
-      job_holds seen (job_of name store (Text kind) flag) s old new
-      (subst (λ (k : Kind). JobDoes seen (job_of name store (Text k) flag) s old new) same does.0.0.does) text h h' now input was is moment_is
+      job_holds seen (job_of name store (Text kind) flag) s old.reached.office new.reached.office
+      (subst (λ (k : Kind). JobDoes seen (job_of name store (Text k) flag) s old.reached.office new.reached.office) same does.0.0.does) text h h' now input was is moment_is
       held stood
-  commanded (Load name store flag) s old new door door' before after logged does =
+  commanded (Load name store flag) s old new logged does =
       λ text h h' now input was is moment_is held stood.
-      job_holds seen (job_of name store Rows flag) s old new does.0.0 text h h' now input was is moment_is held stood
-  commanded (Revnet name store) s old new door door' before after logged does =
+      job_holds seen (job_of name store Rows flag) s old.reached.office new.reached.office does.0.0 text h h' now input was is moment_is held stood
+  commanded (Revnet name store) s old new logged does =
       λ h h' n now was is netgroups moment_is held stood.
-      revnet_holds seen name store s old new does.0.0 h h' n now was is netgroups moment_is held stood
-  commanded (Serve own port workers connections count stores hosts log) s old new door door' before after logged does =
+      revnet_holds seen name store s old.reached.office new.reached.office does.0.0 h h' n now was is netgroups moment_is held stood
+  commanded (Serve own port workers connections count stores hosts log) s old new logged does =
       λ hosted closed inboxes out wires tell.
-      serve_holds seen read shown between (serve_job_of own connections count stores hosts log) s old new door door' logged does.0 hosted closed
+      serve_holds seen read shown between (serve_job_of own connections count stores hosts log) s old.reached new.reached logged does.0 hosted closed
       inboxes out wires tell
-  commanded _ s old new door door' before after logged does = tt
+  commanded _ s old new logged does = tt
 
-  unbuilt : (name : List ℕ) (store : Name) (reading : Reading) (s : Status) (old new : Office S K D C A I T) → s ≡ status.NoMemory → new ≡ old
-      → BuildHolds seen name store reading s old new
-  unbuilt name store reading s old new none stays = λ text h h' now input was is moment_is held stood.
+  unbuilt : (job : Job) (s : Status) (old new : Office S K D C A I T) → s ≡ status.NoMemory → new ≡ old
+      → BuildHolds seen job s old new
+  unbuilt job s old new none stays = λ text h h' now input was is moment_is held stood.
       let same : h' ≡ h = same_some h' h (sym is ∙ ap (history seen) stays ∙ was) in
       record {
         log = file_log held;
-        crashes = untouched name store (λ name. Some text) (λ name. reading) [] h held stood h' (tells_stored s) same (ap tells_stored none);
+        crashes = untouched job.name job.store (λ name. Some text) (λ name. job.reading) [] h held stood h' (tells_stored s) same (ap tells_stored none);
       }
 
   -- one for which memory ran out before
-  forgone : (meaning : Meaning) (s : Status) (old new : Office S K D C A I T) (door door' : DoorTells) → s ≡ status.NoMemory → new ≡ old
-      → CommandHolds seen meaning s old new door door'
-  forgone (Once store rows) s old new door door' none stays = λ unrefused some came taken sent input output took. absurd (some none)
-  forgone (Session own peer stores hosts) s old new door door' none stays =
+  forgone : (meaning : Meaning) (s : Status) (old new : OutsideTells S K D C A I T) → s ≡ status.NoMemory
+      → new.office ≡ old.office → CommandHolds seen meaning s old new
+  forgone (Once store rows) s old new none stays = λ unrefused some came taken sent input output took. absurd (some none)
+  forgone (Session own peer stores hosts) s old new none stays =
       λ served named came taken sent input output took told told' first last wires was is few more inputs.
       absurd (let e : false ≡ true = sym (ap was_served none) ∙ served in cc)
-  forgone (Xfr name force store host flag) s old new door door' none stays =
+  forgone (Xfr name force store host flag) s old new none stays =
       λ h h' was is held stood first last wires dial dial' few came inputs.
       let same : h' ≡ h = same_some h' h (sym is ∙ ap (history seen) stays ∙ was) in
       let told : tells_stored s ≡ false = ap tells_stored none in
@@ -135,7 +136,7 @@ module _ {S K D C A I T : Type 0} (seen : Seeing S K D C A I T) (read : ReadIsBo
           called_back = λ some. absurd (some refl);
         };
       }
-  forgone (Walk name force store host port count flag) s old new door door' none stays =
+  forgone (Walk name force store host port count flag) s old new none stays =
       λ h h' was is held stood past events before after.
       let same : h' ≡ h = same_some h' h (sym is ∙ ap (history seen) stays ∙ was) in
       let told : tells_stored s ≡ false = ap tells_stored none in
@@ -147,19 +148,19 @@ module _ {S K D C A I T : Type 0} (seen : Seeing S K D C A I T) (read : ReadIsBo
           called_back = λ some. absurd (some refl);
         };
       }
-  forgone (Build name store flag) s old new door door' none stays = λ kind of_kind. unbuilt name store (Text kind) s old new none stays
-  forgone (Load name store flag) s old new door door' none stays = unbuilt name store Rows s old new none stays
-  forgone (Revnet name store) s old new door door' none stays = λ h h' n now was is netgroups moment_is held stood.
+  forgone (Build name store flag) s old new none stays = λ kind of_kind. unbuilt (job_of name store (Text kind) flag) s old.office new.office none stays
+  forgone (Load name store flag) s old new none stays = unbuilt (job_of name store Rows flag) s old.office new.office none stays
+  forgone (Revnet name store) s old new none stays = λ h h' n now was is netgroups moment_is held stood.
       let same : h' ≡ h = same_some h' h (sym is ∙ ap (store_history seen) stays ∙ was) in
       record {
         log = file_log held;
         crashes = untouched name store (λ name. None) reading_of [] h held stood h' (tells_stored s) same (ap tells_stored none);
       }
-  forgone (Serve own port workers connections count stores hosts log) s old new door door' none stays =
+  forgone (Serve own port workers connections count stores hosts log) s old new none stays =
       λ hosted closed inboxes out wires tell. absurd (let e : false ≡ true = sym (ap was_hosted none) ∙ hosted in cc)
-  forgone _ s old new door door' none stays = tt
+  forgone _ s old new none stays = tt
 
   pub run_holds : RunHolds seen
-  run_holds meaning s old new door door' before after logged does = ⊎_elim
-      (λ command. commanded meaning s old new door door' before after logged command)
-      (λ none. forgone meaning s old new door door' none.told none.stays) does
+  run_holds meaning s old new logged does = ⊎_elim (λ command. commanded meaning s old new logged command)
+      (λ none. forgone meaning s old.reached new.reached none.told
+      (ap (λ (outside : Witnessed (OutsideTells S K D C A I T)). outside.reached.office) none.stays)) does

@@ -34,13 +34,12 @@ use Rattle.yp_host.specs.workers.Makings.{IsBuiltAsNamed}
 use Rattle.yp_host.specs.workers.Wires.{AtLeast, BytesGive, GivesVersion, CoversBy, CameByWire}
 use Rattle.yp_server.specs.Counting.{count_told, CountsAll}
 use Rattle.yp_command.specs.declared.office.disks.NamedDisk.{NamedDisk}
-use Rattle.yp_command.specs.declared.office.office.Office.{Office}
 use Rattle.yp_command.specs.declared.office.status.Status.{Status}
 use Rattle.yp_command.specs.declared.office.status.Status.TheVariants as status
 use Rattle.yp_command.specs.office.Disks.{disks_of}
 use Rattle.yp_command.specs.office.Seeing.{Seeing, output}
 use Rattle.yp_command_serve.specs.declared.serve.tally.Hosted.{Hosted}
-use Rattle.yp_command_serve.specs.serve.Hosting.{DoorTells, conduct}
+use Rattle.yp_command_serve.specs.serve.Hosting.{OutsideTells, conduct}
 use Rattle.yp_command_serve.specs.serve.Serve.{Job, catalogue_of, setup, place, TellsServed, ServesMaps, ServesOrRefuses, ServeDoes}
 use Rattle.yp_headline.specs.World.{World, Connection, Datagram}
 use Rattle.yp_headline.specs.Serving.{IsServed, AreServed}
@@ -124,15 +123,15 @@ module _ {D : Type 0} (history : D → Option History) (faults : D → ℕ) (P :
 
 -- ---- the whole
 
-module _ {S K D C A I T : Type 0} (seen : Seeing S K D C A I T) (job : Job) (s : Status) (old new : Office S K D C A I T)
-    (door door' : DoorTells) (logged : List ℕ) (does : ServeDoes seen job s old new door door' logged)
-    (serves : ServesMaps seen job s old new door door' logged) (closed : List ClosedConnection) (inboxes : List Heard)
-    (out : Heard) (wires : List Connected) (tell : AllTell seen old new door door' closed inboxes out wires) where
+module _ {S K D C A I T : Type 0} (seen : Seeing S K D C A I T) (job : Job) (s : Status) (old new : OutsideTells S K D C A I T)
+    (logged : List ℕ) (does : ServeDoes seen job s old new logged)
+    (serves : ServesMaps seen job s old new logged) (closed : List ClosedConnection) (inboxes : List Heard)
+    (out : Heard) (wires : List Connected) (tell : AllTell seen old new closed inboxes out wires) where
   abbrev olds : List D
-  olds = disks_of old.disks.items
+  olds = disks_of old.office.disks.items
 
   abbrev news : List D
-  news = disks_of new.disks.items
+  news = disks_of new.office.disks.items
 
   abbrev maps : List (StoredMap D)
   maps = serves.is_hosted.maps
@@ -155,44 +154,44 @@ module _ {S K D C A I T : Type 0} (seen : Seeing S K D C A I T) (job : Job) (s :
       let sums = serves.is_hosted.served.accounted.counted.counted.of_connections in
       let ends = map (λ run. ends_of run.stays) sums.worker_runs in
       let ends_are : tell.more_closed ≡ ends = append_cancel_left tell.calls.closed tell.more_closed ends
-      (sym tell.closes ∙ told_more door.listen.past door'.listen.past tell.calls tell.calls_at_last ends tell.listens
+      (sym tell.closes ∙ told_more old.doors.listen.past new.doors.listen.past tell.calls tell.calls_at_last ends tell.listens
       tell.listens_at_last sums.closed) in
       let all : closed ≡ flat_map (λ run. ends_of run.stays) sums.worker_runs =
       tell.closed_are ∙ ap closed_in ends_are ∙ joined_map sums.worker_runs in
       subst (λ (l : List ClosedConnection). ConnectionsAreServed (catalogue_of job) begun log l) (sym all)
-      (all_served (conduct (setup seen job old)) count_told (terms_of (catalogue_of job) begun CALLS_MAX) door.listen.past
+      (all_served (conduct (setup seen job old.office)) count_told (terms_of (catalogue_of job) begun CALLS_MAX) old.doors.listen.past
       log sums.worker_runs sums.work (subst (λ (l : List ClosedConnection). AllByRecursion IsToldClosed l) all tell.told_closed))
 
-  abbrev counts : CountsAll (conduct (setup seen job old)) count_told (terms_of (catalogue_of job) begun CALLS_MAX)
-      door.listen door'.listen serves.hosted.tally.calls log job.turns serves.hosted.inbox_fault ((place seen old door).boxes)
-      ((place seen new door').boxes) ((place seen old door).out) ((place seen new door').out)
+  abbrev counts : CountsAll (conduct (setup seen job old.office)) count_told (terms_of (catalogue_of job) begun CALLS_MAX)
+      old.doors.listen new.doors.listen serves.hosted.tally.calls log job.turns serves.hosted.inbox_fault ((place seen old).boxes)
+      ((place seen new).boxes) ((place seen old).out) ((place seen new).out)
       (record { totals = serves.hosted.totals; told = serves.is_hosted.served.accounted.counted.told })
   counts = serves.is_hosted.served.accounted.counted.counted
 
   abbrev its : Conduct (WorkerState Seen)
-  its = conduct (setup seen job old)
+  its = conduct (setup seen job old.office)
 
   -- what datagrams took
   abbrev taken : List Awaited
   taken = taken_by (catalogue_of job) begun log (may_lose s) its count_told job.turns counts.of_datagrams.failed
-      ((place seen old door).boxes) ((place seen new door').boxes) counts.of_datagrams.left counts.datagrams
+      ((place seen old).boxes) ((place seen new).boxes) counts.of_datagrams.left counts.datagrams
       counts.of_datagrams.each
 
   -- what the inboxes told
   inboxes_served : MailsAreServed (catalogue_of job) begun log (may_lose s) its count_told taken inboxes out
   inboxes_served =
       boxes_served (catalogue_of job) begun log (may_lose s) its count_told job.turns serves.hosted.inbox_fault
-      ((place seen old door).boxes) ((place seen new door').boxes) ((place seen old door).out) ((place seen new door').out)
+      ((place seen old).boxes) ((place seen new).boxes) ((place seen old).out) ((place seen new).out)
       counts.datagrams counts.deferred
-      (may_have_lost serves.hosted s (output seen old) (output seen new) serves.tells) counts.of_datagrams
+      (may_have_lost serves.hosted s (output seen old.office) (output seen new.office) serves.tells) counts.of_datagrams
       inboxes tell.hears tell.hears_at_last out tell.hears_out tell.hears_out_at_last
 
   module _ (connections : List Connection) (datagrams : List (List Datagram)) where
     abbrev world : World
-    world = serve_world seen job old new tell.calls.coming wires connections datagrams
+    world = serve_world seen job old.office new.office tell.calls.coming wires connections datagrams
 
     abbrev Is : Making
-    Is = IsNewBehind (IsBuiltAsNamed (seen.texts.text old.texts) (catalogue_of job))
+    Is = IsNewBehind (IsBuiltAsNamed (seen.texts.text old.office.texts) (catalogue_of job))
         serves.is_hosted.served.accounted.traced.fetches
 
     -- one of the wires gave a version
@@ -205,13 +204,13 @@ module _ {S K D C A I T : Type 0} (seen : Seeing S K D C A I T) (job : Job) (s :
       input : wire.input ≡ Some stream
       gave : BytesGive fetched stream
 
-    gave_wire : (fetched : MapVersion) → CameByWire (seen.dial.past old.dial) (seen.dial.past new.dial) fetched
+    gave_wire : (fetched : MapVersion) → CameByWire (seen.dial.past old.office.dial) (seen.dial.past new.office.dial) fetched
         → GaveWire fetched
     gave_wire fetched came =
         let P = GivesVersion fetched in
         let covers : CoversBy P (Some tell.dialed) (Some tell.dialed_at_last) 1 =
         subst (λ (o : Option Wires). CoversBy P (Some tell.dialed) o 1) tell.dials_at_last
-        (subst (λ (o : Option Wires). CoversBy P o (seen.dial.past new.dial) 1) tell.dials came) in
+        (subst (λ (o : Option Wires). CoversBy P o (seen.dial.past new.office.dial) 1) tell.dials came) in
         let gains = covers tell.few in
         let same : gains.gained ≡ wires =
         append_cancel_left tell.dialed.came gains.gained wires (sym gains.came ∙ tell.wires_are) in
@@ -237,7 +236,7 @@ module _ {S K D C A I T : Type 0} (seen : Seeing S K D C A I T) (job : Job) (s :
 
     -- one of a map of the catalogue, which its source showed
     given_of : ReadIsBody → FetchedIsShown → ShownBetween → (number : ℕ) (fetched stored : MapVersion)
-        → CameByWire (seen.dial.past old.dial) (seen.dial.past new.dial) fetched → IsMarked fetched stored
+        → CameByWire (seen.dial.past old.office.dial) (seen.dial.past new.office.dial) fetched → IsMarked fetched stored
         → ((name : Name) → slice_get (catalogue_of job).maps number ≡ Some name
         → against_names (wanted_of name.0 name.1 None false) ≡ None)
         → (is : IsFetched world stored) × IsOfSource world number is.gives stored
@@ -258,7 +257,7 @@ module _ {S K D C A I T : Type 0} (seen : Seeing S K D C A I T) (job : Job) (s :
 
     is_new : (number : ℕ) (front : Log) (version : MapVersion) → Is number front version → IsNew world number front version
     is_new number front version (inl built) =
-        inl (made_built world number front version (texts_alone (seen.texts.text old.texts)) refl refl
+        inl (made_built world number front version (texts_alone (seen.texts.text old.office.texts)) refl refl
         (job_of (catalogue_of job) number) built.0 refl refl built.2)
     is_new number front version (inr fetched) =
         inr (given fetched.0 version fetched.1 (fetched.2 ∙ ap (λ (b : Bool). record fetched.0 { secure = b })
@@ -266,10 +265,10 @@ module _ {S K D C A I T : Type 0} (seen : Seeing S K D C A I T) (job : Job) (s :
 
     published : IsPublishedLog world begun log
     published =
-        let as_many : length news ≡ length olds = length-map new.disks.items (λ (d : NamedDisk D). d.disk)
-        ∙ sym (length-map new.disks.items (λ (d : NamedDisk D). name_view d.name)) ∙ ap length does.names
-        ∙ length-map old.disks.items (λ (d : NamedDisk D). name_view d.name)
-        ∙ sym (length-map old.disks.items (λ (d : NamedDisk D). d.disk)) in
+        let as_many : length news ≡ length olds = length-map new.office.disks.items (λ (d : NamedDisk D). d.disk)
+        ∙ sym (length-map new.office.disks.items (λ (d : NamedDisk D). name_view d.name)) ∙ ap length does.names
+        ∙ length-map old.office.disks.items (λ (d : NamedDisk D). name_view d.name)
+        ∙ sym (length-map old.office.disks.items (λ (d : NamedDisk D). d.disk)) in
         let opened = serves.is_hosted.opened in
         is_published world Is begun log is_new (versions maps)
         (stores_have seen.disk.history seen.disk.faults olds news maps opened
@@ -312,38 +311,38 @@ module _ {S K D C A I T : Type 0} (seen : Seeing S K D C A I T) (job : Job) (s :
         → AllByRecursion (IsOfMails (catalogue_of job) begun log datagrams) taken → CallBacks world begun log
     called_back read shown between took =
         let told = serves.is_hosted.served.accounted.counted in
-        let of = setup seen job old in
+        let of = setup seen job old.office in
         let runs = counts.of_connections.worker_runs in
-        let by_runs = runs_tell (λ reader. reader) Refreshes of.text of.hosts world begun log CALLS_MAX tell.calls door.listen.past
+        let by_runs = runs_tell (λ reader. reader) Refreshes of.text of.hosts world begun log CALLS_MAX tell.calls old.doors.listen.past
         tell.listens refl tell.coming runs nothing_counted counts.of_connections.work tt in
         let by_connections = subst (λ (c : Counted). AllByRecursion (IsOfCall world of.hosts begun log) c.told)
         (sym counts.of_connections.sum_is) by_runs in
         let by_all = inboxes_tell (λ reader. reader) Refreshes of.text of.hosts world begun log (may_lose s) job.turns
-        serves.hosted.inbox_fault ((place seen old door).boxes) ((place seen new door').boxes) ((place seen old door).out)
-        ((place seen new door').out) counts.datagrams counts.deferred counts.of_datagrams took counts.connections
+        serves.hosted.inbox_fault ((place seen old).boxes) ((place seen new).boxes) ((place seen old).out)
+        ((place seen new).out) counts.datagrams counts.deferred counts.of_datagrams took counts.connections
         by_connections in
         let are : AllByRecursion (IsOfCall world of.hosts begun log) told.told =
         subst (λ (c : Counted). AllByRecursion (IsOfCall world of.hosts begun log) c.told) (sym counts.all_is) by_all in
-        all_asked_for world of.hosts begun log (seen.dial.past old.dial) (seen.dial.past new.dial)
+        all_asked_for world of.hosts begun log (seen.dial.past old.office.dial) (seen.dial.past new.office.dial)
         (given_of read shown between) told.told are told.came told.posted told.same world.posted
-        (letters_told of.hosts (catalogue_of job).maps told.posted ((place seen old door).supply.dial)
-        ((place seen new door').supply.dial) told.used)
+        (letters_told of.hosts (catalogue_of job).maps told.posted ((place seen old).supply.dial)
+        ((place seen new).supply.dial) told.used)
 
-served_maps : {S K D C A I T : Type 0} (seen : Seeing S K D C A I T) (job : Job) (s : Status) (old new : Office S K D C A I T)
-    (door door' : DoorTells) (logged : List ℕ) → was_hosted s ≡ true → ServesOrRefuses seen job s old new door door' logged
-    → ServesMaps seen job s old new door door' logged
-served_maps seen job status.Done old new door door' logged hosted serves = serves
-served_maps seen job status.WriteFault old new door door' logged hosted serves = serves
-served_maps seen job status.ListenFault old new door door' logged hosted serves = serves
-served_maps seen job status.InboxFault old new door door' logged hosted serves = serves
-served_maps seen job _ old new door door' logged hosted serves = absurd cc
+served_maps : {S K D C A I T : Type 0} (seen : Seeing S K D C A I T) (job : Job) (s : Status) (old new : OutsideTells S K D C A I T)
+    (logged : List ℕ) → was_hosted s ≡ true → ServesOrRefuses seen job s old new logged
+    → ServesMaps seen job s old new logged
+served_maps seen job status.Done old new logged hosted serves = serves
+served_maps seen job status.WriteFault old new logged hosted serves = serves
+served_maps seen job status.ListenFault old new logged hosted serves = serves
+served_maps seen job status.InboxFault old new logged hosted serves = serves
+served_maps seen job _ old new logged hosted serves = absurd cc
 
 pub serve_holds : {S K D C A I T : Type 0} (seen : Seeing S K D C A I T) → ReadIsBody → FetchedIsShown → ShownBetween
     → ServeHolds seen
-serve_holds seen read shown between job s old new door door' logged does hosted closed inboxes out wires tell =
-    let serves = served_maps seen job s old new door door' logged hosted does.serves in
-    let called = connections_served seen job s old new door door' logged does serves closed inboxes out wires tell in
-    let heard = inboxes_served seen job s old new door door' logged does serves closed inboxes out wires tell in
+serve_holds seen read shown between job s old new logged does hosted closed inboxes out wires tell =
+    let serves = served_maps seen job s old new logged hosted does.serves in
+    let called = connections_served seen job s old new logged does serves closed inboxes out wires tell in
+    let heard = inboxes_served seen job s old new logged does serves closed inboxes out wires tell in
     record {
       connections = called.connections;
       are_closed = called.are;
@@ -352,10 +351,10 @@ serve_holds seen read shown between job s old new door door' logged does hosted 
       are_late = heard.late;
       begun = starts 0 (versions serves.is_hosted.maps);
       log = serves.is_hosted.served.log;
-      replies = replies seen job s old new door door' logged does serves closed inboxes out wires tell called.connections
+      replies = replies seen job s old new logged does serves closed inboxes out wires tell called.connections
           heard.datagrams called.served heard.served;
-      crashes = crashes seen job s old new door door' logged does serves closed inboxes out wires tell called.connections
+      crashes = crashes seen job s old new logged does serves closed inboxes out wires tell called.connections
           heard.datagrams;
-      called_back = called_back seen job s old new door door' logged does serves closed inboxes out wires tell called.connections
+      called_back = called_back seen job s old new logged does serves closed inboxes out wires tell called.connections
           heard.datagrams read shown between heard.took;
     }

@@ -363,11 +363,12 @@ module _ {D B E : Type 0} (service : Service D B E) (old new : Connection D E) (
 
 pub session_holds : {S K D C A I T : Type 0} (seen : Seeing S K D C A I T) → ReadIsBody → FetchedIsShown → ShownBetween
     → SessionHolds seen
-session_holds {S} {K} {D} {C} {A} {I} {T} seen read shown between own peer stores hosts s old new before after does served named came taken sent input output took told told'
+session_holds {S} {K} {D} {C} {A} {I} {T} seen read shown between job s old new does served named came taken sent input output took told told'
     first last wires was is few more_came inputs =
-    let count : length (disks_of old.disks.items) ≡ length stores =
-    length-map old.disks.items (λ (d : NamedDisk D). d.disk) ∙ sym (length-map old.disks.items (λ (d : NamedDisk D). name_view d.name))
+    let count : length (disks_of old.reached.disks.items) ≡ length job.stores =
+    length-map old.reached.disks.items (λ (d : NamedDisk D). d.disk)
+    ∙ sym (length-map old.reached.disks.items (λ (d : NamedDisk D). name_view d.name))
     ∙ ap length named in
-    by_status (service seen own peer stores) (connection seen hosts old) (connection seen hosts new) does.serves.more came taken
-    sent wires first last count told told' was is few more_came inputs input output took read shown between s served
+    by_status (service seen job.own job.peer job.stores) (connection seen job.hosts old.reached)
+    (connection seen job.hosts new.reached) does.serves.more came taken sent wires first last count told told' was is few more_came inputs input output took read shown between s served
     does.serves.done

@@ -4,7 +4,7 @@ ghost use Rattle.std.specs.Prelude.{◌≡◌, Ok};
 ghost use Rattle.yp_command.specs.Words.{Meaning, command_of, disk_names, texts};
 ghost use Rattle.yp_command.specs.office.Disks.{names_of};
 ghost use Rattle.yp_command.specs.office.Seeing.{seeing};
-ghost use Rattle.yp_command_serve.specs.serve.Hosting.{doors_by};
+ghost use Rattle.yp_command_serve.specs.serve.Hosting.{outside_by};
 ghost use Rattle.yp_headline.specs.inside.Running.{CommandHolds};
 
 use crate::laws::run_holds;
@@ -43,8 +43,7 @@ where
     requires disks { names_of outside.office.disks.items ≡ disk_names (texts words.now) }
     ensures { (meaning : Meaning) → command_of (texts words.now) ≡ Ok meaning
         → CommandHolds (seeing S.Source K.Sink D.Disk C.Clock A.Dial I.Inbox T.Texts) meaning result.0
-        outside.office result.1.office
-        (doors_by L.Hall I.Inbox outside.doors) (doors_by L.Hall I.Inbox result.1.doors) }
+        (outside_by L.Hall I.Inbox outside) (outside_by L.Hall I.Inbox result.1) }
 {
     run_holds::<S, K, D, C, A, I, T>();
     run(alloc, rt, words, outside)

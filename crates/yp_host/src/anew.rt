@@ -9,11 +9,12 @@ ghost use Rattle.yp_texts.specs.After.{other_master, was_secure};
 ghost use Rattle.yp_publisher.specs.declared.install.Origin.TheVariants.{Built};
 ghost use Rattle.yp_publisher.specs.Installs.{offer, not_following};
 ghost use Rattle.yp_host.specs.Locals.{told_of};
-ghost use Rattle.yp_answer.specs.Make.{netgroups_at};
-ghost use Rattle.yp_answer.specs.Causes.{OfText, OfNetgroups, IsAnew};
+ghost use Rattle.yp_texts.specs.Readings.{source_of};
+ghost use Rattle.yp_answer.specs.Make.{map_name, netgroups_at};
+ghost use Rattle.yp_answer.specs.Causes.{OfNetgroups, IsAnew};
 ghost use Rattle.yp_answer.specs.inside.Causes.{build_stat};
 ghost use Rattle.yp_host.specs.Anew.{IsUnbuilt};
-ghost use Rattle.yp_host.specs.inside.Anew.{task_from, task_view, netgroups_in, shown_in};
+ghost use Rattle.yp_host.specs.inside.Anew.{task_from, task_of_text, task_view, netgroups_in, shown_in};
 
 use std::alloc::Global;
 use std::random::RandomSource;
@@ -22,7 +23,9 @@ use yp_board::{Catalog, View};
 use yp_io::{Clock, TextFault, Texts};
 use yp_messages::XfrStat;
 use yp_netgroup::reverse::{Field, RevFault, reverse};
-use yp_texts::{AfterFault, BuildFault, Reading, build_after, next_order, other_master};
+use yp_texts::{
+    AfterFault, BuildFault, Maker, Reading, SourceText, build_after, next_order, other_master,
+};
 use yp_version::Version;
 
 /// What a version is made of: a map of the catalogue, and what is shown.
@@ -91,15 +94,12 @@ pub fn build_anew<T: Texts, C: Clock>(
         return Err(XfrStat::Refused);
     }
     match task.job.making {
-        Making::Text(reading) => {
-            let name = reading.source(&task.catalog.name(task.job.map).map);
-            build_of_text(alloc, rt, texts, clock, task, reading, name)
-        }
+        Making::Text(reading) => build_of_text(alloc, rt, texts, clock, task, reading),
         Making::Netgroups(field) => build_of_netgroups(alloc, rt, clock, task, field),
     }
 }
 
-/// Builds a version of the text with a name, behind one that has no other master.
+/// Builds a version of the text of a map, behind one that has no other master.
 fn build_of_text<T: Texts, C: Clock>(
     alloc: Global,
     rt: &impl RandomSource,
@@ -107,24 +107,27 @@ fn build_of_text<T: Texts, C: Clock>(
     clock: &mut C,
     task: &BuildTask<'_>,
     reading: Reading,
-    name: &[u8],
 ) -> Result<Version, XfrStat>
+    requires map { task.now.job.map < length task.now.catalog.now.maps }
     requires same { other_master task.now.catalog.now.own (shown_in task.now) ≡ None }
-    ensures anew { IfOk result (IsAnew (told_of T.Texts C.Clock texts.old clock.old)
-        (task_from (OfText reading name.now) task.now.catalog.now.own (shown_in task.now))) }
+    ensures anew { IfOk result (IsAnew (told_of T.Texts C.Clock texts.old clock.old) (task_of_text reading task.now)) }
     ensures follows { IfOk result (λ version. not_following task.now.catalog.now.own (offer version Built false)
         (shown_in task.now) ≡ None) }
     ensures unbuilt { IfErr result (IsUnbuilt (told_of T.Texts C.Clock texts.old clock.old)
-        (T.faults texts.old) (T.faults texts.new)
-        (task_from (OfText reading name.now) task.now.catalog.now.own (shown_in task.now))) }
+        (T.faults texts.old) (T.faults texts.new) (task_of_text reading task.now)) }
     ensures texts { (file : List ℕ) → T.text texts.new file ≡ T.text texts.old file }
     ensures clock { C.moment clock.new ≡ C.moment clock.old }
     ensures never_falls { T.faults texts.old ≤ T.faults texts.new }
 {
+    let name = source_name(task, reading);
     let text = read_text(alloc, texts, name)?;
-    let now = clock.now();
-    let own = task.catalog.own();
-    match build_after(alloc, rt, reading, text, task.shown, None, now, own) {
+    let source = SourceText { reading, text };
+    let moment = clock.now();
+    let maker = Maker {
+        name: task.catalog.own(),
+        moment,
+    };
+    match build_after(alloc, rt, source, task.shown, None, &maker) {
         Ok(version) => Ok(version),
         Err(AfterFault::Build(fault)) => Err(build_stat(fault)),
         Err(AfterFault::Foreign { .. }) => unreachable!(),
@@ -174,6 +177,14 @@ fn is_secure(shown: Option<&Version>) -> bool
         None => false,
         Some(shown) => shown.secure(),
     }
+}
+
+/// The name of the text of a map that is read so.
+fn source_name<'a>(task: &BuildTask<'a>, reading: Reading) -> &'a [u8]
+    requires { task.now.job.map < length task.now.catalog.now.maps }
+    ensures { result.now ≡ source_of reading (map_name task.now.job.map task.now.catalog.now) }
+{
+    reading.source(&task.catalog.name(task.job.map).map)
 }
 
 /// The text with a name.

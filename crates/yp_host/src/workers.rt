@@ -33,9 +33,9 @@ mod setting;
 mod supplies;
 mod texts;
 
-pub use call_backs::{CallBack, CallBackPass, PendingCallBacks};
+pub use call_backs::{CallBack, CallBackPass, LeftCallBacks, PendingCallBacks};
 pub use charges::{Account, Charges, Counted};
-pub use dial::{Dialer, SharedDial};
+pub use dial::{DialShares, Dialer, SharedDial};
 pub use front::BoardFront;
 pub use host::WorkerHost;
 pub use journal::{Event, Events, Journal};

@@ -1,5 +1,5 @@
 //! Tests of `yp_push`, `yp_binding`, `yp_push::turns` and `yp_binding::portmap`: what is asked and answered in
-//! datagrams.
+//! datagrams; and of `yp_command`: the words of the command line.
 #![tactic(auto)]
 
 #[cfg(test)]
@@ -12,3 +12,5 @@ mod portmap;
 mod push;
 #[cfg(test)]
 mod pushing;
+#[cfg(test)]
+mod words;

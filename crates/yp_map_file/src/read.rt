@@ -13,7 +13,7 @@ use crate::wrong::{BodyFault, Wrong};
 use std::alloc::Global;
 use std::random::RandomSource;
 use yp_io::NoMemory;
-use yp_version::{KEY_MAX, MASTER_MAX, Order, ROWS_MAX, VALUE_MAX, Version};
+use yp_version::{KEY_MAX, MASTER_MAX, Order, ROWS_MAX, StoredBody, VALUE_MAX, Version};
 use yp_xdr::Cursor;
 
 /// The first word of a body whose version isn't secure.
@@ -165,5 +165,9 @@ pub(crate) fn read_version(
         master,
         places,
     } = find(alloc, &body)?;
-    Ok(Version::of_body(alloc, rt, Order(order), master, secure, body, places)?)
+    let stored = StoredBody {
+        bytes: body,
+        places,
+    };
+    Ok(Version::of_body(alloc, rt, Order(order), master, secure, stored)?)
 }

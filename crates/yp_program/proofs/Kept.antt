@@ -7,6 +7,7 @@ use Rattle.yp_command.specs.declared.office.office.Office.{Office}
 use Rattle.yp_command.specs.declared.office.status.Status.{Status}
 use Rattle.yp_command.specs.office.Disks.{names_of}
 use Rattle.yp_command.specs.office.Seeing.{Seeing, moment}
+use Rattle.yp_command_serve.specs.Served.{witnessed}
 use Rattle.yp_program.specs.Commands.{AloneDoes}
 
 -- both
@@ -21,11 +22,11 @@ module _ {S K D C A I T : Type 0} (seen : Seeing S K D C A I T) (status : Status
     told = ap (λ (o : Office S K D C A I T). seen.clock.moment o.clock) same ∙ told;
   }
 
-  pub command_keeps : (meaning : Meaning) → AloneDoes seen meaning status old new before after → KeepsOffice seen old new
+  pub command_keeps : (meaning : Meaning) → AloneDoes seen meaning status (witnessed old before) (witnessed new after) → KeepsOffice seen old new
   unfolding AloneDoes
   command_keeps (Once store rows) h = by_stays (record old { wire = new.wire }) h.stays refl refl
   command_keeps (Session own peer stores hosts) h = record { names = h.names; told = h.told }
-  command_keeps (Serve own port workers connections turns stores hosts log) h = absurd h
+  command_keeps (Serve own port workers connections turns stores hosts log) h = absurd h.0
   command_keeps (Check store) h = record { names = h.0.names; told = ap (λ (o : Office S K D C A I T). seen.clock.moment o.clock) h.0.stays }
   command_keeps (Dump store) h = record { names = h.0.names; told = ap (λ (o : Office S K D C A I T). seen.clock.moment o.clock) h.0.stays }
   command_keeps (Build name store flag) h = record { names = h.0.does.names; told = h.0.does.told }

@@ -3,14 +3,13 @@ use Rattle.std.proofs.Common.{◌≡◌, ℕ, ◌≤◌, List, [], Option, refl,
 use Rattle.std.proofs.KnownBytes.{Appends-trans}
 use Rattle.std.specs.Io.KnownBytes.{Appends}
 use Rattle.yp_io.specs.Counts.{HasRisen}
-use Rattle.yp_answer.specs.session.Wires.{Wire}
 use Rattle.yp_command.specs.Words.{Meaning, Serve}
-use Rattle.yp_command.specs.declared.office.office.Office.{Office}
 use Rattle.yp_command.specs.declared.office.status.Status.{Status}
 use Rattle.yp_command.specs.office.Seeing.{Seeing}
 use Rattle.yp_command.specs.office.Status.{note}
-use Rattle.yp_command_serve.specs.serve.Hosting.{DoorTells}
-use Rattle.yp_program.specs.Commands.{AloneDoes, CommandDoes, IsNoted}
+use Rattle.yp_command_serve.specs.Served.{Witnessed}
+use Rattle.yp_command_serve.specs.serve.Hosting.{OutsideTells}
+use Rattle.yp_program.specs.Commands.{AloneDoes, CommandDoes, IsNoted, in_office}
 
 pub noted : (status : Status) (logged : List ℕ) (a b c : Option (List ℕ)) (x y z : ℕ) → x ≤ y → y ≤ z
     → (¬ HasRisen x y → Appends a b logged) → (¬ HasRisen y z → Appends b c (note status))
@@ -21,10 +20,9 @@ noted status logged a b c x y z first later here behind = λ fine.
 
 module _ {S K D C A I T : Type 0} (seen : Seeing S K D C A I T) (status : Status) where
   -- a command that serves no listener logs nothing
-  pub logs_nothing : (meaning : Meaning) (old new : Office S K D C A I T) (door door' : DoorTells)
-      (before after : List Wire) → door' ≡ door → AloneDoes seen meaning status old new before after
-      → CommandDoes seen meaning status old new door door' before after []
+  pub logs_nothing : (meaning : Meaning) (old new : Witnessed (OutsideTells S K D C A I T))
+      → new.reached.doors ≡ old.reached.doors → AloneDoes seen meaning status (in_office old) (in_office new)
+      → CommandDoes seen meaning status old new []
   unfolding AloneDoes
-  logs_nothing (Serve own port workers connections turns stores hosts log) old new door door' before after same does =
-      absurd does
-  logs_nothing meaning old new door door' before after same does = (does, same, refl)
+  logs_nothing (Serve own port workers connections turns stores hosts log) old new same does = absurd does.0
+  logs_nothing meaning old new same does = (does, same, refl)

@@ -1,13 +1,12 @@
 -- What is done for words that weren't parsed.
-use Rattle.std.proofs.Common.{◌≡◌, ℕ, List, [], Result, Ok, Err, refl, inr, true}
-use Rattle.yp_answer.specs.session.Wires.{Wire}
+use Rattle.std.proofs.Common.{◌≡◌, ℕ, [], Result, Ok, Err, refl, inr, true}
 use Rattle.yp_command.specs.Words.{Meaning, Once, Session, Serve, Check, Dump, Build, Load, Xfr, Walk, Sample, Push}
 use Rattle.yp_command.specs.Words.{Bind, Portmap, CallMapper, Ask, Orders, Revnet}
 use Rattle.yp_command.specs.inside.Words.{IsSentenceOfWords, IsUsage}
 use Rattle.yp_command.specs.declared.words.ParseFault.{ParseFault}
 use Rattle.yp_command.specs.declared.words.ParseFault.TheVariants as fault
-use Rattle.yp_command_serve.specs.serve.Hosting.{DoorTells}
-use Rattle.yp_command.specs.declared.office.office.Office.{Office}
+use Rattle.yp_command_serve.specs.Served.{Witnessed}
+use Rattle.yp_command_serve.specs.serve.Hosting.{OutsideTells}
 use Rattle.yp_command.specs.declared.office.status.Status.TheVariants.{Usage, NoMemory}
 use Rattle.yp_command.specs.office.Seeing.{Seeing}
 use Rattle.yp_program.specs.Commands.{Does, MayEnd, may_end}
@@ -45,15 +44,15 @@ pub unparsed_may : (command : Result Meaning ℕ) (why : ParseFault) → IsUsage
 unparsed_may command (fault.Usage word) h = usage_may command word h
 unparsed_may command fault.NoMemory h = memory_may command h
 
-module _ {S K D C A I T : Type 0} (seen : Seeing S K D C A I T) (office : Office S K D C A I T) (door : DoorTells) (wires : List Wire) where
-  usage_does : (command : Result Meaning ℕ) (word : ℕ) → command ≡ Err word → Does seen command (Usage word) office office door door wires wires []
+module _ {S K D C A I T : Type 0} (seen : Seeing S K D C A I T) (outside : Witnessed (OutsideTells S K D C A I T)) where
+  usage_does : (command : Result Meaning ℕ) (word : ℕ) → command ≡ Err word → Does seen command (Usage word) outside outside []
   usage_does (Ok meaning) word e = absurd cc
-  usage_does (Err other) word e = let same : other ≡ word = cc in rw same (refl, refl, refl, refl, refl)
+  usage_does (Err other) word e = let same : other ≡ word = cc in rw same (refl, refl, refl)
 
-  memory_does : (command : Result Meaning ℕ) → IsSentenceOfWords command → Does seen command NoMemory office office door door wires wires []
-  memory_does (Ok meaning) h = inr (record { takes_memory = h; told = refl; stays = refl; door_stays = refl; unseen = refl; unlogged = refl })
+  memory_does : (command : Result Meaning ℕ) → IsSentenceOfWords command → Does seen command NoMemory outside outside []
+  memory_does (Ok meaning) h = inr (record { takes_memory = h; told = refl; stays = refl; unlogged = refl })
   memory_does (Err word) h = absurd h
 
-  pub unparsed_does : (command : Result Meaning ℕ) (why : ParseFault) → IsUsage command why → Does seen command (parse_status why) office office door door wires wires []
+  pub unparsed_does : (command : Result Meaning ℕ) (why : ParseFault) → IsUsage command why → Does seen command (parse_status why) outside outside []
   unparsed_does command (fault.Usage word) h = usage_does command word h
   unparsed_does command fault.NoMemory h = memory_does command h

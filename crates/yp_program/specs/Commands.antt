@@ -2,7 +2,6 @@
 use Rattle.std.specs.Prelude.{◌≡◌, ◌⊎◌, ℕ, Bool, IsTrue, List, [], ◌++◌, Option, Result, Ok, Err}
 use Rattle.std.specs.Io.KnownBytes.{Appends}
 use Rattle.yp_io.specs.Counts.{HasRisen}
-use Rattle.yp_answer.specs.session.Wires.{Wire}
 use Rattle.yp_command.specs.Words.{Meaning, Once, Session, Serve, Check, Dump, Build, Load, Xfr, Walk}
 use Rattle.yp_command.specs.Words.{Sample, Push, Bind, Portmap, CallMapper, Ask, Orders, TakesMemory, Revnet}
 use Rattle.yp_command.specs.declared.office.office.Office.{Office}
@@ -12,8 +11,9 @@ use Rattle.yp_command.specs.office.Seeing.{Seeing}
 use Rattle.yp_command.specs.office.Status.{note}
 use Rattle.yp_command_serve.specs.Once.{OnceDoes, once_may_end}
 use Rattle.yp_command_serve.specs.Sample.{SampleDoes, sample_may_end}
-use Rattle.yp_command_serve.specs.Session.{SessionDoes, session_may_end}
-use Rattle.yp_command_serve.specs.serve.Hosting.{DoorTells}
+use Rattle.yp_command_serve.specs.Served.{Witnessed, witnessed}
+use Rattle.yp_command_serve.specs.Session.{SessionDoes, session_job_of, session_may_end}
+use Rattle.yp_command_serve.specs.serve.Hosting.{OutsideTells}
 use Rattle.yp_command_serve.specs.serve.Serve.{ServeDoes, serve_job_of, serve_may_end}
 use Rattle.yp_command_maps.specs.Build.{BuildDoes, LoadDoes, build_may_end}
 use Rattle.yp_command_maps.specs.Check.{CheckDoes, check_may_end}
@@ -30,71 +30,70 @@ use Rattle.yp_program.specs.Orders.{OrdersDoes}
 use Rattle.yp_program.specs.Transferring.{TransferDoes}
 use Rattle.yp_program.specs.Walking.{WalkingDoes}
 
--- what a command that serves no listener does to the office and to a witness's wires, with this status
-unfoldable pub AloneDoes : {S K D C A I T : Type 0} → Seeing S K D C A I T → Meaning → Status
-    → (old new : Office S K D C A I T) → (before after : List Wire) → Type 0
-AloneDoes seen (Serve own port workers connections turns stores hosts log) status old new before after = ⊥
-AloneDoes seen (Once store rows) status old new before after = OnceDoes seen store rows status old new before after
-AloneDoes seen (Session own peer stores hosts) status old new before after =
-    SessionDoes seen own peer stores hosts status old new before after
-AloneDoes seen (Check store) status old new before after = CheckDoes seen store status old new × (after ≡ before)
-AloneDoes seen (Dump store) status old new before after = DumpDoes seen store status old new × (after ≡ before)
-AloneDoes seen (Build name store flag) status old new before after =
-    BuildDoes seen name store flag status old new × (after ≡ before)
-AloneDoes seen (Load name store flag) status old new before after =
-    LoadDoes seen name store flag status old new × (after ≡ before)
-AloneDoes seen (Xfr name force store host flag) status old new before after =
-    TransferDoes seen (xfr_job_of name force store host flag) status old new × (after ≡ before)
-AloneDoes seen (Walk name force store host port turns flag) status old new before after =
-    WalkingDoes seen (xfr_job_of name force store host flag) turns status old new × (after ≡ before)
-AloneDoes seen (Revnet name store) status old new before after =
-    RevnetDoes seen name store status old new × (after ≡ before)
-AloneDoes seen (Sample start count) status old new before after =
-    SampleDoes seen start count status old new × (after ≡ before)
-AloneDoes seen (Push name port window turns store hosts) status old new before after =
-    PushDoes seen (job_of name port window turns store hosts) status old new × (after ≡ before)
-AloneDoes seen (Bind port policy turns domain hosts) status old new before after =
-    BindDoes seen turns domain (servers_of hosts) policy status old new × (after ≡ before)
-AloneDoes seen (Portmap port turns) status old new before after =
-    PortmapDoes seen turns status old new × (after ≡ before)
-AloneDoes seen (CallMapper port turns peer call) status old new before after =
-    MapperDoes seen turns (begun peer call) status old new × (after ≡ before)
-AloneDoes seen (Ask peer question) status old new before after =
-    AskDoes seen peer question status old new × (after ≡ before)
-AloneDoes seen (Orders first others domain) status old new before after =
-    OrdersDoes seen first others domain status old new × (after ≡ before)
+-- what a command that answers no records does to an office, with this status
+abbrev pub OfficeDoes : {S K D C A I T : Type 0} → Seeing S K D C A I T → Meaning → Status
+    → (old new : Office S K D C A I T) → Type 0
+OfficeDoes seen (Check store) status old new = CheckDoes seen store status old new
+OfficeDoes seen (Dump store) status old new = DumpDoes seen store status old new
+OfficeDoes seen (Build name store flag) status old new = BuildDoes seen name store flag status old new
+OfficeDoes seen (Load name store flag) status old new = LoadDoes seen name store flag status old new
+OfficeDoes seen (Xfr name force store host flag) status old new =
+    TransferDoes seen (xfr_job_of name force store host flag) status old new
+OfficeDoes seen (Walk name force store host port turns flag) status old new =
+    WalkingDoes seen (xfr_job_of name force store host flag) turns status old new
+OfficeDoes seen (Revnet name store) status old new = RevnetDoes seen name store status old new
+OfficeDoes seen (Sample start count) status old new = SampleDoes seen start count status old new
+OfficeDoes seen (Push name port window turns store hosts) status old new =
+    PushDoes seen (job_of name port window turns store hosts) status old new
+OfficeDoes seen (Bind port policy turns domain hosts) status old new =
+    BindDoes seen turns domain (servers_of hosts) policy status old new
+OfficeDoes seen (Portmap port turns) status old new = PortmapDoes seen turns status old new
+OfficeDoes seen (CallMapper port turns peer call) status old new =
+    MapperDoes seen turns (begun peer call) status old new
+OfficeDoes seen (Ask peer question) status old new = AskDoes seen peer question status old new
+OfficeDoes seen (Orders first others domain) status old new = OrdersDoes seen first others domain status old new
+OfficeDoes seen _ status old new = ⊥
 
--- what a command does, to what a listener and further inboxes tell, too, and what it logs: any but `serve` leaves the
--- first as they are, and logs nothing
+-- what a command that serves no listener does to an office, and what a witness then has seen: no more than before,
+-- where it answers no records
+unfoldable pub AloneDoes : {S K D C A I T : Type 0} → Seeing S K D C A I T → Meaning → Status
+    → (old new : Witnessed (Office S K D C A I T)) → Type 0
+AloneDoes seen (Once store rows) status old new = OnceDoes seen store rows status old new
+AloneDoes seen (Session own peer stores hosts) status old new =
+    SessionDoes seen (session_job_of own peer stores hosts) status old new
+AloneDoes seen meaning status old new =
+    OfficeDoes seen meaning status old.reached new.reached × (new.wires ≡ old.wires)
+
+-- the office alone of all that is reached
+abbrev pub in_office : {S K D C A I T : Type 0} → Witnessed (OutsideTells S K D C A I T)
+    → Witnessed (Office S K D C A I T)
+in_office outside = witnessed outside.reached.office outside.wires
+
+-- what a command does to all that is reached, and what it logs: any but `serve` leaves what is told at the doors as it
+-- is, and logs nothing
 abbrev pub CommandDoes : {S K D C A I T : Type 0} → Seeing S K D C A I T → Meaning → Status
-    → (old new : Office S K D C A I T) → (door door' : DoorTells) → (before after : List Wire) → (logged : List ℕ)
-    → Type 0
-CommandDoes seen (Serve own port workers connections turns stores hosts log) status old new door door' before after
-    logged =
-    ServeDoes seen (serve_job_of own connections turns stores hosts log) status old new door door' logged
-    × (after ≡ before)
-CommandDoes seen meaning status old new door door' before after logged =
-    AloneDoes seen meaning status old new before after × (door' ≡ door) × (logged ≡ [])
+    → (old new : Witnessed (OutsideTells S K D C A I T)) → (logged : List ℕ) → Type 0
+CommandDoes seen (Serve own port workers connections turns stores hosts log) status old new logged =
+    ServeDoes seen (serve_job_of own connections turns stores hosts log) status old.reached new.reached logged
+    × (new.wires ≡ old.wires)
+CommandDoes seen meaning status old new logged =
+    AloneDoes seen meaning status (in_office old) (in_office new) × (new.reached.doors ≡ old.reached.doors)
+    × (logged ≡ [])
 
 -- memory ran out for what is copied of the words, and nothing has changed
-pub record IsForgone {S K D C A I T : Type 0} (meaning : Meaning) (status : Status) (old new : Office S K D C A I T)
-    (door door' : DoorTells) (before after : List Wire) (logged : List ℕ) : Type 0 where
+pub record IsForgone {S K D C A I T : Type 0} (meaning : Meaning) (status : Status)
+    (old new : Witnessed (OutsideTells S K D C A I T)) (logged : List ℕ) : Type 0 where
   pub takes_memory : TakesMemory meaning
   pub told : status ≡ NoMemory
   pub stays : new ≡ old
-  pub door_stays : door' ≡ door
-  pub unseen : after ≡ before
   pub unlogged : logged ≡ []
 
 -- what is done for the command that the words are; words that are none are told, and nothing is done
 abbrev pub Does : {S K D C A I T : Type 0} → Seeing S K D C A I T → Result Meaning ℕ → Status
-    → (old new : Office S K D C A I T) → (door door' : DoorTells) → (before after : List Wire) → (logged : List ℕ)
-    → Type 0
-Does seen (Ok meaning) status old new door door' before after logged =
-    CommandDoes seen meaning status old new door door' before after logged
-    ⊎ IsForgone meaning status old new door door' before after logged
-Does seen (Err word) status old new door door' before after logged =
-    (status ≡ Usage word) × (new ≡ old) × (door' ≡ door) × (after ≡ before) × (logged ≡ [])
+    → (old new : Witnessed (OutsideTells S K D C A I T)) → (logged : List ℕ) → Type 0
+Does seen (Ok meaning) status old new logged =
+    CommandDoes seen meaning status old new logged ⊎ IsForgone meaning status old new logged
+Does seen (Err word) status old new logged = (status ≡ Usage word) × (new ≡ old) × (logged ≡ [])
 
 -- what was logged stands in the notes, and behind it the note of the status, unless the notes have failed
 abbrev pub IsNoted : (faults faults' : ℕ) → (before after : Option (List ℕ)) → (logged : List ℕ) → Status → Type 0

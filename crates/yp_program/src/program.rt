@@ -10,7 +10,8 @@ ghost use Rattle.yp_command.specs.office.Disks.{names_of};
 ghost use Rattle.yp_command.specs.office.Seeing.{seeing, IsPassedOn};
 ghost use Rattle.yp_command.specs.office.Status.{note};
 ghost use Rattle.yp_command.specs.inside.office.Status.{IsTellable};
-ghost use Rattle.yp_command_serve.specs.serve.Hosting.{doors_by};
+ghost use Rattle.yp_command_serve.specs.Served.{witnessed};
+ghost use Rattle.yp_command_serve.specs.serve.Hosting.{outside_by};
 ghost use Rattle.yp_command_serve.specs.serve.Serve.{ServeDoes, serve_may_end};
 ghost use Rattle.yp_command_serve.specs.inside.serve.Serve.{serve_job_view};
 ghost use Rattle.yp_program.specs.Commands.{AloneDoes, CommandDoes, Does, IsNoted, MayEnd, may_end};
@@ -47,7 +48,7 @@ fn obey<S: Source, K: Sink, D: Disk, C: Clock, A: Dial, I: Inbox, T: Texts, W: W
     requires names { HasNames (meaning command) }
     requires disks { names_of office.disks.items ≡ stores_of (meaning command) }
     ensures does { AloneDoes (seeing S.Source K.Sink D.Disk C.Clock A.Dial I.Inbox T.Texts)
-        (meaning command) result.0 office result.1 (W.wires witness.old) (W.wires witness.new) }
+        (meaning command) result.0 (witnessed office (W.wires witness.old)) (witnessed result.1 (W.wires witness.new)) }
     ensures may_end { IsTrue (may_end (meaning command) result.0) }
     ensures passed_on { IsPassedOn (seeing S.Source K.Sink D.Disk C.Clock A.Dial I.Inbox T.Texts)
         result.0 office result.1 }
@@ -143,7 +144,7 @@ pub fn run_alone<
     requires names { HasNames (meaning command) }
     requires disks { names_of outside.office.disks.items ≡ stores_of (meaning command) }
     ensures does { AloneDoes (seeing S.Source K.Sink D.Disk C.Clock A.Dial I.Inbox T.Texts) (meaning command) result.0
-        outside.office result.1.office (W.wires witness.old) (W.wires witness.new) }
+        (witnessed outside.office (W.wires witness.old)) (witnessed result.1.office (W.wires witness.new)) }
     ensures doors { result.1.doors ≡ outside.doors }
     ensures may_end { IsTrue (may_end (meaning command) result.0) }
     ensures disks { names_of result.1.office.disks.items ≡ names_of outside.office.disks.items }
@@ -187,8 +188,7 @@ where
     requires names { HasNames (meaning (Command.Serve job)) }
     requires disks { names_of outside.office.disks.items ≡ stores_of (meaning (Command.Serve job)) }
     ensures does { (logged : List ℕ) × ServeDoes (seeing S.Source K.Sink D.Disk C.Clock A.Dial I.Inbox T.Texts)
-        (serve_job_view job) result.0 outside.office result.1.office
-        (doors_by L.Hall I.Inbox outside.doors) (doors_by L.Hall I.Inbox result.1.doors) logged
+        (serve_job_view job) result.0 (outside_by L.Hall I.Inbox outside) (outside_by L.Hall I.Inbox result.1) logged
         × IsNoted (K.faults outside.notes) (K.faults result.1.notes) (K.output outside.notes)
         (K.output result.1.notes) logged result.0 }
     ensures may_end { IsTrue (serve_may_end result.0) }
@@ -230,9 +230,8 @@ where
     requires names { HasNames (meaning command) }
     requires disks { names_of outside.office.disks.items ≡ stores_of (meaning command) }
     ensures does { (logged : List ℕ) × CommandDoes (seeing S.Source K.Sink D.Disk C.Clock A.Dial I.Inbox T.Texts)
-        (meaning command) result.0 outside.office result.1.office
-        (doors_by L.Hall I.Inbox outside.doors) (doors_by L.Hall I.Inbox result.1.doors)
-        (W.wires witness.old) (W.wires witness.new) logged
+        (meaning command) result.0 (witnessed (outside_by L.Hall I.Inbox outside) (W.wires witness.old))
+        (witnessed (outside_by L.Hall I.Inbox result.1) (W.wires witness.new)) logged
         × IsNoted (K.faults outside.notes) (K.faults result.1.notes) (K.output outside.notes)
         (K.output result.1.notes) logged result.0 }
     ensures may_end { IsTrue (may_end (meaning command) result.0) }
@@ -275,9 +274,8 @@ where
     R: Threads + Wait + RandomSource + time::Clock + Sync,
     requires disks { names_of outside.office.disks.items ≡ disk_names (texts words.now) }
     ensures does { (logged : List ℕ) × Does (seeing S.Source K.Sink D.Disk C.Clock A.Dial I.Inbox T.Texts)
-        (command_of (texts words.now)) result.0 outside.office result.1.office
-        (doors_by L.Hall I.Inbox outside.doors) (doors_by L.Hall I.Inbox result.1.doors)
-        (W.wires witness.old) (W.wires witness.new) logged
+        (command_of (texts words.now)) result.0 (witnessed (outside_by L.Hall I.Inbox outside) (W.wires witness.old))
+        (witnessed (outside_by L.Hall I.Inbox result.1) (W.wires witness.new)) logged
         × IsNoted (K.faults outside.notes) (K.faults result.1.notes) (K.output outside.notes)
         (K.output result.1.notes) logged result.0 }
     ensures may_end { MayEnd (command_of (texts words.now)) result.0 }
@@ -339,8 +337,8 @@ where
     // behind its answered records. What it logs stands in the notes, and then the status is told there.
     ensures does { (wires : List Wire) × (logged : List ℕ)
         × Does (seeing S.Source K.Sink D.Disk C.Clock A.Dial I.Inbox T.Texts)
-        (command_of (texts words.now)) result.0 outside.office result.1.office
-        (doors_by L.Hall I.Inbox outside.doors) (doors_by L.Hall I.Inbox result.1.doors) [] wires logged
+        (command_of (texts words.now)) result.0 (witnessed (outside_by L.Hall I.Inbox outside) [])
+        (witnessed (outside_by L.Hall I.Inbox result.1) wires) logged
         × IsNoted (K.faults outside.notes) (K.faults result.1.notes) (K.output outside.notes)
         (K.output result.1.notes) logged result.0 }
 

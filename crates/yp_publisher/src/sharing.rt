@@ -17,5 +17,7 @@ mod share;
 
 pub use debits::Debits;
 pub use fetches::{Fetches, FetchesFront, OpenedFetches};
-pub use locked::{Accounts, BuiltVersions, FailedFiles, FetchedVersions, Locked, ShareFault, Site};
+pub use locked::{
+    Accounts, BuiltVersions, FailedFiles, FetchedVersions, Locked, MapOffer, ShareFault, Site,
+};
 pub use share::{install_shared, tell_shared};

@@ -13,7 +13,7 @@ use Rattle.yp_worker.specs.datagrams.Serving.{ServesMail}
 use Rattle.yp_server.specs.declared.datagrams.DatagramWorker.{DatagramWorker}
 use Rattle.yp_server.specs.inside.Workers.{AnswersDatagrams}
 use Rattle.yp_worker.specs.Summing.{Counting}
-use Rattle.yp_server.specs.Serving.{at_rest, EachServes, ServesInboxes, SomeHasRisen}
+use Rattle.yp_server.specs.Serving.{MailService, mail_service, at_rest, EachServes, ServesInboxes, SomeHasRisen}
 use Rattle.yp_server.specs.Counting.{CountsDatagrams, EachCounts, CountsInboxes}
 use Rattle.yp_server.specs.inside.Counting.{BeginsMail}
 use Rattle.yp_server.specs.inside.Handing.{left_by, took_by, parts_of}
@@ -36,18 +36,17 @@ pub one_of_both : {P : Type 0} (a b : Bool) → (a || b) ≡ true → (a ≡ tru
 one_of_both true b some first second = first refl
 one_of_both false b some first second = second some
 
-module _ {H T : Type 0} (conduct : Conduct H) (counting : Counting H T) (catalogue : Catalogue) (starts log : Log)
-    (turns : ℕ) where
+module _ {H T : Type 0} (service : MailService H T) where
   -- the log of the writer begins with what was shown at the start
   started : (fault : Bool) (before after : InboxTells) (left : List Deferred) (count : T)
-      → CountsDatagrams conduct counting catalogue starts log turns fault before after left count → IsFront starts log
+      → CountsDatagrams service fault before after left count → IsFront service.starts service.log
   started fault before after left count counts =
       let mail = counts.served in
-      let begun = subst (λ (l : Log). IsFront l (conduct.seen mail.ended.host).known) mail.start.known mail.serves.grown in
-      front_then starts (conduct.seen mail.ended.host).known log begun mail.shown
+      let begun = subst (λ (l : Log). IsFront l (service.conduct.seen mail.ended.host).known) mail.start.known mail.serves.grown in
+      front_then service.starts (service.conduct.seen mail.ended.host).known service.log begun mail.shown
 
   each_starts : (fault : Bool) (before after : List InboxTells) (left : List Deferred) (counts : List T) → 0 < length before
-      → EachCounts conduct counting catalogue starts log turns fault before after left counts → IsFront starts log
+      → EachCounts service fault before after left counts → IsFront service.starts service.log
   each_starts fault [] after left counts some all = absurd (omega (arith, some))
   each_starts fault (old ∷ before) [] left counts some all = absurd all
   each_starts fault (old ∷ before) (new ∷ after) left [] some all = absurd all
@@ -56,15 +55,15 @@ module _ {H T : Type 0} (conduct : Conduct H) (counting : Counting H T) (catalog
       started failed old new left_here count one
 
   pub starts_in : (fault : Bool) (before after : List InboxTells) (out out' : InboxTells) (counts : List T) (of_carrier : T)
-      → 0 < length before → CountsInboxes conduct counting catalogue starts log turns fault before after out out' counts of_carrier
-      → IsFront starts log
+      → 0 < length before → CountsInboxes service fault before after out out' counts of_carrier
+      → IsFront service.starts service.log
   starts_in fault before after out out' counts of_carrier some all =
       each_starts all.failed before after all.left counts some all.each
 
   -- what was served, but for what was counted
   each_served : (fault : Bool) (before after : List InboxTells) (left : List Deferred) (counts : List T)
-      → EachCounts conduct counting catalogue starts log turns fault before after left counts
-      → EachServes conduct counting.counted catalogue starts log turns fault before after left
+      → EachCounts service fault before after left counts
+      → EachServes service fault before after left
   each_served fault [] [] left [] all = all
   each_served fault [] [] left (count ∷ counts) all = absurd all
   each_served fault [] (new ∷ after) left counts all = absurd all
@@ -83,8 +82,8 @@ module _ {H T : Type 0} (conduct : Conduct H) (counting : Counting H T) (catalog
       )
 
   pub served_of : (fault : Bool) (before after : List InboxTells) (out out' : InboxTells) (counts : List T) (of_carrier : T)
-      → CountsInboxes conduct counting catalogue starts log turns fault before after out out' counts of_carrier
-      → ServesInboxes conduct counting.counted catalogue starts log turns fault before after out out'
+      → CountsInboxes service fault before after out out' counts of_carrier
+      → ServesInboxes service fault before after out out'
   served_of fault before after out out' counts of_carrier all = record {
     failed = all.failed;
     lost = all.lost;
@@ -102,7 +101,7 @@ module _ {I J H F R T : Type 0} (conduct : Conduct H) (counting : Counting H T) 
   mailed : (log : Log) (inbox : I) (first last : DatagramWorker I J H F R)
       → AnswersDatagrams conduct counting.counted box faults first last
       → BeginsMail conduct counting catalogue starts queue turns inbox first → IsFront (conduct.seen last.server.host).known log
-      → CountsDatagrams conduct counting catalogue starts log turns last.fault (box inbox) (box last.inbox)
+      → CountsDatagrams (mail_service conduct counting catalogue starts log turns) last.fault (box inbox) (box last.inbox)
       last.server.holding.left (counting.counted last.server.host)
   mailed log inbox first last mails begins front =
       let old = begins.host in record {
@@ -133,7 +132,7 @@ module _ {I J H F R T : Type 0} (conduct : Conduct H) (counting : Counting H T) 
       → AllZip (BeginsMail conduct counting catalogue starts queue turns) inboxes firsts
       → AllZip (AnswersDatagrams conduct counting.counted box faults) firsts lasts
       → AllByRecursion (λ (m : Mailing H). IsFront (conduct.seen m.host).known log) (map (λ (m : DatagramWorker I J H F R). m.server) lasts)
-      → EachCounts conduct counting catalogue starts log turns (list_any (λ (m : DatagramWorker I J H F R). m.fault) lasts)
+      → EachCounts (mail_service conduct counting catalogue starts log turns) (list_any (λ (m : DatagramWorker I J H F R). m.fault) lasts)
       (map box inboxes) (map box (map (λ (m : DatagramWorker I J H F R). m.inbox) lasts))
       (left_by (map (λ (m : DatagramWorker I J H F R). m.server) lasts))
       (map (λ (m : Mailing H). counting.counted m.host) (map (λ (m : DatagramWorker I J H F R). m.server) lasts))

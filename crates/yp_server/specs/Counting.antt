@@ -7,7 +7,6 @@ use Rattle.yp_io.specs.Disk.{History}
 use Rattle.yp_io.specs.Dials.{DialTells}
 use Rattle.yp_map_file.specs.Commits.{generation_max}
 use Rattle.yp_map_file.specs.Slots.{HasGeneration}
-use Rattle.yp_board.specs.Catalogues.{Catalogue}
 use Rattle.yp_board.specs.Logs.{Log}
 use Rattle.yp_answer.specs.session.Hosts.{Conduct}
 use Rattle.yp_rpc.specs.Turns.{InboxTells}
@@ -25,53 +24,51 @@ use Rattle.yp_host.specs.workers.Wires.{CameByWire}
 use Rattle.yp_host.specs.workers.Uses.{IsUsedForTransfers}
 use Rattle.yp_host.specs.workers.Charges.{nothing_counted, counted_plus, counted_of}
 use Rattle.yp_transfer.specs.HostTable.{HostList}
-use Rattle.yp_server.specs.Serving.{ServesDatagrams, CarriesBeside}
+use Rattle.yp_server.specs.Serving.{MailService, mail_service, ServesDatagrams, CarriesBeside}
 
 -- how the hosts of workers count
 abbrev pub count_told : {V : Type 0} → Counting (WorkerState V) Counted
 count_told = counting_of counted_of nothing_counted counted_plus
 
 -- Datagrams were served by a host that had counted nothing yet, and has counted this then.
-pub record CountsDatagrams {H T : Type 0} (conduct : Conduct H) (counting : Counting H T) (catalogue : Catalogue)
-    (starts log : Log) (turns : ℕ) (fault : Bool) (before after : InboxTells) (left : List Deferred) (count : T)
-    : Type 0 where
-  pub served : ServesDatagrams conduct counting.counted catalogue starts log turns fault before after left
-  pub from_none : counting.counted served.old ≡ counting.none
-  pub counted : counting.counted served.ended.host ≡ count
+pub record CountsDatagrams {H T : Type 0} (service : MailService H T) (fault : Bool) (before after : InboxTells)
+    (left : List Deferred) (count : T) : Type 0 where
+  pub served : ServesDatagrams service fault before after left
+  pub from_none : service.counting.counted served.old ≡ service.counting.none
+  pub counted : service.counting.counted served.ended.host ≡ count
 
 -- Inboxes were served, each so, by a host that has counted this then. One of them has failed exactly where that is
 -- said.
-abbrev pub EachCounts : {H T : Type 0} → Conduct H → Counting H T → Catalogue → (starts log : Log) → (turns : ℕ)
-    → (fault : Bool) → (before after : List InboxTells) → (left : List Deferred) → (counts : List T) → Type 0
-EachCounts conduct counting catalogue starts log turns fault [] [] left [] = (fault ≡ false) × (left ≡ [])
-EachCounts conduct counting catalogue starts log turns fault (old ∷ before) (new ∷ after) left (count ∷ counts) =
+abbrev pub EachCounts : {H T : Type 0} → MailService H T → (fault : Bool) → (before after : List InboxTells)
+    → (left : List Deferred) → (counts : List T) → Type 0
+EachCounts service fault [] [] left [] = (fault ≡ false) × (left ≡ [])
+EachCounts service fault (old ∷ before) (new ∷ after) left (count ∷ counts) =
     (failed : Bool) × (others : Bool) × (fault ≡ failed || others)
     × (left_here : List Deferred) × (left_there : List Deferred) × (left ≡ left_here ++ left_there)
-    × CountsDatagrams conduct counting catalogue starts log turns failed old new left_here count
-    × EachCounts conduct counting catalogue starts log turns others before after left_there counts
-EachCounts conduct counting catalogue starts log turns fault before after left counts = ⊥
+    × CountsDatagrams service failed old new left_here count
+    × EachCounts service others before after left_there counts
+EachCounts service fault before after left counts = ⊥
 
 -- What was left was done by a host that had counted nothing yet, and has counted this then: transfers, and the maps
 -- that were made for calls.
-pub record CountsBeside {H T : Type 0} (conduct : Conduct H) (counting : Counting H T) (catalogue : Catalogue)
-    (starts log : Log) (fault : Bool) (before after : InboxTells) (took : List Deferred) (count : T) : Type 0 where
-  pub carries : CarriesBeside conduct counting.counted catalogue starts log fault before after took
-  pub from_none : counting.counted carries.old ≡ counting.none
-  pub counted : counting.counted carries.new ≡ count
+pub record CountsBeside {H T : Type 0} (service : MailService H T) (fault : Bool) (before after : InboxTells)
+    (took : List Deferred) (count : T) : Type 0 where
+  pub carries : CarriesBeside service fault before after took
+  pub from_none : service.counting.counted carries.old ≡ service.counting.none
+  pub counted : service.counting.counted carries.new ≡ count
 
 -- Inboxes were served, each so by a host of its own, and one host more did what those left, beside them, and replied
 -- from an inbox of its own. One of all inboxes has failed exactly where that is said. All that was left was done, as
 -- often as it was left.
-pub record CountsInboxes {H T : Type 0} (conduct : Conduct H) (counting : Counting H T) (catalogue : Catalogue)
-    (starts log : Log) (turns : ℕ) (fault : Bool) (before after : List InboxTells) (out out' : InboxTells)
-    (counts : List T) (of_carrier : T) : Type 0 where
+pub record CountsInboxes {H T : Type 0} (service : MailService H T) (fault : Bool) (before after : List InboxTells)
+    (out out' : InboxTells) (counts : List T) (of_carrier : T) : Type 0 where
   pub failed : Bool
   pub lost : Bool
   pub fault_is : fault ≡ failed || lost
   pub left : List Deferred
   pub took : List Deferred
-  pub each : EachCounts conduct counting catalogue starts log turns failed before after left counts
-  pub carrier : CountsBeside conduct counting catalogue starts log lost out out' took of_carrier
+  pub each : EachCounts service failed before after left counts
+  pub carrier : CountsBeside service lost out out' took of_carrier
   pub all : WeighTheSame left took
 
 -- What all hosts did and counted: in the connections that workers served, of which so many records were read, in the
@@ -84,8 +81,8 @@ pub record CountsAll {H T : Type 0} (conduct : Conduct H) (counting : Counting H
   pub datagrams : List T
   pub deferred : T
   pub of_connections : SumsUp conduct counting terms door door' calls connections log
-  pub of_datagrams : CountsInboxes conduct counting terms.catalogue terms.starts log turns fault before after out out'
-      datagrams deferred
+  pub of_datagrams : CountsInboxes (mail_service conduct counting terms.catalogue terms.starts log turns) fault
+      before after out out' datagrams deferred
   pub all_is : all ≡ counting.plus (fold counting.plus connections datagrams) deferred
 
 -- What all hosts did and counted, in these totals, and what a dial was used for meanwhile: transfers of these maps

@@ -16,6 +16,7 @@ use Rattle.yp_worker.specs.datagrams.Mailing.{QueueName, Deferred, Mailing, noth
 use Rattle.yp_worker.specs.datagrams.Queues.{WeighTheSame}
 use Rattle.yp_worker.specs.datagrams.Serving.{ServesMail}
 use Rattle.yp_worker.specs.datagrams.Carrying.{CarrierStep, Delivers, left_for}
+use Rattle.yp_worker.specs.Summing.{Counting}
 use Rattle.yp_host.specs.workers.Desks.{texts_alone}
 use Rattle.yp_host.specs.workers.Workers.{WorkerState, counts_of, Stepped, WorkerMakesMap, WorkerTransfersMap}
 
@@ -40,66 +41,86 @@ at_rest queue host = record { host = host; waiting = None; holding = nothing_hel
 abbrev pub no_counts : Counts
 no_counts = record { files = 0; transfers = 0 }
 
+-- how the datagrams of inboxes are served: what each host does and how it counts, which maps it serves, what was shown
+-- at the start and at the end, and the most turns of an inbox
+pub record MailService (H T : Type 0) : Type 1 where
+  pub conduct : Conduct H
+  pub counting : Counting H T
+  pub catalogue : Catalogue
+  pub starts : Log
+  pub log : Log
+  pub turns : ℕ
+
+abbrev pub mail_service : {H T : Type 0} → Conduct H → Counting H T → Catalogue → (starts log : Log) → (turns : ℕ)
+    → MailService H T
+mail_service conduct counting catalogue starts log turns = record {
+  conduct = conduct;
+  counting = counting;
+  catalogue = catalogue;
+  starts = starts;
+  log = log;
+  turns = turns;
+}
+
 -- A host that knew these maps at the start, and had counted nothing, had so many turns of an inbox at most: each
 -- datagram of at most 8,192 bytes got its reply, or silence, on what the host then knew, before the next turn, unless a
 -- map may be made for it and it was left for a carrier. All turns were taken, or the inbox has failed, exactly where
 -- that is said. Each transfer that a datagram took whose reply went out was carried out by the host behind that, or
 -- left. What the host knew then is a front of this log.
-pub record ServesDatagrams {H T : Type 0} (conduct : Conduct H) (counted : H → T) (catalogue : Catalogue)
-    (starts log : Log) (turns : ℕ) (fault : Bool) (before after : InboxTells) (left : List Deferred) : Type 0 where
+pub record ServesDatagrams {H T : Type 0} (service : MailService H T) (fault : Bool) (before after : InboxTells)
+    (left : List Deferred) : Type 0 where
   pub queue : QueueName
   pub old : H
   pub ended : Mailing H
-  pub start : IsAtStart catalogue starts (conduct.seen old)
-  pub fresh : conduct.counts old ≡ no_counts
+  pub start : IsAtStart service.catalogue service.starts (service.conduct.seen old)
+  pub fresh : service.conduct.counts old ≡ no_counts
   pub end : Result Ended Failed
   pub fault_is : fault ≡ is_err end
-  pub serves : ServesMail conduct counted turns end (at_rest queue old) ended before after
+  pub serves : ServesMail service.conduct service.counting.counted service.turns end (at_rest queue old) ended
+      before after
   pub left_is : left ≡ ended.holding.left
-  pub shown : IsFront (conduct.seen ended.host).known log
+  pub shown : IsFront (service.conduct.seen ended.host).known service.log
 
 -- Inboxes were served, each so by a host of its own, with what was left at each. One of them has failed exactly where
 -- that is said.
-abbrev pub EachServes : {H T : Type 0} → Conduct H → (H → T) → Catalogue → (starts log : Log) → (turns : ℕ)
-    → (fault : Bool) → (before after : List InboxTells) → (left : List Deferred) → Type 0
-EachServes conduct counted catalogue starts log turns fault [] [] left = (fault ≡ false) × (left ≡ [])
-EachServes conduct counted catalogue starts log turns fault [] (new ∷ after) left = ⊥
-EachServes conduct counted catalogue starts log turns fault (old ∷ before) [] left = ⊥
-EachServes conduct counted catalogue starts log turns fault (old ∷ before) (new ∷ after) left =
+abbrev pub EachServes : {H T : Type 0} → MailService H T → (fault : Bool) → (before after : List InboxTells)
+    → (left : List Deferred) → Type 0
+EachServes service fault [] [] left = (fault ≡ false) × (left ≡ [])
+EachServes service fault [] (new ∷ after) left = ⊥
+EachServes service fault (old ∷ before) [] left = ⊥
+EachServes service fault (old ∷ before) (new ∷ after) left =
     (failed : Bool) × (others : Bool) × (fault ≡ failed || others)
     × (left_here : List Deferred) × (left_there : List Deferred) × (left ≡ left_here ++ left_there)
-    × ServesDatagrams conduct counted catalogue starts log turns failed old new left_here
-    × EachServes conduct counted catalogue starts log turns others before after left_there
+    × ServesDatagrams service failed old new left_here × EachServes service others before after left_there
 
 -- A host that knew these maps at the start, and had counted nothing, did this, which was left for it: it carried out
 -- transfers, and answered calls, each on no less than was known when it was left, and sent the replies from an inbox,
 -- in their order. Where the inbox has failed, as is said, it sent no more. What the host knew then is a front of this
 -- log.
-pub record CarriesBeside {H T : Type 0} (conduct : Conduct H) (counted : H → T) (catalogue : Catalogue)
-    (starts log : Log) (fault : Bool) (before after : InboxTells) (took : List Deferred) : Type 0 where
+pub record CarriesBeside {H T : Type 0} (service : MailService H T) (fault : Bool) (before after : InboxTells)
+    (took : List Deferred) : Type 0 where
   pub old : H
   pub new : H
-  pub start : IsAtStart catalogue starts (conduct.seen old)
-  pub fresh : conduct.counts old ≡ no_counts
+  pub start : IsAtStart service.catalogue service.starts (service.conduct.seen old)
+  pub fresh : service.conduct.counts old ≡ no_counts
   pub steps : List CarrierStep
   pub unsent : List CarrierStep
-  pub delivers : Delivers conduct counted steps unsent fault old new before after
+  pub delivers : Delivers service.conduct service.counting.counted steps unsent fault old new before after
   pub took_is : took ≡ map left_for (steps ++ unsent)
-  pub shown : IsFront (conduct.seen new).known log
+  pub shown : IsFront (service.conduct.seen new).known service.log
 
 -- Inboxes were served, each so by a host of its own, and beside them one host more did what those left, and replied
 -- from an inbox of its own. One of all inboxes has failed exactly where that is said. All that was left was done, as
 -- often as it was left.
-pub record ServesInboxes {H T : Type 0} (conduct : Conduct H) (counted : H → T) (catalogue : Catalogue)
-    (starts log : Log) (turns : ℕ) (fault : Bool) (before after : List InboxTells) (out out' : InboxTells)
-    : Type 0 where
+pub record ServesInboxes {H T : Type 0} (service : MailService H T) (fault : Bool) (before after : List InboxTells)
+    (out out' : InboxTells) : Type 0 where
   pub failed : Bool
   pub lost : Bool
   pub fault_is : fault ≡ failed || lost
   pub left : List Deferred
   pub took : List Deferred
-  pub each : EachServes conduct counted catalogue starts log turns failed before after left
-  pub carrier : CarriesBeside conduct counted catalogue starts log lost out out' took
+  pub each : EachServes service failed before after left
+  pub carrier : CarriesBeside service lost out out' took
   pub all : WeighTheSame left took
 
 -- One of these counts has risen.

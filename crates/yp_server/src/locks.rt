@@ -21,15 +21,16 @@ ghost use Rattle.yp_server.specs.Counting.{DiskTellsFaults};
 ghost use Rattle.yp_server.specs.Origins.{ComesFrom, EachComesFrom};
 ghost use Rattle.yp_server.specs.Serving.{DisksStand};
 
-use crate::resources::take_apart;
+use crate::resources::{EndedService, take_apart};
+use crate::spec::Served;
 use std::alloc::Global;
 use std::sync::ledger::{Blank, Book, Share};
 use std::sync::{Mutex, Wait};
 use yp_board::Tell;
 use yp_host::Desk;
 use yp_host::workers::{
-    Account, CallBackPass, Charges, Dialer, FailedSources, Materials, PendingCallBacks,
-    ReachedOrders, SharedDial, SharedTexts, Supplies, Totals, UnreadTexts,
+    CallBackPass, Charges, DialShares, Dialer, FailedSources, Materials, PendingCallBacks,
+    ReachedOrders, SharedDial, SharedTexts, Supplies, UnreadTexts,
 };
 use yp_io::{Clock, Dial, Disk, NoMemory, Texts};
 use yp_publisher::Publisher;
@@ -56,9 +57,9 @@ impl Blanks {
         requires { workers + inboxes + 4 < 2 ^ 64 }
         ensures listener { IfOk result (λ blanks. (blanks.listener.out.parts ≡ workers + 2)
             × (blanks.listener.ended.parts ≡ workers + 1)) }
-        ensures unread { IfOk result (λ blanks. blanks.charges.unread.parts ≡ workers + inboxes + 3) }
-        ensures orders { IfOk result (λ blanks. blanks.charges.orders.parts ≡ workers + inboxes + 3) }
-        ensures sources { IfOk result (λ blanks. blanks.charges.sources.parts ≡ workers + inboxes + 3) }
+        ensures unread { IfOk result (λ blanks. blanks.charges.desk.unread.parts ≡ workers + inboxes + 3) }
+        ensures orders { IfOk result (λ blanks. blanks.charges.desk.orders.parts ≡ workers + inboxes + 3) }
+        ensures sources { IfOk result (λ blanks. blanks.charges.desk.sources.parts ≡ workers + inboxes + 3) }
         ensures failures { IfOk result (λ blanks. blanks.charges.failures.parts ≡ workers + inboxes + 3) }
         ensures made { IfOk result (λ blanks. blanks.charges.made.parts ≡ workers + inboxes + 3) }
         ensures versions { IfOk result (λ blanks. blanks.charges.versions.parts ≡ workers + inboxes + 4) }
@@ -85,12 +86,18 @@ pub(crate) struct ListenerBlanks {
     pub(crate) ended: Blank,
 }
 
-/// Ledgers that nothing stands for yet, of what is counted under the locks.
+/// Ledgers that nothing stands for yet, of what is counted under the locks of the texts and of the dial.
 #[derive(Drop)]
-pub(crate) struct ChargeBlanks {
+pub(crate) struct DeskBlanks {
     pub(crate) unread: Blank,
     pub(crate) orders: Blank,
     pub(crate) sources: Blank,
+}
+
+/// Ledgers that nothing stands for yet, of what is counted under the locks.
+#[derive(Drop)]
+pub(crate) struct ChargeBlanks {
+    pub(crate) desk: DeskBlanks,
     pub(crate) failures: Blank,
     pub(crate) made: Blank,
     pub(crate) versions: Blank,
@@ -100,17 +107,19 @@ impl ChargeBlanks {
     /// Ledgers in so many parts, but for one part more of fetched versions, which lies with the publisher.
     fn new(parts: u64) -> ChargeBlanks
         requires { parts < 2 ^ 64 - 1 }
-        ensures unread { result.unread.parts ≡ parts }
-        ensures orders { result.orders.parts ≡ parts }
-        ensures sources { result.sources.parts ≡ parts }
+        ensures unread { result.desk.unread.parts ≡ parts }
+        ensures orders { result.desk.orders.parts ≡ parts }
+        ensures sources { result.desk.sources.parts ≡ parts }
         ensures failures { result.failures.parts ≡ parts }
         ensures made { result.made.parts ≡ parts }
         ensures versions { result.versions.parts ≡ parts + 1 }
     {
         ChargeBlanks {
-            unread: Blank::new(parts),
-            orders: Blank::new(parts),
-            sources: Blank::new(parts),
+            desk: DeskBlanks {
+                unread: Blank::new(parts),
+                orders: Blank::new(parts),
+                sources: Blank::new(parts),
+            },
             failures: Blank::new(parts),
             made: Blank::new(parts),
             versions: Blank::new(parts + 1),
@@ -183,9 +192,9 @@ where
     requires texts { T.faults desk.texts ≡ S.text_faults }
     requires dial { (A.past desk.dial ≡ S.wires) × (A.faults desk.dial ≡ S.dial_faults)
         × (A.letters desk.dial ≡ S.letters) }
-    requires unread { (blanks.unread.name ≡ S.unread) × (blanks.unread.parts ≡ S.shares) }
-    requires orders { (blanks.orders.name ≡ S.orders) × (blanks.orders.parts ≡ S.shares) }
-    requires sources { (blanks.sources.name ≡ S.sources) × (blanks.sources.parts ≡ S.shares) }
+    requires unread { (blanks.desk.unread.name ≡ S.unread) × (blanks.desk.unread.parts ≡ S.shares) }
+    requires orders { (blanks.desk.orders.name ≡ S.orders) × (blanks.desk.orders.parts ≡ S.shares) }
+    requires sources { (blanks.desk.sources.name ≡ S.sources) × (blanks.desk.sources.parts ≡ S.shares) }
     requires failures { (blanks.failures.name ≡ S.failures) × (blanks.failures.parts ≡ S.shares) }
     requires made { (blanks.made.name ≡ S.made) × (blanks.made.parts ≡ S.shares) }
     requires versions { (blanks.versions.name ≡ S.versions) × (blanks.versions.parts ≡ S.shares + 1) }
@@ -206,16 +215,7 @@ where
         own,
         fetches.front().again(),
     );
-    let (texts, dial, charges) = lock_desk(
-        desk,
-        blanks.unread,
-        blanks.orders,
-        blanks.sources,
-        fetched,
-        fetches,
-        debits,
-        call_backs,
-    );
+    let (texts, dial, charges) = lock_desk(desk, blanks.desk, fetched, fetches, debits, call_backs);
     let locks = Locks {
         publisher,
         texts,
@@ -257,9 +257,7 @@ fn lock_publisher<S: Site + Accounts, D: Disk, B: Tell>(
 /// The locks of the texts and of the dial of a desk, and what all workers are charged by.
 fn lock_desk<S: Site + Accounts + Supplies, A: Dial, T: Texts, C: Clock>(
     desk: Desk<A, T, C>,
-    unread: Blank,
-    orders: Blank,
-    sources: Blank,
+    blanks: DeskBlanks,
     fetched: Book<FetchedVersions<S>>,
     fetches: Fetches<S>,
     debits: Debits<S>,
@@ -273,9 +271,9 @@ fn lock_desk<S: Site + Accounts + Supplies, A: Dial, T: Texts, C: Clock>(
     requires texts { T.faults desk.texts ≡ S.text_faults }
     requires dial { (A.past desk.dial ≡ S.wires) × (A.faults desk.dial ≡ S.dial_faults)
         × (A.letters desk.dial ≡ S.letters) }
-    requires unread { (unread.name ≡ S.unread) × (unread.parts ≡ S.shares) }
-    requires orders { (orders.name ≡ S.orders) × (orders.parts ≡ S.shares) }
-    requires sources { (sources.name ≡ S.sources) × (sources.parts ≡ S.shares) }
+    requires unread { (blanks.unread.name ≡ S.unread) × (blanks.unread.parts ≡ S.shares) }
+    requires orders { (blanks.orders.name ≡ S.orders) × (blanks.orders.parts ≡ S.shares) }
+    requires sources { (blanks.sources.name ≡ S.sources) × (blanks.sources.parts ≡ S.shares) }
     requires fetched { (fetched.total ≡ 0) × (fetches ≡ []) }
     requires debits { debits ≡ no_debit S.shares }
     requires tells { (call_backs.dial ≡ holds_none S.call_backs call_backs.dial.parts)
@@ -284,9 +282,9 @@ fn lock_desk<S: Site + Accounts + Supplies, A: Dial, T: Texts, C: Clock>(
     requires some { 0 < S.shares }
     ensures { result.2 ≡ free_of_charge S.shares }
 {
-    let (unread, own_unread) = unread.open::<UnreadTexts<S>>();
-    let (orders, own_orders) = orders.open::<ReachedOrders<S>>();
-    let (sources, own_sources) = sources.open::<FailedSources<S>>();
+    let (unread, own_unread) = blanks.unread.open::<UnreadTexts<S>>();
+    let (orders, own_orders) = blanks.orders.open::<ReachedOrders<S>>();
+    let (sources, own_sources) = blanks.sources.open::<FailedSources<S>>();
     let CallBackParts {
         dial: tells,
         workers: leaves,
@@ -313,18 +311,17 @@ fn lock_desk<S: Site + Accounts + Supplies, A: Dial, T: Texts, C: Clock>(
     )
 }
 
-/// The disks, the writer, the desk and what was counted, once nobody works under the locks any more. What was counted
-/// is covered: FILEs by the faults of texts and disks, orders and failed sources by the wires and faults of the dial,
-/// and what was shown by the makes and by the wires that gave a version. Each version that was shown, or that a crash
-/// leaves at some moment, was built, or came by a wire. All callers that still wait are told, so what callers were told
-/// is what was left to be told.
-pub(crate) fn unlock<S, D, B, A, T, C, R: Wait>(
+/// What comes back of a server, once nobody works under the locks any more. What was counted is covered: FILEs by the
+/// faults of texts and disks, orders and failed sources by the wires and faults of the dial, and what was shown by the
+/// makes and by the wires that gave a version. Each version that was shown, or that a crash leaves at some moment, was
+/// built, or came by a wire. All callers that still wait are told, so what callers were told is what was left to be
+/// told.
+pub(crate) fn unlock<S, D, B, A, T, C, L, I, R: Wait>(
     rt: &R,
     locks: Locks<S, D, B, A, T, C>,
     call_backs: &PendingCallBacks,
-    account: Account<S, B>,
-    others: Charges<S>,
-) -> (Vec<D>, B, Desk<A, T, C>, Totals)
+    ended: EndedService<S, B, L, I>,
+) -> Served<D, B, A, T, C, L, I>
 where
     S: Site + Accounts + Supplies,
     D: Disk,
@@ -333,35 +330,47 @@ where
     T: Texts,
     C: Clock,
     requires queue { call_backs.now ≡ S.call_backs }
-    requires others { (others.parts + 2 ≡ S.shares) × (others.left ≡ []) }
-    ensures totals { result.3 ≡ account.totals }
-    ensures stand { DisksStand D.history S.catalogue (B.log result.1) result.0.items }
-    ensures grown { IsFront account.reached (B.log result.1) }
-    ensures rises { IsStart S.first → AreTold D.history result.0.items → IsRisingLog (B.log result.1) }
-    ensures desk { IsSupplied T.Texts S.text S.hosts result.2 }
-    ensures files { T.faults result.2.texts < last_count → All (DiskTellsFaults D.history D.faults) result.0.items
-        → result.3.files + result.3.outcomes.file + (S.text_faults + S.disk_faults)
-        ≤ T.faults result.2.texts + faults_over D.faults result.0.items }
-    ensures orders { CoversOrders S.wires (A.past result.2.dial) result.3.outcomes.reached }
-    ensures sources { CoversSources S.wires (A.past result.2.dial) S.dial_faults (A.faults result.2.dial)
-        result.3.outcomes.source }
-    ensures origins { IsStart S.first → AreTold D.history result.0.items → ComesFrom D.history S.built S.first
-        S.catalogue (B.log result.1) result.0.items result.3.made S.wires (A.past result.2.dial) }
-    ensures traced { IsStart S.first → EachComesFrom D.history S.built S.catalogue S.first.log (B.log result.1)
-        S.histories result.0.items S.wires (A.past result.2.dial) }
+    requires others { (ended.others.parts + 2 ≡ S.shares) × (ended.others.left ≡ []) }
+    ensures listen { result.listen ≡ ended.listen }
+    ensures tally { result.tally ≡ ended.tally }
+    ensures inboxes { (result.inboxes ≡ ended.mailed.inboxes) × (result.outbox ≡ ended.mailed.outbox) }
+    ensures inbox_fault { result.inbox_fault ≡ ended.mailed.fault }
+    ensures totals { result.totals ≡ ended.account.totals }
+    ensures stand { DisksStand D.history S.catalogue (B.log result.writer) result.disks.items }
+    ensures grown { IsFront ended.account.reached (B.log result.writer) }
+    ensures rises { IsStart S.first → AreTold D.history result.disks.items → IsRisingLog (B.log result.writer) }
+    ensures desk { IsSupplied T.Texts S.text S.hosts result.desk }
+    ensures files { T.faults result.desk.texts < last_count
+        → All (DiskTellsFaults D.history D.faults) result.disks.items
+        → result.totals.files + result.totals.outcomes.file + (S.text_faults + S.disk_faults)
+        ≤ T.faults result.desk.texts + faults_over D.faults result.disks.items }
+    ensures orders { CoversOrders S.wires (A.past result.desk.dial) result.totals.outcomes.reached }
+    ensures sources { CoversSources S.wires (A.past result.desk.dial) S.dial_faults (A.faults result.desk.dial)
+        result.totals.outcomes.source }
+    ensures origins { IsStart S.first → AreTold D.history result.disks.items → ComesFrom D.history S.built S.first
+        S.catalogue (B.log result.writer) result.disks.items result.totals.made S.wires (A.past result.desk.dial) }
+    ensures traced { IsStart S.first → EachComesFrom D.history S.built S.catalogue S.first.log (B.log result.writer)
+        S.histories result.disks.items S.wires (A.past result.desk.dial) }
     ensures told { TellsAllLeft S.hosts S.catalogue.maps S.shares
-        (holds_more (holds_none S.call_backs S.shares) account.told [])
-        (dial_told S.wires S.letters S.dial_faults) (dial_by A.Dial result.2.dial) }
+        (holds_more (holds_none S.call_backs S.shares) ended.account.told [])
+        (dial_told S.wires S.letters S.dial_faults) (dial_by A.Dial result.desk.dial) }
 {
     let Locks {
         publisher,
         texts,
         dial,
     } = locks;
+    let EndedService {
+        listen,
+        tally,
+        mailed,
+        account,
+        others,
+    } = ended;
     let (totals, mut charges, front) = account.into_parts();
     charges.merge(call_backs, others);
-    let (mut unread, mut reached, mut failed, mut debits, left, known) = charges.into_shares();
-    let (disks, writer, mut versions, fetches) = take_apart(
+    let (mut unread, orders, sources, mut debits, left) = charges.into_shares();
+    let (disks, writer, versions, fetches) = take_apart(
         publisher.into_inner(),
         &front,
         &mut debits,
@@ -371,10 +380,11 @@ where
         rt,
         call_backs,
         left,
-        known.as_ref(),
-        &mut reached,
-        &mut failed,
-        &mut versions,
+        DialShares {
+            orders,
+            sources,
+            versions,
+        },
         &fetches,
     );
     let desk = Desk {
@@ -383,5 +393,15 @@ where
         clock: materials.clock,
         hosts: dialer.hosts,
     };
-    (disks, writer, desk, totals)
+    Served {
+        disks,
+        desk,
+        listen,
+        inboxes: mailed.inboxes,
+        outbox: mailed.outbox,
+        writer,
+        tally,
+        totals,
+        inbox_fault: mailed.fault,
+    }
 }

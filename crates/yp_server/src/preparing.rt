@@ -24,10 +24,10 @@ ghost use Rattle.yp_server.specs.inside.Shares.{SharesFor};
 ghost use Rattle.yp_server.specs.inside.Workers.{workers_of, connections_of, datagram_worker_of};
 ghost use Rattle.yp_server.specs.Counting.{CountsAll, count_told};
 
-use crate::datagrams::{CarrierResources, DatagramResources, DatagramWorker, EndedMail};
+use crate::datagrams::{CarrierResources, DatagramResources, DatagramWorker};
 use crate::hosts::charges_of;
 use crate::locks::{ListenerBlanks, Locks};
-use crate::resources::WorkerMemory;
+use crate::resources::{EndedService, WorkerMemory};
 use crate::serving::Setting;
 use crate::workers::{ConnectionWorker, ServerWorker, Staff, run_workers};
 use std::random::RandomSource;
@@ -43,7 +43,7 @@ use yp_io::{Clock, Dial, Disk, Hall, Inbox, Texts};
 use yp_publisher::sharing::Accounts;
 use yp_rpc::Room;
 use yp_worker::datagrams::{Carrier, DeferredPass, DeferredQueue, MailServer};
-use yp_worker::{Gate, Listening, Pass, Reception, Tally, Worker};
+use yp_worker::{Gate, ListenerBooks, Listening, Pass, Reception, Worker};
 
 /// What workers work with: their memory, a reader for each and for the carrier, and the inboxes of those of datagrams,
 /// with the most turns of each.
@@ -53,6 +53,20 @@ pub(crate) struct WorkerResources<I, V> {
     pub(crate) readers: Vec<V>,
     pub(crate) inboxes: Vec<I>,
     pub(crate) turns: u64,
+}
+
+/// The inboxes of workers of datagrams, the memory of a datagram and its reply for each, and the most turns of each.
+#[derive(Drop)]
+pub(crate) struct InboxResources<I> {
+    inboxes: Vec<I>,
+    rooms: Vec<Room>,
+    turns: u64,
+}
+
+/// A listener that nobody has come by yet, and its ledgers, which nothing stands for yet.
+pub(crate) struct ListenerResources<L> {
+    pub(crate) listen: L,
+    pub(crate) blanks: ListenerBlanks,
 }
 
 /// What is left for workers that aren't made yet: of what they are charged by, and of what they hold of a listener.
@@ -238,9 +252,7 @@ impl<
                 R,
             >,
         >,
-        mut rooms: Vec<Room>,
-        mut inboxes: Vec<I>,
-        turns: u64,
+        inbox_resources: InboxResources<I>,
         readers: &mut Vec<B::Reader>,
         charges: &mut Charges<J>,
         parts: &mut DeferredPass<BoardFront<B>>,
@@ -248,28 +260,34 @@ impl<
     where
         B::Reader: Drop,
         requires none { all_workers.old.items ≡ [] }
-        requires room { length inboxes.items ≤ vec_capacity all_workers.old }
-        requires rooms { length rooms.items ≡ length inboxes.items }
-        requires readers { length inboxes.items ≤ length readers.old.items }
+        requires room { length inbox_resources.inboxes.items ≤ vec_capacity all_workers.old }
+        requires rooms { length inbox_resources.rooms.items ≡ length inbox_resources.inboxes.items }
+        requires readers { length inbox_resources.inboxes.items ≤ length readers.old.items }
         requires knows { All (λ reader. IsAtStart J.catalogue J.starts (B.Reader.seen reader)) readers.old.items }
         requires builds { SiteBuilds J.text J.catalogue J.built }
         requires queue { self.now.call_backs.now ≡ J.call_backs }
-        requires charges { length inboxes.items < charges.old.parts }
+        requires charges { length inbox_resources.inboxes.items < charges.old.parts }
         requires parts { (parts.old ≡ nothing_held self.now.pending.now parts.old.parts)
-            × (length inboxes.items < parts.old.parts) }
+            × (length inbox_resources.inboxes.items < parts.old.parts) }
         ensures workers { (datagram_workers : List (DatagramWorker I J (WorkerState B.Reader)
             B.Knowledge R)) × (all_workers.new.items ≡ workers_of datagram_workers 0 before_work)
             × AllZip (BeginsMail (conduct_at B.Reader.seen B.Reader.stepped J.text J.hosts) count_told J.catalogue
-            J.starts self.now.pending.now turns) inboxes.items datagram_workers }
-        ensures count { length all_workers.new.items ≡ length inboxes.items }
+            J.starts self.now.pending.now inbox_resources.turns) inbox_resources.inboxes.items datagram_workers }
+        ensures count { length all_workers.new.items ≡ length inbox_resources.inboxes.items }
         ensures room { vec_capacity all_workers.new ≡ vec_capacity all_workers.old }
-        ensures readers { length readers.new.items + length inboxes.items ≡ length readers.old.items }
+        ensures readers { length readers.new.items + length inbox_resources.inboxes.items
+            ≡ length readers.old.items }
         ensures knows { All (λ reader. IsAtStart J.catalogue J.starts (B.Reader.seen reader)) readers.new.items }
-        ensures charges { (charges.new.parts + length inboxes.items ≡ charges.old.parts)
+        ensures charges { (charges.new.parts + length inbox_resources.inboxes.items ≡ charges.old.parts)
             × (charges.new.left ≡ charges.old.left) }
         ensures parts { (parts.new ≡ nothing_held self.now.pending.now parts.new.parts)
-            × (parts.new.parts + length inboxes.items ≡ parts.old.parts) }
+            × (parts.new.parts + length inbox_resources.inboxes.items ≡ parts.old.parts) }
     {
+        let InboxResources {
+            mut inboxes,
+            mut rooms,
+            turns,
+        } = inbox_resources;
         inboxes.reverse();
         while let Some(inbox) = inboxes.pop() {
             let Some(room) = rooms.pop() else {
@@ -388,11 +406,14 @@ impl<
             turns,
         } = worker_resources;
         let WorkerMemory { all_buffers, rooms } = memory;
+        let inbox_resources = InboxResources {
+            inboxes,
+            rooms,
+            turns,
+        };
         self.add_datagram_workers(
             all_workers,
-            rooms,
-            inboxes,
-            turns,
+            inbox_resources,
             &mut readers,
             &mut shares.charges,
             parts,
@@ -428,10 +449,9 @@ impl<
         >,
         mut worker_resources: WorkerResources<I, B::Reader>,
         mut carrier_resources: CarrierResources<I, BoardFront<B>>,
-        listen: L,
-        blanks: ListenerBlanks,
+        listener: ListenerResources<L>,
         charges: Charges<J>,
-    ) -> (L, Tally, EndedMail<I>, Account<J, B>, Charges<J>)
+    ) -> EndedService<J, B, L, I>
     where
         B::Reader: Send + Drop,
         B::Front: Send,
@@ -461,31 +481,32 @@ impl<
             × (length worker_resources.inboxes.items ≤ vec_capacity staff.inboxes)
             × (length worker_resources.memory.all_buffers.items + length worker_resources.inboxes.items + 1
             ≤ vec_capacity staff.hosts) }
-        requires opening { opening_by L.Hall listen ≡ J.opening }
-        requires out { (blanks.out.name ≡ J.name) × (blanks.out.parts ≡ J.parts)
-            × (blanks.out.parts ≡ length worker_resources.memory.all_buffers.items + 2) }
-        requires ended { (blanks.ended.name ≡ E.name) × (blanks.ended.parts ≡ E.parts)
-            × (blanks.ended.parts ≡ length worker_resources.memory.all_buffers.items + 1) }
+        requires opening { opening_by L.Hall listener.listen ≡ J.opening }
+        requires out { (listener.blanks.out.name ≡ J.name) × (listener.blanks.out.parts ≡ J.parts)
+            × (listener.blanks.out.parts ≡ length worker_resources.memory.all_buffers.items + 2) }
+        requires ended { (listener.blanks.ended.name ≡ E.name) × (listener.blanks.ended.parts ≡ E.parts)
+            × (listener.blanks.ended.parts ≡ length worker_resources.memory.all_buffers.items + 1) }
         requires charges { (charges.parts ≡ length worker_resources.memory.all_buffers.items
             + length worker_resources.inboxes.items + 3) × (charges.left ≡ []) }
         requires parts { carrier_resources.parts ≡ nothing_held self.now.pending.now all_parts }
         requires letter { datagram_max ≤ length carrier_resources.letter.items }
         requires inboxes { (0 < length worker_resources.inboxes.items)
             × (length worker_resources.inboxes.items < 2 ^ 32) }
-        ensures kept { IsListenerState J.opening (opening_by L.Hall result.0) result.1.connections
-            result.1.listen_fault 0 1 }
-        ensures counted { (log : Log) → IsFront result.3.reached log
+        ensures kept { IsListenerState J.opening (opening_by L.Hall result.listen) result.tally.connections
+            result.tally.listen_fault 0 1 }
+        ensures counted { (log : Log) → IsFront result.account.reached log
             → CountsAll (conduct_at B.Reader.seen B.Reader.stepped J.text J.hosts) count_told
-            (terms_by J.Reception) J.opening (opening_by L.Hall result.0) result.1.calls log
-            worker_resources.turns result.2.fault (map (box_by I.Inbox) worker_resources.inboxes.items)
-            (map (box_by I.Inbox) result.2.inboxes.items)
-            (box_by I.Inbox carrier_resources.outbox) (box_by I.Inbox result.2.outbox) (counted_by result.3) }
-        ensures cause { result.2.fault ≡ true
+            (terms_by J.Reception) J.opening (opening_by L.Hall result.listen) result.tally.calls log
+            worker_resources.turns result.mailed.fault (map (box_by I.Inbox) worker_resources.inboxes.items)
+            (map (box_by I.Inbox) result.mailed.inboxes.items) (box_by I.Inbox carrier_resources.outbox)
+            (box_by I.Inbox result.mailed.outbox) (counted_by result.account) }
+        ensures cause { result.mailed.fault ≡ true
             → SomeHasRisen (map I.faults (carrier_resources.outbox ∷ worker_resources.inboxes.items))
-            (map I.faults (result.2.outbox ∷ result.2.inboxes.items)) }
-        ensures others { (result.4.parts ≡ length worker_resources.memory.all_buffers.items
-            + length worker_resources.inboxes.items + 1) × (result.4.left ≡ []) }
+            (map I.faults (result.mailed.outbox ∷ result.mailed.inboxes.items)) }
+        ensures others { (result.others.parts ≡ length worker_resources.memory.all_buffers.items
+            + length worker_resources.inboxes.items + 1) × (result.others.left ≡ []) }
     {
+        let ListenerResources { listen, blanks } = listener;
         let (book, out) = blanks.out.open::<J>();
         let (ends, ended) = blanks.ended.open::<E>();
         let workers = worker_resources.memory.all_buffers.len() as u32 - 1;
@@ -513,15 +534,12 @@ impl<
         let charged = charges.split_off(self.call_backs);
         let carrier = self.carrier(reader, carrier_resources, charged);
         let account = Account::new(charges, front);
-        let listening = Listening::new(
-            self.setting.alloc,
-            listen,
-            book,
-            ends,
-            account,
+        let books = ListenerBooks {
+            out: book,
             held,
-            workers,
-        );
+            ended: ends,
+        };
+        let listening = Listening::new(self.setting.alloc, listen, books, account, workers);
         let (listen, tally, mailed, account, hosts) = run_workers(
             self.setting.rt,
             listening,
@@ -530,6 +548,12 @@ impl<
             carrier,
         );
         let others = charges_of(self.call_backs, hosts);
-        (listen, tally, mailed, account, others)
+        EndedService {
+            listen,
+            tally,
+            mailed,
+            account,
+            others,
+        }
     }
 }

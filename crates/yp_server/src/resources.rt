@@ -14,16 +14,19 @@ ghost use Rattle.yp_publisher.specs.sharing.Failures.{disks_of, faults_over};
 ghost use Rattle.yp_rpc.specs.Turns.{datagram_max};
 ghost use Rattle.yp_server.specs.Origins.{LeavesTraced, Stems};
 
+use crate::datagrams::EndedMail;
 use crate::spec::{ServeRefused, ServerResources};
 use std::alloc::Global;
 use std::sync::ledger::Share;
 use yp_answer::session::Buffers;
 use yp_board::{Show, Tell};
 use yp_host::Desk;
+use yp_host::workers::{Account, Charges, Supplies};
 use yp_io::{Disk, NoMemory, zeros};
 use yp_publisher::Publisher;
 use yp_publisher::sharing::{Accounts, Debits, FetchedVersions, FetchesFront, Locked, Site};
 use yp_rpc::{DATAGRAM_MAX, Room};
+use yp_worker::Tally;
 
 /// What is handed back where memory has run out.
 pub(crate) fn refuse<D: Disk, B: Tell + Drop, A, T, C, L, I>(
@@ -89,6 +92,16 @@ pub(crate) fn take_apart<S: Site + Accounts, D: Disk, B: Tell>(
     let (publisher, versions, fetches) = locked.close(charge);
     let (disks, board) = disassemble(publisher);
     (disks, board, versions, fetches)
+}
+
+/// What comes back of workers once all of them have ended: of the listener, of the inboxes, what all have counted, and
+/// what their hosts were charged by.
+pub(crate) struct EndedService<S: Accounts + Supplies, B: Tell, L, I> {
+    pub(crate) listen: L,
+    pub(crate) tally: Tally,
+    pub(crate) mailed: EndedMail<I>,
+    pub(crate) account: Account<S, B>,
+    pub(crate) others: Charges<S>,
 }
 
 /// The memory of workers: for the records and replies of each worker of connections, and for a datagram and its reply

@@ -15,20 +15,20 @@ ghost use Rattle.yp_publisher.specs.Grown.{AreTold};
 ghost use Rattle.yp_publisher.specs.Rising.{publisher_state, IsRisingLog};
 ghost use Rattle.yp_publisher.specs.inside.Rising.{IsStart};
 ghost use Rattle.yp_publisher.specs.sharing.Failures.{disks_of, faults_over};
-ghost use Rattle.yp_server.specs.Serving.{conduct_at, IsAtStart, DisksStand, ServesInboxes, SomeHasRisen};
+ghost use Rattle.yp_server.specs.Serving.{conduct_at, IsAtStart, DisksStand, SomeHasRisen};
+ghost use Rattle.yp_server.specs.Serving.{ServesInboxes, mail_service};
 ghost use Rattle.yp_host.specs.inside.workers.CallBacks.{holds_none};
-ghost use Rattle.yp_host.specs.workers.Charges.{counted_of};
 ghost use Rattle.yp_host.specs.workers.Makings.{IsBuiltAsNamed};
 ghost use Rattle.yp_host.specs.inside.workers.Makings.{SiteBuilds};
 ghost use Rattle.yp_host.specs.workers.Wires.{CoversOrders, CoversSources};
 ghost use Rattle.yp_transfer.specs.inside.Dials.{dial_by};
 ghost use Rattle.yp_host.specs.inside.workers.Uses.{dial_told};
-ghost use Rattle.yp_server.specs.Counting.{CountsAndTells, FilesAreCovered};
+ghost use Rattle.yp_server.specs.Counting.{CountsAndTells, FilesAreCovered, count_told};
 ghost use Rattle.yp_server.specs.Origins.{ComesFrom, EachComesFrom};
 
 use crate::datagrams::CarrierResources;
 use crate::locks::{Blanks, CallBackParts, lock_up, unlock};
-use crate::preparing::{WorkerMaker, WorkerResources};
+use crate::preparing::{ListenerResources, WorkerMaker, WorkerResources};
 use crate::resources::{ServerMemory, refuse};
 use crate::spec::{ServeRefused, ServeSpec, Served, ServerResources};
 use crate::workers::Staff;
@@ -101,10 +101,10 @@ where
     // What was sent of each inbox for what came, on what a worker knew that began with the start, and what was sent by
     // the carrier of the calls that those workers left. Each that was left was answered once, as often as it was left,
     // on no less than was known then.
-    ensures datagrams { IfOk result (λ served. ServesInboxes
-        (conduct_at B.Reader.seen B.Reader.stepped (T.text resources.desk.texts) resources.desk.hosts) counted_of
-        resources.publisher.catalogue (B.log resources.publisher.board) (B.log served.writer)
-        spec.now.turns served.inbox_fault
+    ensures datagrams { IfOk result (λ served. ServesInboxes (mail_service
+        (conduct_at B.Reader.seen B.Reader.stepped (T.text resources.desk.texts) resources.desk.hosts) count_told
+        resources.publisher.catalogue (B.log resources.publisher.board) (B.log served.writer) spec.now.turns)
+        served.inbox_fault
         (map (box_by I.Inbox) resources.inboxes.items) (map (box_by I.Inbox) served.inboxes.items)
         (box_by I.Inbox resources.outbox) (box_by I.Inbox served.outbox)) }
     ensures inbox_fault { IfOk result (λ served. served.inbox_fault ≡ true
@@ -240,10 +240,10 @@ where
     requires ended { (blanks.listener.ended.name ≡ E.name) × (blanks.listener.ended.parts ≡ E.parts)
         × (E.parts ≡ length memory.workers.all_buffers.items + 1) }
     requires builds { SiteBuilds J.text J.catalogue J.built }
-    requires unread { (blanks.charges.unread.name ≡ J.unread) × (blanks.charges.unread.parts ≡ J.shares)
+    requires unread { (blanks.charges.desk.unread.name ≡ J.unread) × (blanks.charges.desk.unread.parts ≡ J.shares)
         × (J.shares ≡ length memory.workers.all_buffers.items + length resources.inboxes.items + 3) }
-    requires orders { (blanks.charges.orders.name ≡ J.orders) × (blanks.charges.orders.parts ≡ J.shares) }
-    requires sources { (blanks.charges.sources.name ≡ J.sources) × (blanks.charges.sources.parts ≡ J.shares) }
+    requires orders { (blanks.charges.desk.orders.name ≡ J.orders) × (blanks.charges.desk.orders.parts ≡ J.shares) }
+    requires sources { (blanks.charges.desk.sources.name ≡ J.sources) × (blanks.charges.desk.sources.parts ≡ J.shares) }
     requires failures { (blanks.charges.failures.name ≡ J.failures) × (blanks.charges.failures.parts ≡ J.shares) }
     requires made { (blanks.charges.made.name ≡ J.made) × (blanks.charges.made.parts ≡ J.shares) }
     requires versions { (blanks.charges.versions.name ≡ J.versions) × (blanks.charges.versions.parts ≡ J.shares + 1) }
@@ -259,8 +259,8 @@ where
     ensures gone { IfOk result (λ served. IsListenerState J.opening (opening_by L.Hall served.listen)
         served.tally.connections served.tally.listen_fault 0 1) }
     ensures datagrams { IfOk result (λ served. ServesInboxes
-        (conduct_at B.Reader.seen B.Reader.stepped J.text J.hosts) counted_of
-        J.catalogue J.starts (B.log served.writer) setting.entry.spec.turns served.inbox_fault
+        (mail_service (conduct_at B.Reader.seen B.Reader.stepped J.text J.hosts) count_told
+        J.catalogue J.starts (B.log served.writer) setting.entry.spec.turns) served.inbox_fault
         (map (box_by I.Inbox) resources.inboxes.items) (map (box_by I.Inbox) served.inboxes.items)
         (box_by I.Inbox resources.outbox) (box_by I.Inbox served.outbox)) }
     ensures inbox_fault { IfOk result (λ served. served.inbox_fault ≡ true
@@ -353,10 +353,10 @@ where
     requires ended { (blanks.listener.ended.name ≡ E.name) × (blanks.listener.ended.parts ≡ E.parts)
         × (E.parts ≡ length memory.workers.all_buffers.items + 1) }
     requires builds { SiteBuilds J.text J.catalogue J.built }
-    requires unread { (blanks.charges.unread.name ≡ J.unread) × (blanks.charges.unread.parts ≡ J.shares)
+    requires unread { (blanks.charges.desk.unread.name ≡ J.unread) × (blanks.charges.desk.unread.parts ≡ J.shares)
         × (J.shares ≡ length memory.workers.all_buffers.items + length resources.inboxes.items + 3) }
-    requires orders { (blanks.charges.orders.name ≡ J.orders) × (blanks.charges.orders.parts ≡ J.shares) }
-    requires sources { (blanks.charges.sources.name ≡ J.sources) × (blanks.charges.sources.parts ≡ J.shares) }
+    requires orders { (blanks.charges.desk.orders.name ≡ J.orders) × (blanks.charges.desk.orders.parts ≡ J.shares) }
+    requires sources { (blanks.charges.desk.sources.name ≡ J.sources) × (blanks.charges.desk.sources.parts ≡ J.shares) }
     requires failures { (blanks.charges.failures.name ≡ J.failures) × (blanks.charges.failures.parts ≡ J.shares) }
     requires made { (blanks.charges.made.name ≡ J.made) × (blanks.charges.made.parts ≡ J.shares) }
     requires versions { (blanks.charges.versions.name ≡ J.versions) × (blanks.charges.versions.parts ≡ J.shares + 1) }
@@ -373,8 +373,8 @@ where
     ensures gone { IfOk result (λ served. IsListenerState J.opening (opening_by L.Hall served.listen)
         served.tally.connections served.tally.listen_fault 0 1) }
     ensures datagrams { IfOk result (λ served. ServesInboxes
-        (conduct_at B.Reader.seen B.Reader.stepped J.text J.hosts) counted_of
-        J.catalogue J.starts (B.log served.writer) setting.entry.spec.turns served.inbox_fault
+        (mail_service (conduct_at B.Reader.seen B.Reader.stepped J.text J.hosts) count_told
+        J.catalogue J.starts (B.log served.writer) setting.entry.spec.turns) served.inbox_fault
         (map (box_by I.Inbox) resources.inboxes.items) (map (box_by I.Inbox) served.inboxes.items)
         (box_by I.Inbox resources.outbox) (box_by I.Inbox served.outbox)) }
     ensures inbox_fault { IfOk result (λ served. served.inbox_fault ≡ true
@@ -408,15 +408,11 @@ where
         × (refused.inboxes ≡ resources.inboxes) × (refused.outbox ≡ resources.outbox)) }
     ensures disks { IfErr result (λ refused. refused.disks.items ≡ disks_of resources.publisher.maps) }
 {
-    let ServerMemory {
-        workers: memory,
-        letter,
-    } = memory;
-    let Ok(staff) = Staff::new(setting.alloc, memory.all_buffers.len(), memory.rooms.len()) else {
+    let Ok(staff) = Staff::new(setting.alloc, &memory.workers) else {
         return Err(refuse(resources));
     };
     let Blanks {
-        listener,
+        listener: blanks,
         charges,
         fetches,
         call_backs,
@@ -436,42 +432,24 @@ where
     let parts = CallBackParts::split::<J>(&call_backs, pass);
     let (locks, charges) = lock_up::<J, D, B, A, T, C>(publisher, desk, charges, fetches, parts);
     let rt = setting.rt;
-    let turns = setting.spec.turns;
-    let place = WorkerMaker {
+    let workers = WorkerResources {
+        memory: memory.workers,
+        readers,
+        inboxes,
+        turns: setting.spec.turns,
+    };
+    let carrier = CarrierResources {
+        parts: all_held,
+        outbox,
+        letter: memory.letter,
+    };
+    let listener = ListenerResources { listen, blanks };
+    let maker = WorkerMaker {
         setting,
         locks: &locks,
         pending,
         call_backs: &call_backs,
     };
-    let worker_resources = WorkerResources {
-        memory,
-        readers,
-        inboxes,
-        turns,
-    };
-    let carrier_resources = CarrierResources {
-        parts: all_held,
-        outbox,
-        letter,
-    };
-    let (listen, tally, mailed, account, others) = place.serve::<E, L, I>(
-        staff,
-        worker_resources,
-        carrier_resources,
-        listen,
-        listener,
-        charges,
-    );
-    let (disks, writer, desk, totals) = unlock(rt, locks, &call_backs, account, others);
-    Ok(Served {
-        disks,
-        desk,
-        listen,
-        inboxes: mailed.inboxes,
-        outbox: mailed.outbox,
-        writer,
-        tally,
-        totals,
-        inbox_fault: mailed.fault,
-    })
+    let ended = maker.serve::<E, L, I>(staff, workers, carrier, listener, charges);
+    Ok(unlock(rt, locks, &call_backs, ended))
 }

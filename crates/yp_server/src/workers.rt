@@ -21,6 +21,7 @@ ghost use Rattle.yp_server.specs.inside.Workers.{mails_in, held_in};
 
 use crate::datagrams::{DatagramWorker, EndedMail, hand_over_all, hand_over_carrier};
 use crate::hosts::RetiredHost;
+use crate::resources::WorkerMemory;
 use std::alloc::Global;
 use std::marker::Model;
 use std::sync::ledger::Ledger;
@@ -144,20 +145,24 @@ impl<
     I: Drop,
     R: Wait,
 > Staff<'a, J, E, H, F, G, I, R> {
-    /// No workers yet, with room for so many of connections and so many of datagrams.
+    /// No workers yet, with room for as many of connections and of datagrams as have this memory.
     pub(crate) fn new(
         alloc: Global,
-        workers: usize,
-        inboxes: usize,
+        memory: &WorkerMemory,
     ) -> Result<Staff<'a, J, E, H, F, G, I, R>, NoMemory>
-        requires { workers + inboxes + 1 < 2 ^ 64 }
+        requires { length memory.now.all_buffers.items + length memory.now.rooms.items + 1 < 2 ^ 64 }
         ensures none { IfOk result (λ staff. (staff.all_workers.items ≡ []) × (staff.datagram_workers.items ≡ [])
             × (staff.inboxes.items ≡ []) × (staff.hosts.items ≡ [])) }
-        ensures all_workers { IfOk result (λ staff. workers + inboxes ≤ vec_capacity staff.all_workers) }
-        ensures datagram_workers { IfOk result (λ staff. inboxes ≤ vec_capacity staff.datagram_workers) }
-        ensures inboxes { IfOk result (λ staff. inboxes ≤ vec_capacity staff.inboxes) }
-        ensures hosts { IfOk result (λ staff. workers + inboxes + 1 ≤ vec_capacity staff.hosts) }
+        ensures all_workers { IfOk result (λ staff. length memory.now.all_buffers.items + length memory.now.rooms.items
+            ≤ vec_capacity staff.all_workers) }
+        ensures datagram_workers { IfOk result (λ staff. length memory.now.rooms.items
+            ≤ vec_capacity staff.datagram_workers) }
+        ensures inboxes { IfOk result (λ staff. length memory.now.rooms.items ≤ vec_capacity staff.inboxes) }
+        ensures hosts { IfOk result (λ staff. length memory.now.all_buffers.items + length memory.now.rooms.items + 1
+            ≤ vec_capacity staff.hosts) }
     {
+        let workers = memory.all_buffers.len();
+        let inboxes = memory.rooms.len();
         Ok(Staff {
             all_workers: room_for(alloc, workers + inboxes)?,
             datagram_workers: room_for(alloc, inboxes)?,

@@ -9,8 +9,7 @@ ghost use Rattle.yp_texts.specs.After.{HasLaterOrder};
 ghost use Rattle.yp_texts.specs.inside.After.{IsHindered, TellsMaster, HasShortMaster};
 
 use crate::fault::BuildFault;
-use crate::reading::Reading;
-use crate::versions::build;
+use crate::versions::{Maker, SourceText, build};
 use std::alloc::Global;
 use std::random::RandomSource;
 use yp_version::Version;
@@ -60,44 +59,43 @@ fn is_secure(last: Option<&Version>) -> bool
     }
 }
 
-/// Builds a version of a text behind the last one of its map, at a moment, in seconds. `own` is the own name, and the
-/// master of the version. It is secure as `flag` says, or where that says nothing as the last one. The text is let go
-/// once its rows were taken.
+/// Builds a version of a text behind the last one of its map. The name of its maker is the own name. The version is
+/// secure as `flag` says, or where that says nothing as the last one. The text is let go once its rows were taken.
 pub fn build_after(
     alloc: Global,
     rt: &impl RandomSource,
-    reading: Reading,
-    text: Vec<u8>,
+    source: SourceText,
     last: Option<&Version>,
     flag: Option<bool>,
-    now: u32,
-    own: &[u8],
+    maker: &Maker<'_>,
 ) -> Result<Version, AfterFault>
-    requires limit { length text.items ≤ text_max }
-    requires own { length own.now ≤ master_max }
+    requires limit { length source.text.items ≤ text_max }
+    requires own { length maker.now.name.now ≤ master_max }
     ensures version { IfOk result (λ version. built_after
-        (basis_of reading own.now flag (option_map (λ last. last.now) last.entry)) (material_of text.items now)
-        ≡ Ok version) }
+        (basis_of source.reading maker.now.name.now flag (option_map (λ last. last.now) last.entry))
+        (material_of source.text.items maker.now.moment) ≡ Ok version) }
 
     // It follows the last one.
-    ensures same_master { OnOk result (other_master own.now (option_map (λ last. last.now) last.entry) ≡ None) }
+    ensures same_master { OnOk result
+        (other_master maker.now.name.now (option_map (λ last. last.now) last.entry) ≡ None) }
     ensures over { IfOk result (HasLaterOrder (option_map (λ last. last.now) last.entry)) }
 
     // The first reason that applies.
     ensures hindered { IfErr result (IsHindered (built_after
-        (basis_of reading own.now flag (option_map (λ last. last.now) last.entry)) (material_of text.items now))) }
+        (basis_of source.reading maker.now.name.now flag (option_map (λ last. last.now) last.entry))
+        (material_of source.text.items maker.now.moment))) }
     ensures spent { result ≡ Err (AfterFault.Build BuildFault.OrderSpent)
         → last_order (option_map (λ last. last.now) last.entry) ≡ Some order_max }
-    ensures master { IfErr result (TellsMaster own.now (option_map (λ last. last.now) last.entry)) }
+    ensures master { IfErr result (TellsMaster maker.now.name.now (option_map (λ last. last.now) last.entry)) }
     ensures short { IfErr result HasShortMaster }
 {
-    if let Some(master) = other_master(own, last) {
+    if let Some(master) = other_master(maker.name, last) {
         return match Vec::from_slice(alloc, master) {
             Ok(master) => Err(AfterFault::Foreign { master }),
             Err(_) => Err(AfterFault::Build(BuildFault::NoMemory)),
         };
     }
     let previous = last.map(|version: &Version| version.order());
-    let version = build(alloc, rt, reading, text, previous, now, own)?;
+    let version = build(alloc, rt, source, previous, maker)?;
     Ok(version.marked(flag.unwrap_or(is_secure(last))))
 }

@@ -27,4 +27,4 @@ pub use order::{OrderSpent, next_order};
 pub use push::rows_of;
 pub use reading::Reading;
 pub use samples::sample;
-pub use versions::build;
+pub use versions::{Maker, SourceText, build};

@@ -24,4 +24,4 @@ pub use builder::{VersionBuilder, VersionFault};
 pub use limits::{BODY_MAX, KEY_MAX, MASTER_MAX, ROWS_MAX, VALUE_MAX};
 pub use order::Order;
 pub use spelled_rows::SpelledRows;
-pub use version::{Next, Version};
+pub use version::{Next, StoredBody, Version};

@@ -39,6 +39,15 @@ pub enum Next<'a> {
     Absent,
 }
 
+/// A stored body whose rows are found.
+#[derive(Debug, Drop)]
+pub struct StoredBody {
+    /// The body.
+    pub bytes: Vec<u8>,
+    /// The place of each row in it, in their order.
+    pub places: Vec<u32>,
+}
+
 /// A version of a map: an order, a master, whether it is secure, and rows in rising byte order of their keys.
 ///
 /// Rows are numbered from 0. It keeps its stored body, in which the rows stand. A key is looked up by halving, or by a
@@ -83,20 +92,19 @@ impl Version {
         }
     }
 
-    /// The version that a body spells, whose rows stand at these places. The body stays where it is. A random state
-    /// that the runtime refuses is want of memory, too.
+    /// The version that a stored body spells. The body stays where it is. A random state that the runtime refuses is
+    /// want of memory, too.
     pub fn of_body(
         alloc: Global,
         rt: &impl RandomSource,
         order: Order,
         master: Vec<u8>,
         secure: bool,
-        body: Vec<u8>,
-        places: Vec<u32>,
+        stored: StoredBody,
     ) -> Result<Version, NoMemory>
-        requires { (rows : List Row) × IsStoredBody body.items places.items
+        requires { (rows : List Row) × IsStoredBody stored.bytes.items stored.places.items
             (record { order = order; master = master.items; secure = secure; rows = rows }) }
-        ensures { (rows : List Row) → IsStoredBody body.items places.items
+        ensures { (rows : List Row) → IsStoredBody stored.bytes.items stored.places.items
             (record { order = order; master = master.items; secure = secure; rows = rows })
             → IfOk result (λ version. version
             ≡ record { order = order; master = master.items; secure = secure; rows = rows }) }
@@ -105,7 +113,8 @@ impl Version {
             return Err(NoMemory);
         };
         let head_len = HEAD_LEN + padded(master.len());
-        let slab = Slab::of_parts(body, head_len, places);
+        let StoredBody { bytes, places } = stored;
+        let slab = Slab::of_parts(bytes, head_len, places);
         Ok(Version {
             order: order.number(),
             master,

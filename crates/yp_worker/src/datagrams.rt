@@ -17,7 +17,7 @@ mod serve;
 mod server;
 
 pub use carrier::Carrier;
-pub use deferred::{Deferred, Work};
+pub use deferred::{Deferred, DeferredCall, Work};
 pub use pending::{DeferredPass, DeferredQueue};
 pub use serve::serve_mail;
 pub use server::MailServer;

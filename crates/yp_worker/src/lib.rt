@@ -29,7 +29,7 @@ pub use catch_up::{CatchUp, HandsOver, Known};
 pub use gate::{Gate, OpenGate, Point};
 pub use gated::Gated;
 pub use guest::Guest;
-pub use listening::{Admission, Listening, Pass, Reception};
+pub use listening::{Admission, ListenerBooks, Listening, Pass, Reception};
 pub use tally::Tally;
 pub use waiting::Waiting;
 pub use worker::Worker;

@@ -119,6 +119,15 @@ impl<J: Ledger, E: Ledger> Pass<J, E> {
     }
 }
 
+/// The books of a listener: of the connections that are out, with the share for those that wait between two workers,
+/// and of the workers that have ended.
+#[derive(Drop)]
+pub struct ListenerBooks<J: Ledger, E: Ledger> {
+    pub out: Book<J>,
+    pub held: Share<J>,
+    pub ended: Book<E>,
+}
+
 /// A listener, what workers that have ended did with its connections, the guests that they have left to the one that
 /// does what takes long, and the sum of what was counted in them, with a log of which each was answered on a front.
 #[derive(Drop)]
@@ -169,16 +178,14 @@ impl<J: Reception, E: Ledger, H: HandsOver, L: Hall, G> Listening<J, E, H, L, G>
     pub fn new(
         alloc: Global,
         listen: L,
-        out: Book<J>,
-        ended: Book<E>,
+        books: ListenerBooks<J, E>,
         sum: H::Sum,
-        held: Share<J>,
         workers: u32,
     ) -> Listening<J, E, H, L, G>
-        requires held { (held.parts ≡ 1) × (held.amount ≡ 0) }
+        requires held { (books.held.parts ≡ 1) × (books.held.amount ≡ 0) }
         requires opening { opening_by L.Hall listen ≡ J.opening }
-        requires none_out { out.total ≡ 0 }
-        requires none_ended { ended.total ≡ 0 }
+        requires none_out { books.out.total ≡ 0 }
+        requires none_ended { books.ended.total ≡ 0 }
         requires none_counted { H.summed sum ≡ H.none }
         ensures { result ≡ record {
           listen = listen;
@@ -190,6 +197,7 @@ impl<J: Reception, E: Ledger, H: HandsOver, L: Hall, G> Listening<J, E, H, L, G>
           waiting = 0;
         } }
     {
+        let ListenerBooks { out, held, ended } = books;
         Listening {
             listen,
             connections: 0,

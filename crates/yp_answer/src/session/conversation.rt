@@ -24,7 +24,7 @@ use crate::session::errand::Errand;
 use crate::session::host::Host;
 use crate::session::makes::may_make;
 use crate::session::open::{OpenReply, put_piece};
-use crate::session::put::put_reply;
+use crate::session::put::{Request, put_reply};
 use crate::session::session::{CALLS_MAX, End};
 use crate::{Path, RECORD_MAX};
 use std::alloc::Global;
@@ -349,13 +349,16 @@ impl<S: TrySource, K: TrySink> Conversation<S, K> {
         ensures due { IfSome self.new.waiting (IsDue (length (H.seen host.new).catalogue.maps)) }
     {
         self.outgoing.hold(self.incoming.len() > spelled);
+        let request = Request {
+            message: &buffers.call[..len],
+            peer: terms.peer,
+        };
         let put = put_reply(
             buffers.alloc,
             &mut buffers.writer,
             &mut self.outgoing,
             host,
-            &buffers.call[..len],
-            terms.peer,
+            &request,
             &mut buffers.reply,
         );
         self.incoming.pass(spelled);

@@ -23,6 +23,13 @@ use yp_board::View;
 use yp_io::{Failed, NoMemory, Peer, Sink};
 use yp_rpc::RecordWriter;
 
+/// A record that came, and who sent it.
+#[derive(Clone, Copy)]
+pub(crate) struct Request<'a> {
+    pub(crate) message: &'a [u8],
+    pub(crate) peer: Peer,
+}
+
 /// What is left to do for a record that was answered.
 #[derive(Drop)]
 pub(crate) struct Put {
@@ -34,31 +41,30 @@ pub(crate) struct Put {
     pub(crate) is_broken: bool,
 }
 
-/// Answers a record and puts its reply, but for what is left open of it.
+/// Answers a request and puts its reply, but for what is left open of it.
 pub(crate) fn put_reply<K: Sink, H: Host>(
     alloc: Global,
     writer: &mut RecordWriter,
     sink: &mut K,
     host: &mut H,
-    message: &[u8],
-    peer: Peer,
+    request: &Request<'_>,
     buf: &mut [u8],
 ) -> Put
     requires idle { writer.old ≡ [] }
     requires room { record_max ≤ length buf.old }
-    ensures put { (turn : Turn) × (turn.message ≡ message.now) × (turn.flushed ≡ false)
+    ensures put { (turn : Turn) × (turn.message ≡ request.now.message.now) × (turn.flushed ≡ false)
         × (turn.taken ≡ result.errand)
-        × Link (conduct_by H.Host) Stream peer turn host.old host.new
+        × Link (conduct_by H.Host) Stream request.now.peer turn host.old host.new
         × Puts turn.answer result.is_broken result.stream (K.output sink.old) (K.output sink.new) }
     ensures stream { IfSome result.stream IsBegun }
     ensures due { IfSome result.errand (IsDue (length (H.seen host.new).catalogue.maps)) }
     ensures sees { SeesOn (H.seen host.old) (H.seen host.new) }
     ensures idle { writer.new ≡ [] }
 {
-    match answer(host, message, peer, buf) {
+    match answer(host, request.message, request.peer, buf) {
         Answered::Silent => put_of(Ok(()), None),
         Answered::Reply { len } => {
-            host.replied(peer, message, &buf[..len]);
+            host.replied(request.peer, request.message, &buf[..len]);
             put_of(writer.send(sink, &buf[..len]), None)
         }
         Answered::Transfer { len, job } => {
@@ -68,7 +74,7 @@ pub(crate) fn put_reply<K: Sink, H: Host>(
         Answered::Stream(stream) => put_open(open_reply(alloc, host, stream)),
         Answered::Make { xid, job } => {
             let len = make(host, job, xid, buf);
-            host.replied(peer, message, &buf[..len]);
+            host.replied(request.peer, request.message, &buf[..len]);
             put_of(writer.send(sink, &buf[..len]), None)
         }
     }

@@ -111,24 +111,23 @@ fn read_two<S: Source>(source: &mut S, buf: &mut [u8], record: &[u8]) -> (Answer
     (answer, is_same, reader.next(source, buf))
 }
 
-// Looks at what comes of reading two records from a stream, in pieces of so many bytes: this one, and then what `next`
-// says.
-fn check_two<R: Abort>(
-    rt: &R,
-    alloc: Global,
-    stream: Vec<u8>,
-    piece: usize,
-    record: &[u8],
+// What comes of reading two records from a stream: this one, and then what `next` says.
+#[derive(Clone, Copy)]
+struct Two<'a> {
+    row: &'a str,
+    record: &'a [u8],
     next: Answer,
-    row: &str,
-)
+}
+
+// Looks at what comes of reading two records from a stream, in pieces of so many bytes.
+fn check_two<R: Abort>(rt: &R, alloc: Global, stream: Vec<u8>, piece: usize, two: &Two<'_>)
     requires { 0 < piece }
 {
     let mut buf = vec![in alloc; 0; RECORD_MAX].expect(rt, "a buffer");
     let mut source = MemSource::new(stream, piece, Vec::new(alloc));
-    let came = (piece, read_two(&mut source, &mut buf, record));
-    let wanted = (piece, (Ok(Some(record.len())), true, next));
-    assert_same(rt, &came, &wanted, row);
+    let came = (piece, read_two(&mut source, &mut buf, two.record));
+    let wanted = (piece, (Ok(Some(two.record.len())), true, two.next));
+    assert_same(rt, &came, &wanted, two.row);
 }
 
 // Reads a record from a stream, of whose reads these fail.
@@ -140,33 +139,14 @@ fn read_one(stream: Vec<u8>, piece: usize, failing: Vec<u64>, buf: &mut [u8]) ->
 }
 
 fn try_cut<R: Abort>(rt: &R, alloc: Global, record: &[u8], how: &Cut) {
-    check_two(
-        rt,
-        alloc,
-        cut_as(rt, alloc, record, how),
-        1,
+    let two = Two {
+        row: how.name,
         record,
-        Ok(None),
-        how.name,
-    );
-    check_two(
-        rt,
-        alloc,
-        cut_as(rt, alloc, record, how),
-        3,
-        record,
-        Ok(None),
-        how.name,
-    );
-    check_two(
-        rt,
-        alloc,
-        cut_as(rt, alloc, record, how),
-        80,
-        record,
-        Ok(None),
-        how.name,
-    );
+        next: Ok(None),
+    };
+    check_two(rt, alloc, cut_as(rt, alloc, record, how), 1, &two);
+    check_two(rt, alloc, cut_as(rt, alloc, record, how), 3, &two);
+    check_two(rt, alloc, cut_as(rt, alloc, record, how), 80, &two);
 }
 
 #[test]
@@ -214,8 +194,12 @@ fn torn_behind_a_record(rt: HostRuntime) {
     stream
         .extend_from_slice(&[0x80, 0, 0])
         .expect(&rt, "a head");
-    let torn = Err(RecordFault::Torn { at: 80 });
-    check_two(&rt, alloc, stream, 80, &record, torn, "torn");
+    let two = Two {
+        row: "torn",
+        record: &record,
+        next: Err(RecordFault::Torn { at: 80 }),
+    };
+    check_two(&rt, alloc, stream, 80, &two);
 }
 
 // The answer to a record that is too long, and to reading on behind its head, and what is read then.
@@ -241,8 +225,12 @@ fn largest_record(rt: HostRuntime) {
     let record = counted(&rt, alloc, RECORD_MAX);
     let mut stream = bytes(&rt, alloc, &["80040000"]);
     stream.extend_from_slice(&record).expect(&rt, "a record");
-    let row = "as many bytes as a record may have";
-    check_two(&rt, alloc, stream, 1000, &record, Ok(None), row);
+    let two = Two {
+        row: "as many bytes as a record may have",
+        record: &record,
+        next: Ok(None),
+    };
+    check_two(&rt, alloc, stream, 1000, &two);
     check_long(&rt, alloc, "80040001 6162");
 }
 
@@ -250,7 +238,12 @@ fn largest_record(rt: HostRuntime) {
 fn empty_fragments(rt: HostRuntime) {
     let alloc = rt.alloc();
     let most = hollow(&rt, alloc, 1024);
-    check_two(&rt, alloc, most, 80, b"x", Ok(None), "1024 empty fragments");
+    let two = Two {
+        row: "1024 empty fragments",
+        record: b"x",
+        next: Ok(None),
+    };
+    check_two(&rt, alloc, most, 80, &two);
     let more = hollow(&rt, alloc, 1025);
     let answer = read_one(more, 80, Vec::new(alloc), &mut [0; 80]);
     assert_same(&rt, &answer, &LONG, "1025 empty fragments");

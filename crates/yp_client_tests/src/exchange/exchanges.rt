@@ -1,11 +1,11 @@
 //! Clients that ask a server in memory: calls written out by hand, from RFC 5531 and yp.x, what the server replies to
 //! them, and what the client makes of that.
 
-use crate::asked::{FAIR, Fixed, ask};
+use crate::client::asked::{FAIR, Fixed, ask};
+use crate::client::lent::{MemClient, client_over};
 use crate::exchange::server::{Given, add_record, add_reply, board, show};
 use crate::exchange::told;
 use crate::given::{assert_same, bytes, number};
-use crate::lent::{MemClient, client_over};
 use std::alloc::Global;
 use std::process::Abort;
 use std::random::RandomSource;

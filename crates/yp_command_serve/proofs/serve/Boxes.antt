@@ -5,11 +5,8 @@ use Rattle.yp_io.specs.Counts.{HasRisen}
 use Rattle.yp_io.specs.declared.inbox.Inbox as inbox
 use Rattle.yp_rpc.specs.Turns.{InboxTells}
 use Rattle.yp_rpc.specs.inside.Turns.{box_by}
-use Rattle.yp_board.specs.Catalogues.{Catalogue}
-use Rattle.yp_board.specs.Logs.{Log}
-use Rattle.yp_answer.specs.session.Hosts.{Conduct}
 use Rattle.yp_worker.specs.datagrams.Mailing.{Deferred}
-use Rattle.yp_server.specs.Serving.{EachServes, ServesInboxes, SomeHasRisen}
+use Rattle.yp_server.specs.Serving.{MailService, EachServes, ServesInboxes, SomeHasRisen}
 use Rattle.yp_command_serve.specs.serve.Hosting.{EndTells, end_by}
 
 module _ {I : Type 0} (seen : inbox.Ghosts I) where
@@ -35,22 +32,20 @@ module _ {I : Type 0} (seen : inbox.Ghosts I) where
       ∙ ap (λ (l : List ℕ). l ++ seen.faults inbox ∷ []) (faults_of more)
 
 -- as many inboxes come back as were served
-each_long : {H T : Type 0} (conduct : Conduct H) (counted : H → T) (catalogue : Catalogue) (starts log : Log) (turns : ℕ)
-    (fault : Bool) (before after : List InboxTells) (left : List Deferred)
-    → EachServes conduct counted catalogue starts log turns fault before after left → length after ≡ length before
-each_long conduct counted catalogue starts log turns fault [] [] left serves = refl
-each_long conduct counted catalogue starts log turns fault [] (new ∷ after) left serves = absurd serves
-each_long conduct counted catalogue starts log turns fault (old ∷ before) [] left serves = absurd serves
-each_long conduct counted catalogue starts log turns fault (old ∷ before) (new ∷ after) left
+each_long : {H T : Type 0} (service : MailService H T) (fault : Bool) (before after : List InboxTells) (left : List Deferred)
+    → EachServes service fault before after left → length after ≡ length before
+each_long service fault [] [] left serves = refl
+each_long service fault [] (new ∷ after) left serves = absurd serves
+each_long service fault (old ∷ before) [] left serves = absurd serves
+each_long service fault (old ∷ before) (new ∷ after) left
     (failed, others, is, left_here, left_there, left_is, one, rest) =
-    let long = each_long conduct counted catalogue starts log turns others before after left_there rest in
+    let long = each_long service others before after left_there rest in
     omega (arith, long)
 
-pub served_long : {H T : Type 0} (conduct : Conduct H) (counted : H → T) (catalogue : Catalogue) (starts log : Log) (turns : ℕ)
-    (fault : Bool) (before after : List InboxTells) (out out' : InboxTells)
-    → ServesInboxes conduct counted catalogue starts log turns fault before after out out' → length after ≡ length before
-served_long conduct counted catalogue starts log turns fault before after out out' serves =
-    each_long conduct counted catalogue starts log turns serves.failed before after serves.left serves.each
+pub served_long : {H T : Type 0} (service : MailService H T) (fault : Bool) (before after : List InboxTells)
+    (out out' : InboxTells) → ServesInboxes service fault before after out out' → length after ≡ length before
+served_long service fault before after out out' serves =
+    each_long service serves.failed before after serves.left serves.each
 
 -- where one of all counts rose, the last did, or one before it
 pub last_or_before : (olds news : List ℕ) (old new : ℕ) → length news ≡ length olds

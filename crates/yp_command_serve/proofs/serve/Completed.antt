@@ -6,13 +6,12 @@ use Rattle.yp_io.specs.Disk.{History}
 use Rattle.yp_map_file.specs.Slots.{IsSound}
 use Rattle.yp_map_file.specs.Stands.{stands}
 use Rattle.yp_map_file.specs.Stands as stood
-use Rattle.yp_command.specs.declared.office.office.Office.{Office}
 use Rattle.yp_command.specs.declared.office.status.Status.{Status}
 use Rattle.yp_command.specs.declared.office.status.Status.TheVariants.{Done, WriteFault, NoMemory, Damaged, DiskFault}
 use Rattle.yp_command.specs.declared.office.status.Status.TheVariants.{ListenFault, InboxFault}
 use Rattle.yp_command.specs.office.Disks.{disks_of}
 use Rattle.yp_command.specs.office.Seeing.{Seeing, WriteFails, DiskFails}
-use Rattle.yp_command_serve.specs.serve.Hosting.{DoorTells}
+use Rattle.yp_command_serve.specs.serve.Hosting.{OutsideTells}
 use Rattle.yp_command_serve.specs.serve.Serve.{Job, SomeInboxFails, ServesOrRefuses, HasServeCauses, IsUndamaged}
 
 module _ {D : Type 0} (history : D → Option History) where
@@ -37,12 +36,11 @@ module _ {D : Type 0} (history : D → Option History) where
       let tail : disks ≡ front ++ disk ∷ rest = cc in
       undamaged disks front disk rest at rule tail (λ k d lt. all (suc k) d (omega (arith, lt))) damaged
 
-module _ {S K D C A I T : Type 0} (seen : Seeing S K D C A I T) (job : Job) (old new : Office S K D C A I T)
-    (door door' : DoorTells) (logged : List ℕ) where
-  pub completes : (status : Status) → ServesOrRefuses seen job status old new door door' logged
-      → HasServeCauses seen status old new door door' → All (IsUndamaged seen.disk.history) (disks_of old.disks.items)
-      → (HasRisen door.listen.faults door'.listen.faults → ⊥) → (SomeInboxFails seen old new door door' → ⊥) → (DiskFails seen old new → ⊥)
-      → (WriteFails seen old new → ⊥) → (status ≡ Done) ⊎ (status ≡ NoMemory)
+module _ {S K D C A I T : Type 0} (seen : Seeing S K D C A I T) (job : Job) (old new : OutsideTells S K D C A I T) (logged : List ℕ) where
+  pub completes : (status : Status) → ServesOrRefuses seen job status old new logged
+      → HasServeCauses seen status old new → All (IsUndamaged seen.disk.history) (disks_of old.office.disks.items)
+      → (HasRisen old.doors.listen.faults new.doors.listen.faults → ⊥) → (SomeInboxFails seen old new → ⊥) → (DiskFails seen old.office new.office → ⊥)
+      → (WriteFails seen old.office new.office → ⊥) → (status ≡ Done) ⊎ (status ≡ NoMemory)
   completes Done serves causes sound listen inbox disk write = inl refl
   completes NoMemory serves causes sound listen inbox disk write = inr refl
   completes WriteFault serves causes sound listen inbox disk write = absurd (write (causes.write_fault refl))
@@ -50,7 +48,7 @@ module _ {S K D C A I T : Type 0} (seen : Seeing S K D C A I T) (job : Job) (old
   completes InboxFault serves causes sound listen inbox disk write = absurd (inbox (causes.inbox_fault refl))
   completes (DiskFault map) serves causes sound listen inbox disk write = absurd (disk (causes.disk_fault map refl))
   completes (Damaged map at rule) serves causes sound listen inbox disk write =
-      let stopped = serves.stopped in
-      absurd (undamaged seen.disk.history (disks_of old.disks.items) stopped.front stopped.before stopped.rest at rule
+      let stopped = serves.0.stopped in
+      absurd (undamaged seen.disk.history (disks_of old.office.disks.items) stopped.front stopped.before stopped.rest at rule
       stopped.old_is sound stopped.refused.cause)
   completes status serves causes sound listen inbox disk write = absurd serves.tells

@@ -11,8 +11,8 @@ use Rattle.yp_publisher.specs.Grown.{AreTold}
 use Rattle.yp_transfer.specs.HostTable.{HostList}
 use Rattle.yp_answer.specs.declared.session.session.TheConstants.{CALLS_MAX}
 use Rattle.yp_worker.specs.Receptions.{IsListenerState}
-use Rattle.yp_host.specs.workers.Charges.{counted_of}
-use Rattle.yp_server.specs.Serving.{conduct_at, ServesInboxes, DisksStand}
+use Rattle.yp_server.specs.Serving.{conduct_at, mail_service, ServesInboxes, DisksStand}
+use Rattle.yp_server.specs.Counting.{count_told}
 use Rattle.yp_command_serve.specs.declared.serve.tally.Hosted.{Hosted}
 use Rattle.yp_command_serve.specs.serve.Hosting.{ServerTells, IsAccounted, IsServed, first_of, setup_of}
 
@@ -25,7 +25,7 @@ module _ {D : Type 0} (history : D → Option History) (faults : D → ℕ) (map
   Given c t h f m o n =
       IsFront f.log log
       × IsListenerState o.listen n.listen hosted.tally.connections hosted.tally.listen_fault 0 1
-      × ServesInboxes (conduct_at (λ (reader : Seen). reader) Refreshes t h) counted_of c f.log log turns hosted.inbox_fault o.boxes n.boxes o.out n.out
+      × ServesInboxes (mail_service (conduct_at (λ (reader : Seen). reader) Refreshes t h) count_told c f.log log turns) hosted.inbox_fault o.boxes n.boxes o.out n.out
       × DisksStand history c log disks
       × IsAccounted history faults (setup_of c t h turns) f maps m hosted o n log disks
 

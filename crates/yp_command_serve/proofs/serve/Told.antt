@@ -25,7 +25,8 @@ use Rattle.yp_command_serve.specs.declared.serve.resources.NotHosted.{NotHosted}
 use Rattle.yp_command_serve.specs.declared.serve.resources.HostResources.{HostResources}
 use Rattle.yp_command_serve.specs.declared.serve.resources.NotHosted.TheVariants as unhosted
 use Rattle.yp_command_serve.specs.declared.serve.tally.Hosted.{Hosted}
-use Rattle.yp_command_serve.specs.serve.Hosting.{ServeSetup, ServerTells, DoorTells, IsServed, IsHosted}
+use Rattle.yp_command_serve.specs.serve.Hosting.{ServeSetup, ServerTells, DoorTells, OutsideTells, outside_tells}
+use Rattle.yp_command_serve.specs.serve.Hosting.{IsServed, IsHosted}
 use Rattle.yp_command_serve.specs.inside.serve.Hosting.{IsUnhosted}
 use Rattle.yp_command_serve.specs.serve.Serve.{Job, setup, place, SomeInboxFails, IsToAccept, ServesMaps, IsShut}
 use Rattle.yp_command_serve.specs.serve.Serve.{ServesOrRefuses, TellsServed, HasServeCauses, ServeDoes}
@@ -47,30 +48,30 @@ all_came old now connections wanted failed kept ready fine =
     kept.accepts.connections_are ∙ ap (capped 0) count
 
 module _ {S K D C A I T : Type 0} (seen : Seeing S K D C A I T) (job : Job) (status : Status)
-    (old new : Office S K D C A I T) (door door' : DoorTells) (logged : List ℕ) where
+    (old new : OutsideTells S K D C A I T) (logged : List ℕ) where
   -- what was served is told by its status
-  pub served_told : (hosted : Hosted) → IsHosted seen.disk.history seen.disk.faults (setup seen job old) hosted
-      (place seen old door) (place seen new door') (disks_of old.disks.items) (disks_of new.disks.items)
-      → (hosted.inbox_fault ≡ true → SomeInboxFails seen old new door door')
+  pub served_told : (hosted : Hosted) → IsHosted seen.disk.history seen.disk.faults (setup seen job old.office) hosted
+      (place seen old) (place seen new) (disks_of old.office.disks.items) (disks_of new.office.disks.items)
+      → (hosted.inbox_fault ≡ true → SomeInboxFails seen old new)
       → IsLog job.log job.stores (Some hosted.totals) logged
-      → TellsServed hosted status (output seen old) (output seen new)
-      → ServesOrRefuses seen job status old new door door' logged
+      → TellsServed hosted status (output seen old.office) (output seen new.office)
+      → ServesOrRefuses seen job status old new logged
   served_told hosted is inbox log tells = by_status status tells
     where
-      maps : (s : Status) → TellsServed hosted s (output seen old) (output seen new)
-          → ServesMaps seen job s old new door door' logged
+      maps : (s : Status) → TellsServed hosted s (output seen old.office) (output seen new.office)
+          → ServesMaps seen job s old new logged
       maps s told = record {
         hosted = hosted;
         is_hosted = is;
-        all = λ ready fine. all_came door.listen door'.listen hosted.tally.connections job.connections
+        all = λ ready fine. all_came old.doors.listen new.doors.listen hosted.tally.connections job.connections
             hosted.tally.listen_fault is.served.connections ready fine;
         inbox = inbox;
         tells = told;
         log = log;
       }
 
-      by_status : (s : Status) → TellsServed hosted s (output seen old) (output seen new)
-          → ServesOrRefuses seen job s old new door door' logged
+      by_status : (s : Status) → TellsServed hosted s (output seen old.office) (output seen new.office)
+          → ServesOrRefuses seen job s old new logged
       by_status Done told = maps Done told
       by_status WriteFault told = maps WriteFault told
       by_status ListenFault told = maps ListenFault told
@@ -78,54 +79,58 @@ module _ {S K D C A I T : Type 0} (seen : Seeing S K D C A I T) (job : Job) (sta
       by_status s told = absurd told
 
   -- want of memory is told of disks that were stopped at, or were all loaded
-  pub memory_told : IsShut job old new door door' logged → AllZip (IsUnwritten seen.disk.history seen.disk.faults)
-      (disks_of old.disks.items) (disks_of new.disks.items) → status ≡ NoMemory
-      → ServesOrRefuses seen job status old new door door' logged
+  pub memory_told : IsShut job old new logged → AllZip (IsUnwritten seen.disk.history seen.disk.faults)
+      (disks_of old.office.disks.items) (disks_of new.office.disks.items) → status ≡ NoMemory
+      → ServesOrRefuses seen job status old new logged
   memory_told shut unwritten is =
-      subst (λ s. ServesOrRefuses seen job s old new door door' logged) (sym is) (record { disks = unwritten; shut = shut })
+      subst (λ s. ServesOrRefuses seen job s old new logged) (sym is) (unwritten, shut)
 
-  pub stopped_told : (number : ℕ) (why : SlotFault) → IsShut job old new door door' logged
-      → OpeningStopped seen.disk.history seen.disk.faults (disks_of old.disks.items) (disks_of new.disks.items) number why
-      → TellsOf job.stores number why status → ServesOrRefuses seen job status old new door door' logged
+  pub stopped_told : (number : ℕ) (why : SlotFault) → IsShut job old new logged
+      → OpeningStopped seen.disk.history seen.disk.faults (disks_of old.office.disks.items) (disks_of new.office.disks.items) number why
+      → TellsOf job.stores number why status → ServesOrRefuses seen job status old new logged
   stopped_told number why shut stopped (inl is) =
-      subst (λ s. ServesOrRefuses seen job s old new door door' logged) (sym is) (record {
-        disks = stopped_written seen.disk.history seen.disk.faults (disks_of old.disks.items)
-            (disks_of new.disks.items) number why stopped;
-        shut = shut;
-      })
+      subst (λ s. ServesOrRefuses seen job s old new logged) (sym is) (
+        stopped_written seen.disk.history seen.disk.faults (disks_of old.office.disks.items)
+            (disks_of new.office.disks.items) number why stopped,
+        shut,
+      )
   stopped_told number why shut stopped (inr (store, found, fails)) = by_fault why stopped status fails
     where
       by_fault : (w : SlotFault)
-          → OpeningStopped seen.disk.history seen.disk.faults (disks_of old.disks.items) (disks_of new.disks.items) number w
-          → (s : Status) → Fails store w s → ServesOrRefuses seen job s old new door door' logged
-      by_fault (fault.Damaged at rule) stopped (Damaged map at' rule') fails = record {
-        number = number;
-        named = found ∙ ap (λ (n : Name). Some n) (sym fails.0);
-        stopped = rw (fails.1, fails.2) stopped;
-        shut = shut;
-      }
-      by_fault fault.DiskFault stopped (DiskFault map) fails = record {
-        number = number;
-        named = found ∙ ap (λ (n : Name). Some n) (sym fails);
-        stopped = stopped;
-        shut = shut;
-      }
-      by_fault fault.NoMemory stopped NoMemory fails = record {
-        disks = stopped_written seen.disk.history seen.disk.faults (disks_of old.disks.items)
-            (disks_of new.disks.items) number fault.NoMemory stopped;
-        shut = shut;
-      }
+          → OpeningStopped seen.disk.history seen.disk.faults (disks_of old.office.disks.items) (disks_of new.office.disks.items) number w
+          → (s : Status) → Fails store w s → ServesOrRefuses seen job s old new logged
+      by_fault (fault.Damaged at rule) stopped (Damaged map at' rule') fails = (
+        record {
+          number = number;
+          named = found ∙ ap (λ (n : Name). Some n) (sym fails.0);
+          stopped = rw (fails.1, fails.2) stopped;
+        },
+        shut,
+      )
+      by_fault fault.DiskFault stopped (DiskFault map) fails = (
+        record {
+          number = number;
+          named = found ∙ ap (λ (n : Name). Some n) (sym fails);
+          stopped = stopped;
+        },
+        shut,
+      )
+      by_fault fault.NoMemory stopped NoMemory fails = (
+        stopped_written seen.disk.history seen.disk.faults (disks_of old.office.disks.items)
+            (disks_of new.office.disks.items) number fault.NoMemory stopped,
+        shut,
+      )
       by_fault w stopped s fails = absurd fails
 
   -- a fault of a disk is told where its count rose
   pub risen_of : (number : ℕ) (why : SlotFault) (map : MapName) → status ≡ DiskFault map
-      → OpeningStopped seen.disk.history seen.disk.faults (disks_of old.disks.items) (disks_of new.disks.items) number why
-      → TellsOf job.stores number why status → DiskFails seen old new
+      → OpeningStopped seen.disk.history seen.disk.faults (disks_of old.office.disks.items) (disks_of new.office.disks.items) number why
+      → TellsOf job.stores number why status → DiskFails seen old.office new.office
   risen_of number why map is stopped (inl memory) = absurd (let no : NoMemory ≡ DiskFault map = sym memory ∙ is in cc)
   risen_of number (fault.Damaged at rule) map is stopped (inr (store, found, fails)) =
       absurd (subst (λ s. Fails store (fault.Damaged at rule) s) is fails)
   risen_of number fault.DiskFault map is stopped (inr (store, found, fails)) =
-      stopped_risen seen.disk.history seen.disk.faults old.disks.items new.disks.items number stopped
+      stopped_risen seen.disk.history seen.disk.faults old.office.disks.items new.office.disks.items number stopped
   risen_of number fault.NoMemory map is stopped (inr (store, found, fails)) =
       absurd (subst (λ s. Fails store fault.NoMemory s) is fails)
 
@@ -159,33 +164,33 @@ unfolding is_load
 no_inbox status is e = let no : is_load InboxFault ≡ true = subst (λ s. is_load s ≡ true) e is in absurd cc
 
 module _ {S K D C A I T : Type 0} (seen : Seeing S K D C A I T) (job : Job) (status : Status)
-    (old new : Office S K D C A I T) (door door' : DoorTells) (logged : List ℕ) where
+    (old new : OutsideTells S K D C A I T) (logged : List ℕ) where
   -- what was served, or why nobody was, is told by its status
   pub end_told : (hosted : Result Hosted NotHosted)
-      → IfOk hosted (λ h. IsHosted seen.disk.history seen.disk.faults (setup seen job old) h (place seen old door)
-      (place seen new door') (disks_of old.disks.items) (disks_of new.disks.items))
+      → IfOk hosted (λ h. IsHosted seen.disk.history seen.disk.faults (setup seen job old.office) h (place seen old)
+      (place seen new) (disks_of old.office.disks.items) (disks_of new.office.disks.items))
       → IfErr hosted (λ why. IsUnhosted seen.disk.history seen.disk.faults why
-      (disks_of old.disks.items) (disks_of new.disks.items))
-      → OnErr hosted (IsShut job old new door door' logged)
-      → IfOk hosted (λ h. h.inbox_fault ≡ true → SomeInboxFails seen old new door door')
+      (disks_of old.office.disks.items) (disks_of new.office.disks.items))
+      → OnErr hosted (IsShut job old new logged)
+      → IfOk hosted (λ h. h.inbox_fault ≡ true → SomeInboxFails seen old new)
       → IsLog job.log job.stores (totals_told hosted) logged
-      → TellsServeEnd hosted job.stores status (output seen old) (output seen new)
-      → ServesOrRefuses seen job status old new door door' logged
+      → TellsServeEnd hosted job.stores status (output seen old.office) (output seen new.office)
+      → ServesOrRefuses seen job status old new logged
   end_told (Ok h) is un shut inbox log tells =
-      served_told seen job status old new door door' logged h is inbox log tells
+      served_told seen job status old new logged h is inbox log tells
   end_told (Err (unhosted.Unloaded number why)) is un shut inbox log tells =
-      stopped_told seen job status old new door door' logged number why shut un tells
+      stopped_told seen job status old new logged number why shut un tells
   end_told (Err unhosted.NoMemory) is un shut inbox log tells =
-      memory_told seen job status old new door door' logged shut un tells
+      memory_told seen job status old new logged shut un tells
 
   -- a failed accept is told where the listener's count rose
   pub listen_risen : (hosted : Result Hosted NotHosted)
-      → IfOk hosted (λ h. IsHosted seen.disk.history seen.disk.faults (setup seen job old) h (place seen old door)
-      (place seen new door') (disks_of old.disks.items) (disks_of new.disks.items))
-      → TellsServeEnd hosted job.stores status (output seen old) (output seen new) → status ≡ ListenFault
-      → HasRisen door.listen.faults door'.listen.faults
+      → IfOk hosted (λ h. IsHosted seen.disk.history seen.disk.faults (setup seen job old.office) h (place seen old)
+      (place seen new) (disks_of old.office.disks.items) (disks_of new.office.disks.items))
+      → TellsServeEnd hosted job.stores status (output seen old.office) (output seen new.office) → status ≡ ListenFault
+      → HasRisen old.doors.listen.faults new.doors.listen.faults
   listen_risen (Ok h) is tells e =
-      let told = subst (λ s. TellsServed h s (output seen old) (output seen new)) e tells in
+      let told = subst (λ s. TellsServed h s (output seen old.office) (output seen new.office)) e tells in
       is.served.connections.fault told.0
   listen_risen (Err (unhosted.Unloaded number why)) is tells e =
       absurd (no_listen status (told_load job.stores number why status tells) e)
@@ -193,11 +198,11 @@ module _ {S K D C A I T : Type 0} (seen : Seeing S K D C A I T) (job : Job) (sta
 
   -- a fault of the inbox is told where its count rose
   pub inbox_risen : (hosted : Result Hosted NotHosted)
-      → IfOk hosted (λ h. h.inbox_fault ≡ true → SomeInboxFails seen old new door door')
-      → TellsServeEnd hosted job.stores status (output seen old) (output seen new) → status ≡ InboxFault
-      → SomeInboxFails seen old new door door'
+      → IfOk hosted (λ h. h.inbox_fault ≡ true → SomeInboxFails seen old new)
+      → TellsServeEnd hosted job.stores status (output seen old.office) (output seen new.office) → status ≡ InboxFault
+      → SomeInboxFails seen old new
   inbox_risen (Ok h) cause tells e =
-      let told = subst (λ s. TellsServed h s (output seen old) (output seen new)) e tells in
+      let told = subst (λ s. TellsServed h s (output seen old.office) (output seen new.office)) e tells in
       cause told.1
   inbox_risen (Err (unhosted.Unloaded number why)) cause tells e =
       absurd (no_inbox status (told_load job.stores number why status tells) e)
@@ -206,13 +211,13 @@ module _ {S K D C A I T : Type 0} (seen : Seeing S K D C A I T) (job : Job) (sta
   -- a fault of a disk is told where its count rose
   pub disk_risen : (hosted : Result Hosted NotHosted) (map : MapName)
       → IfErr hosted (λ why. IsUnhosted seen.disk.history seen.disk.faults why
-      (disks_of old.disks.items) (disks_of new.disks.items))
-      → TellsServeEnd hosted job.stores status (output seen old) (output seen new) → status ≡ DiskFault map
-      → DiskFails seen old new
+      (disks_of old.office.disks.items) (disks_of new.office.disks.items))
+      → TellsServeEnd hosted job.stores status (output seen old.office) (output seen new.office) → status ≡ DiskFault map
+      → DiskFails seen old.office new.office
   disk_risen (Ok h) map un tells e =
-      absurd (subst (λ s. TellsServed h s (output seen old) (output seen new)) e tells)
+      absurd (subst (λ s. TellsServed h s (output seen old.office) (output seen new.office)) e tells)
   disk_risen (Err (unhosted.Unloaded number why)) map un tells e =
-      risen_of seen job status old new door door' logged number why map e un tells
+      risen_of seen job status old new logged number why map e un tells
   disk_risen (Err unhosted.NoMemory) map un tells e = absurd (let no : NoMemory ≡ DiskFault map = sym tells ∙ e in cc)
 
 -- nothing was told
@@ -222,12 +227,13 @@ nothing_logged true maps = ([], refl)
 
 -- nothing was done
 pub nothing_done : {S K D C A I T : Type 0} (seen : Seeing S K D C A I T) (job : Job)
-    (office : Office S K D C A I T) (door door' : DoorTells) → door' ≡ door → ServeDoes seen job NoMemory office office door door' []
+    (office : Office S K D C A I T) (door door' : DoorTells) → door' ≡ door
+    → ServeDoes seen job NoMemory (outside_tells office door) (outside_tells office door') []
 nothing_done seen job office door door' same = record {
-  serves = record {
-    disks = nothing_written seen.disk.history seen.disk.faults (disks_of office.disks.items);
-    shut = record { stays = refl; door_stays = same; log = nothing_logged job.log job.stores };
-  };
+  serves = (
+    nothing_written seen.disk.history seen.disk.faults (disks_of office.disks.items),
+    record { stays = ap (λ (d : DoorTells). outside_tells office d) same; log = nothing_logged job.log job.stores },
+  );
   complete = λ sound listen inbox disk write. inr refl;
   causes = record {
     listen_fault = λ e. absurd (let no : NoMemory ≡ ListenFault = e in cc);
@@ -300,64 +306,68 @@ pub shut_of : {S K D C A I T L : Type 0} (job : Job) (old new : Office S K D C A
       texts = back.desk.texts;
     }
     → OnErr hosted (back ≡ record resources { disks = back.disks }) → OnErr hosted (new.wire.sink ≡ old.wire.sink)
-    → OnErr hosted (IsShut job old new door door' logged)
+    → OnErr hosted (IsShut job (outside_tells old door) (outside_tells new door') logged)
 shut_of job old new resources back inbox more door door' tells logged (Ok h) log a b c d rest e f g form same sink = tt
 shut_of {S} {K} {D} {C} {A} {I} {T} {L} job old new resources back inbox more door door' tells logged (Err why) log a b c d rest e f g form same sink =
     let together : rest ++ inbox ∷ [] ≡ more ++ old.inbox ∷ [] =
     sym e ∙ ap (λ (s : HostResources D A T C L I). s.inboxes.items) same ∙ d in
     let parts = same_from_push rest more inbox old.inbox together in
+    let office : new ≡ record old { disks = new.disks } =
+    form
+    ∙ ap (λ (s : HostResources D A T C L I). record {
+      wire = record old.wire { sink = new.wire.sink };
+      disks = new.disks;
+      clock = s.desk.clock;
+      dial = s.desk.dial;
+      inbox = inbox;
+      texts = s.desk.texts;
+    }) same
+    ∙ rw (a, b, c, parts.1, sink) refl in
+    let doors : door' ≡ door =
+    g ∙ ap (λ (s : HostResources D A T C L I). tells s.listen rest s.outbox) same
+    ∙ ap (λ (l : List I). tells resources.listen l resources.outbox) parts.0 ∙ sym f in
     record {
-      stays = form
-          ∙ ap (λ (s : HostResources D A T C L I). record {
-            wire = record old.wire { sink = new.wire.sink };
-            disks = new.disks;
-            clock = s.desk.clock;
-            dial = s.desk.dial;
-            inbox = inbox;
-            texts = s.desk.texts;
-          }) same
-          ∙ rw (a, b, c, parts.1, sink) refl;
-      door_stays = g ∙ ap (λ (s : HostResources D A T C L I). tells s.listen rest s.outbox) same
-          ∙ ap (λ (l : List I). tells resources.listen l resources.outbox) parts.0 ∙ sym f;
+      stays = ap (λ (o : Office S K D C A I T). outside_tells o door') office
+          ∙ ap (λ (d : DoorTells). outside_tells (record old { disks = new.disks }) d) doors;
       log = log;
     }
 
 -- all that was done, of what is told of it
 pub all_done : {S K D C A I T : Type 0} (seen : Seeing S K D C A I T) (job : Job) (status : Status)
-    (old new : Office S K D C A I T) (door door' : DoorTells) (logged : List ℕ) (hosted : Result Hosted NotHosted)
+    (old new : OutsideTells S K D C A I T) (logged : List ℕ) (hosted : Result Hosted NotHosted)
     (apart back : List D)
-    → apart ≡ disks_of old.disks.items → back ≡ disks_of new.disks.items
-    → IfOk hosted (λ h. IsHosted seen.disk.history seen.disk.faults (setup seen job old) h (place seen old door)
-    (place seen new door') apart back)
+    → apart ≡ disks_of old.office.disks.items → back ≡ disks_of new.office.disks.items
+    → IfOk hosted (λ h. IsHosted seen.disk.history seen.disk.faults (setup seen job old.office) h (place seen old)
+    (place seen new) apart back)
     → IfErr hosted (λ why. IsUnhosted seen.disk.history seen.disk.faults why apart back)
-    → OnErr hosted (IsShut job old new door door' logged)
+    → OnErr hosted (IsShut job old new logged)
     → IsLog job.log job.stores (totals_told hosted) logged
-    → TellsServeEnd hosted job.stores status (output seen old) (output seen new)
-    → IfOk hosted (λ h. h.inbox_fault ≡ true → SomeInboxFails seen old new door door')
-    → (status ≡ WriteFault → WriteFails seen old new) → names_of new.disks.items ≡ names_of old.disks.items
-    → moment seen new ≡ moment seen old
-    → ((file : List ℕ) → seen.texts.text new.texts file ≡ seen.texts.text old.texts file)
-    → new.wire.source ≡ old.wire.source → ServeDoes seen job status old new door door' logged
-all_done {D = D} seen job status old new door door' logged hosted apart back a b is un shut log tells inbox write names
+    → TellsServeEnd hosted job.stores status (output seen old.office) (output seen new.office)
+    → IfOk hosted (λ h. h.inbox_fault ≡ true → SomeInboxFails seen old new)
+    → (status ≡ WriteFault → WriteFails seen old.office new.office) → names_of new.office.disks.items ≡ names_of old.office.disks.items
+    → moment seen new.office ≡ moment seen old.office
+    → ((file : List ℕ) → seen.texts.text new.office.texts file ≡ seen.texts.text old.office.texts file)
+    → new.office.wire.source ≡ old.office.wire.source → ServeDoes seen job status old new logged
+all_done {D = D} seen job status old new logged hosted apart back a b is un shut log tells inbox write names
     told texts source =
     let Is : List D → List D → Type 0 = λ l m. IfOk hosted (λ h. IsHosted seen.disk.history seen.disk.faults
-    (setup seen job old) h (place seen old door) (place seen new door') l m) in
+    (setup seen job old.office) h (place seen old) (place seen new) l m) in
     let Un : List D → List D → Type 0 = λ l m. IfErr hosted (λ why. IsUnhosted seen.disk.history seen.disk.faults
     why l m) in
-    let was = disks_of old.disks.items in
-    let now = disks_of new.disks.items in
+    let was = disks_of old.office.disks.items in
+    let now = disks_of new.office.disks.items in
     let is' : Is was now = subst (λ (m : List D). Is was m) b (subst (λ (l : List D). Is l back) a is) in
     let un' : Un was now = subst (λ (m : List D). Un was m) b (subst (λ (l : List D). Un l back) a un) in
-    let serves = end_told seen job status old new door door' logged hosted is' un' shut inbox log tells in
-    let causes : HasServeCauses seen status old new door door' = record {
-      listen_fault = λ e. listen_risen seen job status old new door door' logged hosted is' tells e;
-      inbox_fault = λ e. inbox_risen seen job status old new door door' logged hosted inbox tells e;
+    let serves = end_told seen job status old new logged hosted is' un' shut inbox log tells in
+    let causes : HasServeCauses seen status old new = record {
+      listen_fault = λ e. listen_risen seen job status old new logged hosted is' tells e;
+      inbox_fault = λ e. inbox_risen seen job status old new logged hosted inbox tells e;
       write_fault = write;
-      disk_fault = λ map e. disk_risen seen job status old new door door' logged hosted map un' tells e;
+      disk_fault = λ map e. disk_risen seen job status old new logged hosted map un' tells e;
     } in
     record {
       serves = serves;
-      complete = λ sound listen inbox disk write'. completes seen job old new door door' logged status serves causes sound
+      complete = λ sound listen inbox disk write'. completes seen job old new logged status serves causes sound
           listen inbox disk write';
       causes = causes;
       names = names;

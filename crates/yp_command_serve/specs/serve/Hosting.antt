@@ -18,14 +18,15 @@ use Rattle.yp_answer.specs.declared.session.session.TheConstants.{CALLS_MAX}
 use Rattle.yp_rpc.specs.Turns.{InboxTells, inbox_tells}
 use Rattle.yp_publisher.specs.sharing.Failures.{disks_of}
 use Rattle.yp_host.specs.workers.Workers.{WorkerState}
-use Rattle.yp_host.specs.workers.Charges.{counted_of}
 use Rattle.yp_host.specs.workers.Makings.{IsBuiltAsNamed}
 use Rattle.yp_host.specs.workers.Wires.{CoversOrders, CoversSources}
 use Rattle.yp_worker.specs.Receptions.{ListenTells, IsListenerState, opening_by, terms_of}
-use Rattle.yp_server.specs.Serving.{conduct_at, ServesInboxes, DisksStand}
-use Rattle.yp_server.specs.Counting.{CountsAndTells, FilesAreCovered}
+use Rattle.yp_server.specs.Serving.{conduct_at, mail_service, ServesInboxes, DisksStand}
+use Rattle.yp_server.specs.Counting.{CountsAndTells, FilesAreCovered, count_told}
 use Rattle.yp_server.specs.Origins.{ComesFrom, EachComesFrom}
+use Rattle.yp_command.specs.declared.office.office.Office.{Office}
 use Rattle.yp_command_serve.specs.declared.serve.serve.Doors.{Doors}
+use Rattle.yp_command_serve.specs.declared.serve.serve.Outside.{Outside}
 use Rattle.yp_command_serve.specs.declared.serve.tally.Hosted.{Hosted}
 
 -- what is served, and of what: the maps, the texts and the hosts that they are made and fetched of, and how many turns
@@ -81,6 +82,18 @@ doors_by halls inboxes doors = record {
   out = end_by inboxes doors.outbox;
 }
 
+-- what the program reaches outside itself, at a moment: an office, and what is told at its doors
+pub record OutsideTells (S K D C A I T : Type 0) : Type 0 where
+  pub office : Office S K D C A I T
+  pub doors : DoorTells
+
+abbrev pub outside_tells : {S K D C A I T : Type 0} → Office S K D C A I T → DoorTells → OutsideTells S K D C A I T
+outside_tells office doors = record { office = office; doors = doors }
+
+abbrev pub outside_by : {S K D C L A I T X Y Z W V : Type 0} → hall.Ghosts L X Y Z W V → inbox.Ghosts I
+    → Outside S K D C L A I T → OutsideTells S K D C A I T
+outside_by halls inboxes outside = outside_tells outside.office (doors_by halls inboxes outside.doors)
+
 -- what its workers do, each with a reader of the one board
 abbrev pub conduct : ServeSetup → Conduct (WorkerState Seen)
 conduct setup = conduct_at (λ reader. reader) Refreshes setup.text setup.hosts
@@ -128,8 +141,8 @@ pub record IsServed {D : Type 0} (history : D → Option History) (faults : D �
   pub log : Log
   pub grown : IsFront (starts 0 (versions maps)) log
   pub connections : IsListenerState old.listen new.listen hosted.tally.connections hosted.tally.listen_fault 0 1
-  pub datagrams : ServesInboxes (conduct setup) counted_of setup.catalogue (starts 0 (versions maps)) log setup.turns
-      hosted.inbox_fault old.boxes new.boxes old.out new.out
+  pub datagrams : ServesInboxes (mail_service (conduct setup) count_told setup.catalogue (starts 0 (versions maps)) log
+      setup.turns) hosted.inbox_fault old.boxes new.boxes old.out new.out
   pub leaves : DisksStand history setup.catalogue log disks
   pub rises : AreTold history disks → IsRisingLog log
   pub accounted : IsAccounted history faults setup (first_of maps) maps CALLS_MAX hosted old new log disks

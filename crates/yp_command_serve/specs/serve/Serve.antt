@@ -27,7 +27,7 @@ use Rattle.yp_command.specs.office.Seeing.{Seeing, output, moment, WriteFails, D
 use Rattle.yp_command_serve.specs.declared.serve.tally.Hosted.{Hosted}
 use Rattle.yp_server.specs.Serving.{SomeHasRisen}
 use Rattle.yp_command_serve.specs.serve.Hosting.{ServeSetup, ServerTells, Supply, setup_of, server_tells, supply_of}
-use Rattle.yp_command_serve.specs.serve.Hosting.{DoorTells, IsHosted}
+use Rattle.yp_command_serve.specs.serve.Hosting.{OutsideTells, IsHosted}
 use Rattle.yp_command_serve.specs.serve.Log.{IsLog}
 
 -- ---- what is asked for
@@ -86,17 +86,18 @@ supply seen office =
 
 -- what is told by a listener, by further inboxes and behind them that of an office, by the one from which is replied to
 -- what those leave, and by the texts and the dial of the office
-abbrev pub place : {S K D C A I T : Type 0} → Seeing S K D C A I T → Office S K D C A I T → DoorTells → ServerTells
-place seen office door =
-    server_tells door.listen (map (λ end. end.box) door.more
-    ++ inbox_tells seen.inbox.past seen.inbox.turns seen.inbox.quiets office.inbox ∷ []) door.out.box (supply seen office)
+abbrev pub place : {S K D C A I T : Type 0} → Seeing S K D C A I T → OutsideTells S K D C A I T → ServerTells
+place seen outside =
+    server_tells outside.doors.listen (map (λ end. end.box) outside.doors.more
+    ++ inbox_tells seen.inbox.past seen.inbox.turns seen.inbox.quiets outside.office.inbox ∷ [])
+    outside.doors.out.box (supply seen outside.office)
 
 -- the count of an inbox's faults rose, of that of an office or of one at the doors
-abbrev pub SomeInboxFails : {S K D C A I T : Type 0} → Seeing S K D C A I T → (old new : Office S K D C A I T)
-    → (door door' : DoorTells) → Type 0
-SomeInboxFails seen old new door door' =
-    InboxFails seen old new ⊎ HasRisen door.out.faults door'.out.faults
-    ⊎ SomeHasRisen (map (λ end. end.faults) door.more) (map (λ end. end.faults) door'.more)
+abbrev pub SomeInboxFails : {S K D C A I T : Type 0} → Seeing S K D C A I T → (old new : OutsideTells S K D C A I T)
+    → Type 0
+SomeInboxFails seen old new =
+    InboxFails seen old.office new.office ⊎ HasRisen old.doors.out.faults new.doors.out.faults
+    ⊎ SomeHasRisen (map (λ end. end.faults) old.doors.more) (map (λ end. end.faults) new.doors.more)
 
 -- A listener is to accept so many connections, and has accepted none.
 pub record IsToAccept (connections : ℕ) (listen : ListenTells) : Type 0 where
@@ -108,48 +109,44 @@ pub record IsToAccept (connections : ℕ) (listen : ListenTells) : Type 0 where
 -- is told. What the listener, the inboxes and the status tell fixes what came of it, but for the totals. The last line
 -- of a log tells these.
 pub record ServesMaps {S K D C A I T : Type 0} (seen : Seeing S K D C A I T) (job : Job) (status : Status)
-    (old new : Office S K D C A I T) (door door' : DoorTells) (logged : List ℕ) : Type 0 where
+    (old new : OutsideTells S K D C A I T) (logged : List ℕ) : Type 0 where
   pub hosted : Hosted
-  pub is_hosted : IsHosted seen.disk.history seen.disk.faults (setup seen job old) hosted
-      (place seen old door) (place seen new door') (disks_of old.disks.items) (disks_of new.disks.items)
-  pub all : IsToAccept job.connections door.listen → hosted.tally.listen_fault ≡ false
+  pub is_hosted : IsHosted seen.disk.history seen.disk.faults (setup seen job old.office) hosted (place seen old)
+      (place seen new) (disks_of old.office.disks.items) (disks_of new.office.disks.items)
+  pub all : IsToAccept job.connections old.doors.listen → hosted.tally.listen_fault ≡ false
       → hosted.tally.connections ≡ capped 0 job.connections
-  pub inbox : hosted.inbox_fault ≡ true → SomeInboxFails seen old new door door'
-  pub tells : TellsServed hosted status (output seen old) (output seen new)
+  pub inbox : hosted.inbox_fault ≡ true → SomeInboxFails seen old new
+  pub tells : TellsServed hosted status (output seen old.office) (output seen new.office)
   pub log : IsLog job.log job.stores (Some hosted.totals) logged
 
 -- Nothing was accepted, received or told: of the office the disks alone were touched. A log has no line of totals.
-pub record IsShut {S K D C A I T : Type 0} (job : Job) (old new : Office S K D C A I T) (door door' : DoorTells)
-    (logged : List ℕ) : Type 0 where
-  pub stays : new ≡ record old { disks = new.disks }
-  pub door_stays : door' ≡ door
+pub record IsShut {S K D C A I T : Type 0} (job : Job) (old new : OutsideTells S K D C A I T) (logged : List ℕ)
+    : Type 0 where
+  pub stays : new ≡ record old { office = record old.office { disks = new.office.disks } }
   pub log : IsLog job.log job.stores None logged
 
--- The file of a map of this name wasn't loaded, the first one, and nothing was served.
+-- The file of a map of this name wasn't loaded, the first one.
 pub record IsUnloaded {S K D C A I T : Type 0} (seen : Seeing S K D C A I T) (job : Job) (map : MapName)
-    (why : SlotFault) (old new : Office S K D C A I T) (door door' : DoorTells) (logged : List ℕ) : Type 0 where
+    (why : SlotFault) (old new : Office S K D C A I T) : Type 0 where
   pub number : ℕ
   pub named : slice_get job.stores number ≡ Some (name_view map)
   pub stopped : OpeningStopped seen.disk.history seen.disk.faults (disks_of old.disks.items) (disks_of new.disks.items)
       number why
-  pub shut : IsShut job old new door door' logged
 
--- Memory ran out, and nothing was served: nothing was written to a disk.
-pub record IsUnserved {S K D C A I T : Type 0} (seen : Seeing S K D C A I T) (job : Job)
-    (old new : Office S K D C A I T) (door door' : DoorTells) (logged : List ℕ) : Type 0 where
-  pub disks : AllZip (IsUnwritten seen.disk.history seen.disk.faults)
-      (disks_of old.disks.items) (disks_of new.disks.items)
-  pub shut : IsShut job old new door door' logged
+-- Memory ran out: nothing was written to a disk.
+abbrev pub IsUnserved : {S K D C A I T : Type 0} → Seeing S K D C A I T → (old new : Office S K D C A I T) → Type 0
+IsUnserved seen old new =
+    AllZip (IsUnwritten seen.disk.history seen.disk.faults) (disks_of old.disks.items) (disks_of new.disks.items)
 
 -- What is done, for each status.
 abbrev pub ServesOrRefuses : {S K D C A I T : Type 0} → Seeing S K D C A I T → Job → Status
-    → (old new : Office S K D C A I T) → (door door' : DoorTells) → (logged : List ℕ) → Type 0
-ServesOrRefuses seen job (Damaged map at rule) old new door door' logged =
-    IsUnloaded seen job map (fault.Damaged at rule) old new door door' logged
-ServesOrRefuses seen job (DiskFault map) old new door door' logged =
-    IsUnloaded seen job map fault.DiskFault old new door door' logged
-ServesOrRefuses seen job NoMemory old new door door' logged = IsUnserved seen job old new door door' logged
-ServesOrRefuses seen job status old new door door' logged = ServesMaps seen job status old new door door' logged
+    → (old new : OutsideTells S K D C A I T) → (logged : List ℕ) → Type 0
+ServesOrRefuses seen job (Damaged map at rule) old new logged =
+    IsUnloaded seen job map (fault.Damaged at rule) old.office new.office × IsShut job old new logged
+ServesOrRefuses seen job (DiskFault map) old new logged =
+    IsUnloaded seen job map fault.DiskFault old.office new.office × IsShut job old new logged
+ServesOrRefuses seen job NoMemory old new logged = IsUnserved seen old.office new.office × IsShut job old new logged
+ServesOrRefuses seen job status old new logged = ServesMaps seen job status old new logged
 
 -- the statuses with which `serve` may end
 abbrev pub serve_may_end : Status → Bool
@@ -170,24 +167,24 @@ pub record IsUndamaged {D : Type 0} (history : D → Option History) (disk : D) 
 
 -- A fault that is told has its cause.
 pub record HasServeCauses {S K D C A I T : Type 0} (seen : Seeing S K D C A I T) (status : Status)
-    (old new : Office S K D C A I T) (door door' : DoorTells) : Type 0 where
-  pub listen_fault : status ≡ ListenFault → HasRisen door.listen.faults door'.listen.faults
-  pub inbox_fault : status ≡ InboxFault → SomeInboxFails seen old new door door'
-  pub write_fault : status ≡ WriteFault → WriteFails seen old new
-  pub disk_fault : (map : MapName) → status ≡ DiskFault map → DiskFails seen old new
+    (old new : OutsideTells S K D C A I T) : Type 0 where
+  pub listen_fault : status ≡ ListenFault → HasRisen old.doors.listen.faults new.doors.listen.faults
+  pub inbox_fault : status ≡ InboxFault → SomeInboxFails seen old new
+  pub write_fault : status ≡ WriteFault → WriteFails seen old.office new.office
+  pub disk_fault : (map : MapName) → status ≡ DiskFault map → DiskFails seen old.office new.office
 
--- What `serve` does to an office and to what is told at its doors, and what it logs: the stored maps are served to all
--- who call, by connections and by datagrams, and what was served is told; or the first reason why not is, and then
--- nobody was served. Over files that aren't damaged, with no fault, all is done, unless memory ran out.
+-- What `serve` does to what is reached, and what it logs: the stored maps are served to all who call, by connections
+-- and by datagrams, and what was served is told; or the first reason why not is, and then nobody was served. Over files
+-- that aren't damaged, with no fault, all is done, unless memory ran out.
 pub record ServeDoes {S K D C A I T : Type 0} (seen : Seeing S K D C A I T) (job : Job) (status : Status)
-    (old new : Office S K D C A I T) (door door' : DoorTells) (logged : List ℕ) : Type 0 where
-  pub serves : ServesOrRefuses seen job status old new door door' logged
-  pub complete : All (IsUndamaged seen.disk.history) (disks_of old.disks.items)
-      → ¬ HasRisen door.listen.faults door'.listen.faults
-      → ¬ SomeInboxFails seen old new door door' → ¬ DiskFails seen old new → ¬ WriteFails seen old new
+    (old new : OutsideTells S K D C A I T) (logged : List ℕ) : Type 0 where
+  pub serves : ServesOrRefuses seen job status old new logged
+  pub complete : All (IsUndamaged seen.disk.history) (disks_of old.office.disks.items)
+      → ¬ HasRisen old.doors.listen.faults new.doors.listen.faults → ¬ SomeInboxFails seen old new
+      → ¬ DiskFails seen old.office new.office → ¬ WriteFails seen old.office new.office
       → (status ≡ Done) ⊎ (status ≡ NoMemory)
-  pub causes : HasServeCauses seen status old new door door'
-  pub names : names_of new.disks.items ≡ names_of old.disks.items
-  pub told : moment seen new ≡ moment seen old
-  pub texts : (file : List ℕ) → seen.texts.text new.texts file ≡ seen.texts.text old.texts file
-  pub source : new.wire.source ≡ old.wire.source
+  pub causes : HasServeCauses seen status old new
+  pub names : names_of new.office.disks.items ≡ names_of old.office.disks.items
+  pub told : moment seen new.office ≡ moment seen old.office
+  pub texts : (file : List ℕ) → seen.texts.text new.office.texts file ≡ seen.texts.text old.office.texts file
+  pub source : new.office.wire.source ≡ old.office.wire.source

@@ -10,7 +10,7 @@ ghost use Rattle.yp_command.specs.inside.Words.{IsNamed};
 ghost use Rattle.yp_command.specs.office.Disks.{names_of};
 ghost use Rattle.yp_command.specs.office.Seeing.{seeing, IsPassedOn};
 ghost use Rattle.yp_command.specs.inside.office.Status.{IsTellable};
-ghost use Rattle.yp_command_serve.specs.serve.Hosting.{doors_by};
+ghost use Rattle.yp_command_serve.specs.serve.Hosting.{outside_by};
 ghost use Rattle.yp_command_serve.specs.serve.Serve.{ServeDoes, serve_job_of, serve_may_end};
 ghost use Rattle.yp_command_serve.specs.inside.serve.Serve.{serve_job_view};
 ghost use Rattle.yp_command_serve.specs.inside.serve.Serve.{TellsServeEnd};
@@ -114,8 +114,7 @@ where
     ensures does { (logged : List ℕ)
         × ((connections : ℕ) → ServeDoes (seeing S.Source K.Sink D.Disk C.Clock A.Dial I.Inbox T.Texts)
         (serve_job_of spec.catalog.own connections spec.serve.turns spec.catalog.maps hosts spec.log) result.0
-        outside.office result.1.office
-        (doors_by L.Hall I.Inbox outside.doors) (doors_by L.Hall I.Inbox result.1.doors) logged)
+        (outside_by L.Hall I.Inbox outside) (outside_by L.Hall I.Inbox result.1) logged)
         × (¬ HasRisen (K.faults outside.notes) (K.faults result.1.notes)
         → Appends (K.output outside.notes) (K.output result.1.notes) logged) }
     ensures never_falls { K.faults outside.notes ≤ K.faults result.1.notes }
@@ -214,9 +213,7 @@ where
     requires disks { names_of outside.office.disks.items ≡ map name_view job.stores.items }
     requires workers { (1 ≤ job.workers) × (job.workers ≤ workers_max) }
     ensures does { (logged : List ℕ) × ServeDoes (seeing S.Source K.Sink D.Disk C.Clock A.Dial I.Inbox T.Texts)
-        (serve_job_view job) result.0
-        outside.office result.1.office
-        (doors_by L.Hall I.Inbox outside.doors) (doors_by L.Hall I.Inbox result.1.doors) logged
+        (serve_job_view job) result.0 (outside_by L.Hall I.Inbox outside) (outside_by L.Hall I.Inbox result.1) logged
         × (¬ HasRisen (K.faults outside.notes) (K.faults result.1.notes)
         → Appends (K.output outside.notes) (K.output result.1.notes) logged) }
     ensures never_falls { K.faults outside.notes ≤ K.faults result.1.notes }

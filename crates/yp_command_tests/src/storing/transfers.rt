@@ -214,7 +214,7 @@ const TWICE: &str = "80000060 00000003 00000001 00000000 00000000 00000000 00000
     00000001 00000001 0000000e 31302e30 2e302e31 20616c70 68610000 00000005 616c7068 61000000
     00000001 00000001 00000004 6e6f6e65 00000005 616c7068 61000000 00000000";
 
-/// Nothing is stored, whatever the source has wrong. A map of too many rows is tried in `yp_transfer_tests`.
+/// Nothing is stored, whatever the source has wrong. A map of too many rows is tried in `yp_client_tests`.
 const LIES: Row = Row {
     code: 16,
     output: "",

@@ -10,7 +10,6 @@ use Rattle.yp_board.specs.Catalogues.{Name}
 use Rattle.yp_board.specs.Logs.{Log}
 use Rattle.yp_publisher.specs.Standing.{stands_for}
 use Rattle.yp_texts.specs.Readings.{reading_of}
-use Rattle.yp_answer.specs.session.Wires.{Wire}
 use Rattle.yp_command.specs.declared.office.office.Office.{Office}
 use Rattle.yp_command.specs.declared.office.status.Status.{Status}
 use Rattle.yp_command.specs.declared.office.status.Status.TheVariants.{NoMemory}
@@ -23,11 +22,11 @@ use Rattle.yp_command_maps.specs.Xfr.{Job, dialing}
 use Rattle.yp_command_mail.specs.Telling.{box}
 use Rattle.yp_program.specs.Transferring.{TransferDoes}
 use Rattle.yp_program.specs.Walking.{WalkingDoes}
-use Rattle.yp_io.specs.declared.stream.Peer.{Peer}
 use Rattle.yp_publisher.specs.Grown.{AreTold}
-use Rattle.yp_transfer.specs.HostTable.{HostList}
 use Rattle.yp_command.specs.office.Disks.{names_of, disks_of}
+use Rattle.yp_command_serve.specs.Served.{Witnessed}
 use Rattle.yp_command_serve.specs.Session.{SessionDoes, service, connection}
+use Rattle.yp_command_serve.specs.Session.{Job as SessionJob}
 use Rattle.yp_headline.specs.World.{World}
 use Rattle.yp_headline.specs.Publishing.{IsAmong}
 use Rattle.yp_headline.specs.Headline.{Replies, Crashes, Transfers}
@@ -37,11 +36,10 @@ use Rattle.yp_headline.specs.inside.Worlds.{once_world, session_world, was_serve
 -- An input that is told is a connection that `once` served, on the one version of its words.
 abbrev pub OnceReplies : {S K D C A I T : Type 0} → Seeing S K D C A I T → Type 0
 OnceReplies {S} {K} {D} {C} {A} {I} {T} seen =
-    (store : Name) (rows : List Row) (status : Status) (old new : Office S K D C A I T) (before after : List Wire)
-    → OnceDoes seen store rows status old new before after
-    → rows_fault rows ≡ None → status ≢ NoMemory
-    → (came taken sent : List ℕ) → input seen old ≡ Some came → output seen old ≡ Some taken
-    → output seen new ≡ Some (taken ++ sent)
+    (store : Name) (rows : List Row) (status : Status) (old new : Witnessed (Office S K D C A I T))
+    → OnceDoes seen store rows status old new → rows_fault rows ≡ None → status ≢ NoMemory
+    → (came taken sent : List ℕ) → input seen old.reached ≡ Some came → output seen old.reached ≡ Some taken
+    → output seen new.reached ≡ Some (taken ++ sent)
     → Replies (once_world store rows status came sent) (once_maps store rows).log (once_maps store rows).log
 
 -- ---- one file
@@ -89,19 +87,18 @@ pub record WorldHolds (world : World) : Type 0 where
 -- What `session` does, where it serves its connection, and its disks, its dial and its wire tell.
 abbrev pub SessionHolds : {S K D C A I T : Type 0} → Seeing S K D C A I T → Type 0
 SessionHolds {S} {K} {D} {C} {A} {I} {T} seen =
-    (own : List ℕ) (peer : Peer) (stores : List Name) (hosts : HostList) (status : Status)
-    (old new : Office S K D C A I T)
-    (before after : List Wire) → SessionDoes seen own peer stores hosts status old new before after
-    → was_served status ≡ true → names_of old.disks.items ≡ stores
-    → (came taken sent : List ℕ) → input seen old ≡ Some came → output seen old ≡ Some taken
-    → output seen new ≡ Some (taken ++ sent)
-    → AreTold seen.disk.history (disks_of old.disks.items) → AreTold seen.disk.history (disks_of new.disks.items)
-    → (first last : Wires) (wires : List Connected) → seen.dial.past old.dial ≡ Some first
-    → seen.dial.past new.dial ≡ Some last
+    (job : SessionJob) (status : Status) (old new : Witnessed (Office S K D C A I T))
+    → SessionDoes seen job status old new → was_served status ≡ true → names_of old.reached.disks.items ≡ job.stores
+    → (came taken sent : List ℕ) → input seen old.reached ≡ Some came → output seen old.reached ≡ Some taken
+    → output seen new.reached ≡ Some (taken ++ sent)
+    → AreTold seen.disk.history (disks_of old.reached.disks.items)
+    → AreTold seen.disk.history (disks_of new.reached.disks.items)
+    → (first last : Wires) (wires : List Connected) → seen.dial.past old.reached.dial ≡ Some first
+    → seen.dial.past new.reached.dial ≡ Some last
     → length first.back ≤ length first.came → last.came ≡ first.came ++ wires
     → ((wire : Connected) → IsAmong wires wire → (stream : List ℕ) × (wire.input ≡ Some stream))
-    → WorldHolds (session_world (service seen own peer stores) (cuts_short status) (connection seen hosts old)
-    (connection seen hosts new) came sent wires)
+    → WorldHolds (session_world (service seen job.own job.peer job.stores) (cuts_short status)
+    (connection seen job.hosts old.reached) (connection seen job.hosts new.reached) came sent wires)
 
 -- ---- build and load
 
@@ -110,15 +107,21 @@ pub record FileCrashes (world : World) (held : Option MapVersion) : Type 0 where
   pub log : Log
   pub crashes : Crashes world (file_log held) log
 
--- What `build` and `load` do to a file that isn't damaged, where their input, their disk and their clock tell.
-abbrev pub JobHolds : {S K D C A I T : Type 0} → Seeing S K D C A I T → Type 0
-JobHolds {S} {K} {D} {C} {A} {I} {T} seen =
-    (job : BuildJob) (status : Status) (old new : Office S K D C A I T) → JobDoes seen job status old new
-    → (text : List ℕ) (h h' : History) (now : ℕ) → input seen old ≡ Some text → history seen old ≡ Some h
+-- a text is read so, and its version stored
+abbrev pub BuildHolds : {S K D C A I T : Type 0} → Seeing S K D C A I T → BuildJob → Status
+    → (old new : Office S K D C A I T) → Type 0
+BuildHolds seen job status old new =
+    (text : List ℕ) (h h' : History) (now : ℕ) → input seen old ≡ Some text → history seen old ≡ Some h
     → history seen new ≡ Some h' → moment seen old ≡ Some now
     → (held : Option MapVersion) → stands h.state.reads ≡ stands_for held
     → FileCrashes (file_world job.name job.store (λ name. Some text) (λ name. job.reading) []
     (tells_stored status) h h') held
+
+-- What `build` and `load` do to a file that isn't damaged, where their input, their disk and their clock tell.
+abbrev pub JobHolds : {S K D C A I T : Type 0} → Seeing S K D C A I T → Type 0
+JobHolds {S} {K} {D} {C} {A} {I} {T} seen =
+    (job : BuildJob) (status : Status) (old new : Office S K D C A I T) → JobDoes seen job status old new
+    → BuildHolds seen job status old new
 
 -- ---- revnet
 

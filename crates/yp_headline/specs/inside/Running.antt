@@ -10,15 +10,12 @@ use Rattle.yp_map_file.specs.Stands.{stands}
 use Rattle.yp_publisher.specs.Standing.{stands_for}
 use Rattle.yp_publisher.specs.Grown.{AreTold}
 use Rattle.yp_texts.specs.declared.kind.Kind.{Kind}
-use Rattle.yp_texts.specs.declared.reading.Reading.{Reading}
 use Rattle.yp_texts.specs.declared.reading.Reading.TheVariants.{Text, Rows}
 use Rattle.yp_texts.specs.Readings.{reading_of}
-use Rattle.yp_board.specs.Catalogues.{Name}
-use Rattle.yp_answer.specs.session.Wires.{Wire}
-use Rattle.yp_command_serve.specs.serve.Hosting.{DoorTells}
+use Rattle.yp_command_serve.specs.Served.{Witnessed}
+use Rattle.yp_command_serve.specs.serve.Hosting.{OutsideTells}
 use Rattle.yp_command.specs.Forms.{kind_of}
 use Rattle.yp_command.specs.Words.{Meaning, Once, Session, Serve, Build, Load, Xfr, Walk, Revnet}
-use Rattle.yp_command.specs.declared.office.office.Office.{Office}
 use Rattle.yp_command.specs.declared.office.status.Status.{Status}
 use Rattle.yp_command.specs.declared.office.status.Status.TheVariants.{NoMemory}
 use Rattle.yp_command.specs.office.Disks.{names_of, disks_of}
@@ -26,7 +23,7 @@ use Rattle.yp_command.specs.office.Seeing.{Seeing, input, output, history, momen
 use Rattle.yp_command_serve.specs.Once.{once_maps, rows_fault}
 use Rattle.yp_command_serve.specs.Session.{service, connection}
 use Rattle.yp_command_serve.specs.serve.Serve.{serve_job_of}
-use Rattle.yp_command_maps.specs.Build.{tells_stored}
+use Rattle.yp_command_maps.specs.Build.{job_of, tells_stored}
 use Rattle.yp_command_maps.specs.Revnet.{store_history, netgroup_history}
 use Rattle.yp_command_maps.specs.Xfr.{dialing}
 use Rattle.yp_command_mail.specs.Telling.{box}
@@ -35,70 +32,64 @@ use Rattle.yp_headline.specs.Publishing.{IsAmong}
 use Rattle.yp_headline.specs.Headline.{Replies}
 use Rattle.yp_headline.specs.inside.Files.{dialed_of, walked_of, file_world}
 use Rattle.yp_headline.specs.inside.Worlds.{once_world, session_world, was_served, cuts_short}
-use Rattle.yp_headline.specs.inside.Laws.{WorldHolds, FileHolds, FileCrashes}
+use Rattle.yp_headline.specs.inside.Laws.{WorldHolds, FileHolds, FileCrashes, BuildHolds}
 use Rattle.yp_headline.specs.inside.Server.{Heard, may_lose, AllTell, serve_world, ServerHolds, was_hosted}
-
--- a text is read so, and its version stored
-abbrev pub BuildHolds : {S K D C A I T : Type 0} → Seeing S K D C A I T → List ℕ → Name → Reading → Status
-    → (old new : Office S K D C A I T) → Type 0
-BuildHolds seen name store reading status old new =
-    (text : List ℕ) (h h' : History) (now : ℕ) → input seen old ≡ Some text → history seen old ≡ Some h
-    → history seen new ≡ Some h' → moment seen old ≡ Some now
-    → (held : Option MapVersion) → stands h.state.reads ≡ stands_for held
-    → FileCrashes (file_world name store (λ name. Some text) (λ name. reading) [] (tells_stored status) h h') held
 
 -- What is so of each command, where what it reaches tells its bytes, and its files aren't damaged.
 abbrev pub CommandHolds : {S K D C A I T : Type 0} → Seeing S K D C A I T → Meaning → Status
-    → (old new : Office S K D C A I T) → (door door' : DoorTells) → Type 0
-CommandHolds seen (Once store rows) status old new door door' =
+    → (old new : OutsideTells S K D C A I T) → Type 0
+CommandHolds seen (Once store rows) status old new =
     rows_fault rows ≡ None → status ≢ NoMemory
-    → (came taken sent : List ℕ) → input seen old ≡ Some came → output seen old ≡ Some taken
-    → output seen new ≡ Some (taken ++ sent)
+    → (came taken sent : List ℕ) → input seen old.office ≡ Some came → output seen old.office ≡ Some taken
+    → output seen new.office ≡ Some (taken ++ sent)
     → Replies (once_world store rows status came sent) (once_maps store rows).log (once_maps store rows).log
-CommandHolds seen (Session own peer stores hosts) status old new door door' =
-    was_served status ≡ true → names_of old.disks.items ≡ stores
-    → (came taken sent : List ℕ) → input seen old ≡ Some came → output seen old ≡ Some taken
-    → output seen new ≡ Some (taken ++ sent)
-    → AreTold seen.disk.history (disks_of old.disks.items) → AreTold seen.disk.history (disks_of new.disks.items)
-    → (first last : Wires) (wires : List Connected) → seen.dial.past old.dial ≡ Some first
-    → seen.dial.past new.dial ≡ Some last
+CommandHolds seen (Session own peer stores hosts) status old new =
+    was_served status ≡ true → names_of old.office.disks.items ≡ stores
+    → (came taken sent : List ℕ) → input seen old.office ≡ Some came → output seen old.office ≡ Some taken
+    → output seen new.office ≡ Some (taken ++ sent)
+    → AreTold seen.disk.history (disks_of old.office.disks.items)
+    → AreTold seen.disk.history (disks_of new.office.disks.items)
+    → (first last : Wires) (wires : List Connected) → seen.dial.past old.office.dial ≡ Some first
+    → seen.dial.past new.office.dial ≡ Some last
     → length first.back ≤ length first.came → last.came ≡ first.came ++ wires
     → ((wire : Connected) → IsAmong wires wire → (stream : List ℕ) × (wire.input ≡ Some stream))
-    → WorldHolds (session_world (service seen own peer stores) (cuts_short status) (connection seen hosts old)
-    (connection seen hosts new) came sent wires)
-CommandHolds seen (Xfr name force store host flag) status old new door door' =
-    (h h' : History) → history seen old ≡ Some h → history seen new ≡ Some h'
+    → WorldHolds (session_world (service seen own peer stores) (cuts_short status) (connection seen hosts old.office)
+    (connection seen hosts new.office) came sent wires)
+CommandHolds seen (Xfr name force store host flag) status old new =
+    (h h' : History) → history seen old.office ≡ Some h → history seen new.office ≡ Some h'
     → (held : Option MapVersion) → stands h.state.reads ≡ stands_for held
-    → (first last : Wires) (wires : List Connected) → (dialing seen old).past ≡ Some first
-    → (dialing seen new).past ≡ Some last
+    → (first last : Wires) (wires : List Connected) → (dialing seen old.office).past ≡ Some first
+    → (dialing seen new.office).past ≡ Some last
     → length first.back ≤ length first.came → last.came ≡ first.came ++ wires
     → ((wire : Connected) → IsAmong wires wire → (stream : List ℕ) × (wire.input ≡ Some stream))
     → FileHolds (file_world name store (λ name. None) reading_of (map dialed_of wires) (tells_stored status) h h') held
-CommandHolds seen (Walk name force store host port turns flag) status old new door door' =
-    (h h' : History) → history seen old ≡ Some h → history seen new ≡ Some h'
+CommandHolds seen (Walk name force store host port turns flag) status old new =
+    (h h' : History) → history seen old.office ≡ Some h → history seen new.office ≡ Some h'
     → (held : Option MapVersion) → stands h.state.reads ≡ stands_for held
-    → (told events : List InboxEvent) → (box seen old).past ≡ Some told → (box seen new).past ≡ Some (told ++ events)
+    → (told events : List InboxEvent) → (box seen old.office).past ≡ Some told
+    → (box seen new.office).past ≡ Some (told ++ events)
     → FileHolds (file_world name store (λ name. None) reading_of (walked_of host.1 events ∷ []) (tells_stored status)
     h h') held
-CommandHolds seen (Build name store flag) status old new door door' =
-    (kind : Kind) → kind_of store ≡ Some kind → BuildHolds seen name store (Text kind) status old new
-CommandHolds seen (Load name store flag) status old new door door' = BuildHolds seen name store Rows status old new
-CommandHolds seen (Revnet name store) status old new door door' =
-    (h h' n : History) (now : ℕ) → store_history seen old ≡ Some h → store_history seen new ≡ Some h'
-    → netgroup_history seen old ≡ Some n → moment seen old ≡ Some now
+CommandHolds seen (Build name store flag) status old new =
+    (kind : Kind) → kind_of store ≡ Some kind
+    → BuildHolds seen (job_of name store (Text kind) flag) status old.office new.office
+CommandHolds seen (Load name store flag) status old new =
+    BuildHolds seen (job_of name store Rows flag) status old.office new.office
+CommandHolds seen (Revnet name store) status old new =
+    (h h' n : History) (now : ℕ) → store_history seen old.office ≡ Some h → store_history seen new.office ≡ Some h'
+    → netgroup_history seen old.office ≡ Some n → moment seen old.office ≡ Some now
     → (held : Option MapVersion) → stands h.state.reads ≡ stands_for held
     → FileCrashes (file_world name store (λ name. None) reading_of [] (tells_stored status) h h') held
-CommandHolds seen (Serve own port workers connections turns stores hosts log) status old new door door' =
+CommandHolds seen (Serve own port workers connections turns stores hosts log) status old new =
     was_hosted status ≡ true
     → (closed : List ClosedConnection) (inboxes : List Heard) (out : Heard) (wires : List Connected)
-    → (tell : AllTell seen old new door door' closed inboxes out wires)
-    → ServerHolds (serve_world seen (serve_job_of own connections turns stores hosts log) old new
+    → (tell : AllTell seen old new closed inboxes out wires)
+    → ServerHolds (serve_world seen (serve_job_of own connections turns stores hosts log) old.office new.office
     tell.calls.coming wires) (may_lose status) closed inboxes out
-CommandHolds seen _ status old new door door' = ⊤
+CommandHolds seen _ status old new = ⊤
 
 -- What `run` ensures of a command, in its clause `does`, is that.
 abbrev pub RunHolds : {S K D C A I T : Type 0} → Seeing S K D C A I T → Type 0
 RunHolds {S} {K} {D} {C} {A} {I} {T} seen =
-    (meaning : Meaning) (status : Status) (old new : Office S K D C A I T) (door door' : DoorTells)
-    (before after : List Wire) (logged : List ℕ) → Does seen (Ok meaning) status old new door door' before after logged
-    → CommandHolds seen meaning status old new door door'
+    (meaning : Meaning) (status : Status) (old new : Witnessed (OutsideTells S K D C A I T)) (logged : List ℕ)
+    → Does seen (Ok meaning) status old new logged → CommandHolds seen meaning status old.reached new.reached

@@ -15,7 +15,7 @@ use Rattle.yp_command.specs.declared.office.status.Status.{Status}
 use Rattle.yp_command.specs.declared.office.status.Status.TheVariants.{Done, WriteFault, ListenFault, InboxFault}
 use Rattle.yp_command.specs.office.Disks.{disks_of}
 use Rattle.yp_command.specs.office.Seeing.{Seeing}
-use Rattle.yp_command_serve.specs.serve.Hosting.{DoorTells}
+use Rattle.yp_command_serve.specs.serve.Hosting.{OutsideTells}
 use Rattle.yp_command_serve.specs.serve.Serve.{Job, catalogue_of, place, ServeDoes}
 use Rattle.yp_headline.specs.World.{World, Connection, Datagram}
 use Rattle.yp_headline.specs.Publishing.{IsAmong}
@@ -91,29 +91,28 @@ may_lose status = false
 -- what is told of a server: of its disks all that they were at each moment, the streams that were to come, of each
 -- connection that was closed its bytes, what its inboxes told, and the one from which is replied late, and the wires
 -- that came of its dial, with their bytes
-pub record AllTell {S K D C A I T : Type 0} (seen : Seeing S K D C A I T) (old new : Office S K D C A I T)
-    (door door' : DoorTells) (closed : List ClosedConnection) (inboxes : List Heard) (out : Heard)
-    (wires : List Connected) : Type 0 where
-  pub disks : AreTold seen.disk.history (disks_of old.disks.items)
-  pub disks_at_last : AreTold seen.disk.history (disks_of new.disks.items)
+pub record AllTell {S K D C A I T : Type 0} (seen : Seeing S K D C A I T) (old new : OutsideTells S K D C A I T)
+    (closed : List ClosedConnection) (inboxes : List Heard) (out : Heard) (wires : List Connected) : Type 0 where
+  pub disks : AreTold seen.disk.history (disks_of old.office.disks.items)
+  pub disks_at_last : AreTold seen.disk.history (disks_of new.office.disks.items)
   pub calls : ListenerHistory
   pub coming : (wire : Connected) → IsAmong calls.coming wire → (stream : List ℕ) × (wire.input ≡ Some stream)
   pub calls_at_last : ListenerHistory
   pub more_closed : List (List ClosedConnection)
-  pub listens : door.listen.past ≡ Some calls
-  pub listens_at_last : door'.listen.past ≡ Some calls_at_last
+  pub listens : old.doors.listen.past ≡ Some calls
+  pub listens_at_last : new.doors.listen.past ≡ Some calls_at_last
   pub closes : calls_at_last.closed ≡ calls.closed ++ more_closed
   pub closed_are : closed ≡ closed_in more_closed
   pub told_closed : AllByRecursion IsToldClosed closed
-  pub hears : map (λ box. box.past) ((place seen old door).boxes) ≡ map (λ one. Some one.before) inboxes
-  pub hears_at_last : map (λ box. box.past) ((place seen new door').boxes)
+  pub hears : map (λ box. box.past) ((place seen old).boxes) ≡ map (λ one. Some one.before) inboxes
+  pub hears_at_last : map (λ box. box.past) ((place seen new).boxes)
       ≡ map (λ one. Some (one.before ++ one.more)) inboxes
-  pub hears_out : door.out.box.past ≡ Some out.before
-  pub hears_out_at_last : door'.out.box.past ≡ Some (out.before ++ out.more)
+  pub hears_out : old.doors.out.box.past ≡ Some out.before
+  pub hears_out_at_last : new.doors.out.box.past ≡ Some (out.before ++ out.more)
   pub dialed : Wires
   pub dialed_at_last : Wires
-  pub dials : seen.dial.past old.dial ≡ Some dialed
-  pub dials_at_last : seen.dial.past new.dial ≡ Some dialed_at_last
+  pub dials : seen.dial.past old.office.dial ≡ Some dialed
+  pub dials_at_last : seen.dial.past new.office.dial ≡ Some dialed_at_last
   pub few : length dialed.back ≤ length dialed.came
   pub wires_are : dialed_at_last.came ≡ dialed.came ++ wires
   pub inputs : (wire : Connected) → IsAmong wires wire → (stream : List ℕ) × (wire.input ≡ Some stream)
@@ -161,8 +160,9 @@ was_hosted status = false
 -- What `serve` does, where it serves its maps, and its disks, its listener, its inboxes and its dial tell.
 abbrev pub ServeHolds : {S K D C A I T : Type 0} → Seeing S K D C A I T → Type 0
 ServeHolds {S} {K} {D} {C} {A} {I} {T} seen =
-    (job : Job) (status : Status) (old new : Office S K D C A I T) (door door' : DoorTells) (logged : List ℕ)
-    → ServeDoes seen job status old new door door' logged → was_hosted status ≡ true
+    (job : Job) (status : Status) (old new : OutsideTells S K D C A I T) (logged : List ℕ)
+    → ServeDoes seen job status old new logged → was_hosted status ≡ true
     → (closed : List ClosedConnection) (inboxes : List Heard) (out : Heard) (wires : List Connected)
-    → (tell : AllTell seen old new door door' closed inboxes out wires)
-    → ServerHolds (serve_world seen job old new tell.calls.coming wires) (may_lose status) closed inboxes out
+    → (tell : AllTell seen old new closed inboxes out wires)
+    → ServerHolds (serve_world seen job old.office new.office tell.calls.coming wires) (may_lose status) closed inboxes
+    out

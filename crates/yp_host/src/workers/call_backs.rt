@@ -13,7 +13,7 @@ use std::snapshot::Snapshot;
 use std::sync::Wait;
 use yp_io::NoMemory;
 use yp_messages::XfrStat;
-use yp_publisher::sharing::Accounts;
+use yp_publisher::sharing::{Accounts, FetchesFront};
 use yp_transfer::Asker;
 use yp_version::Version;
 
@@ -134,6 +134,14 @@ impl Model for CallBackPass {
     } };
 
     ghost invariant = { λ p. (0 < (known p.pass).parts) × (p.pass.me.1 ≡ []) };
+}
+
+/// What workers left in a queue of call backs, for contracts alone, and a front of the log of fetches that has the
+/// versions of these, where one is known.
+#[derive(Drop)]
+pub struct LeftCallBacks<S: Accounts> {
+    pub pass: CallBackPass,
+    pub known: Option<FetchesFront<S>>,
 }
 
 /// The call backs of transfers that hosts carried out and that nobody has told yet, oldest first, which the workers of

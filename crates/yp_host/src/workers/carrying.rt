@@ -28,7 +28,7 @@ use yp_board::{Tell, View};
 use yp_io::{Clock, Dial, Disk, Peer, Texts};
 use yp_messages::XfrStat;
 use yp_publisher::Origin;
-use yp_publisher::sharing::{Accounts, FetchesFront, Site, install_shared};
+use yp_publisher::sharing::{Accounts, FetchesFront, MapOffer, Site, install_shared};
 use yp_transfer::{Asker, XfrFault};
 use yp_version::{Order, Version};
 
@@ -281,10 +281,12 @@ where
         &setting.rt,
         setting.publisher,
         reader,
-        map,
-        version,
-        Origin::Fetched,
-        Some(known),
+        MapOffer {
+            map,
+            version,
+            origin: Origin::Fetched,
+            known: Some(known),
+        },
         &mut charges.debits,
     ) {
         Ok(()) => Carried {

@@ -8,7 +8,7 @@ ghost use Rattle.yp_host.specs.workers.CallBacks.{version_in};
 ghost use Rattle.yp_host.specs.inside.workers.CallBacks.{AreKnown, IsKnownIn};
 ghost use Rattle.yp_host.specs.inside.workers.Charges.{TotalsAreCharged, charged_both, free_of_charge};
 
-use crate::workers::call_backs::{CallBack, CallBackPass, PendingCallBacks};
+use crate::workers::call_backs::{CallBack, CallBackPass, LeftCallBacks, PendingCallBacks};
 use crate::workers::outcome::Totals;
 use crate::workers::supplies::{FailedSources, ReachedOrders, Supplies, UnreadTexts};
 use std::collections::LinkedList;
@@ -154,8 +154,7 @@ impl<S: Accounts + Supplies> Charges<S> {
         call_backs.merge(&mut self.call_backs, theirs);
     }
 
-    /// The shares, and what was left in the queue of call backs, with a front of the log of fetches that has the
-    /// versions of these.
+    /// The shares, and what was left in the queue of call backs.
     pub fn into_shares(
         self,
     ) -> (
@@ -163,8 +162,7 @@ impl<S: Accounts + Supplies> Charges<S> {
         Share<ReachedOrders<S>>,
         Share<FailedSources<S>>,
         Debits<S>,
-        CallBackPass,
-        Option<FetchesFront<S>>,
+        LeftCallBacks<S>,
     )
         ensures unread { result.0.amount ≡ self.unread }
         ensures orders { result.1.amount ≡ self.orders }
@@ -172,8 +170,13 @@ impl<S: Accounts + Supplies> Charges<S> {
         ensures failures { result.3.failures ≡ self.failures }
         ensures made { result.3.made ≡ self.made }
         ensures versions { result.3.versions ≡ self.versions }
-        ensures left { result.4 ≡ record { queue = S.call_backs; parts = self.parts; left = self.left; took = [] } }
-        ensures known { AreKnown result.5 self.left }
+        ensures left { result.4.pass ≡ record {
+          queue = S.call_backs;
+          parts = self.parts;
+          left = self.left;
+          took = [];
+        } }
+        ensures known { AreKnown result.4.known self.left }
     {
         let Charges {
             unread,
@@ -183,7 +186,11 @@ impl<S: Accounts + Supplies> Charges<S> {
             call_backs,
             known,
         } = self;
-        (unread, orders, sources, debits, call_backs, known)
+        let left = LeftCallBacks {
+            pass: call_backs,
+            known,
+        };
+        (unread, orders, sources, debits, left)
     }
 }
 

@@ -1,7 +1,7 @@
 //! The dial that threads share, under one lock, with the addresses of its hosts.
 
 ghost use Rattle.std.specs.Prelude.{◌≡◌, ◌⊎◌, ℕ, List, ◌+◌, ◌<◌, ◌≤◌, ◌↔◌, ◌∷◌, ◌++◌, None, length, IfSome, IfOk};
-ghost use Rattle.std.specs.Prelude.{IfErr, IsNone, [], false, option_map};
+ghost use Rattle.std.specs.Prelude.{IfErr, IsNone, [], false};
 ghost use Rattle.std.specs.Option.{option_map_or};
 ghost use Rattle.yp_io.specs.Dials.{wires_told};
 ghost use Rattle.yp_transfer.specs.inside.Dials.{dial_by};
@@ -22,7 +22,7 @@ ghost use Rattle.yp_host.specs.inside.workers.Uses.{dial_told};
 ghost use Rattle.yp_publisher.specs.inside.sharing.Tracing.{IsBeginning};
 ghost use Rattle.yp_worker.specs.inside.Queues.{all_parts};
 
-use crate::workers::call_backs::{CallBackPass, PendingCallBacks};
+use crate::workers::call_backs::{CallBackPass, LeftCallBacks, PendingCallBacks};
 use crate::workers::charges::Charges;
 use crate::workers::supplies::{FailedSources, ReachedOrders, Supplies};
 use std::alloc::Global;
@@ -52,6 +52,15 @@ pub(crate) struct FetchTask<'a> {
 pub struct Dialer<A> {
     pub dial: A,
     pub hosts: Hosts,
+}
+
+/// Shares of the ledgers of what is counted under the lock of a dial, for contracts alone: of the orders that were
+/// reached, of the sources that failed, and of the versions that were fetched.
+#[derive(Drop)]
+pub struct DialShares<S: Accounts + Supplies> {
+    pub orders: Share<ReachedOrders<S>>,
+    pub sources: Share<FailedSources<S>>,
+    pub versions: Share<FetchedVersions<S>>,
 }
 
 /// The dial of a site and the addresses of its hosts, for a lock to keep, with the books of the orders that were
@@ -129,31 +138,37 @@ impl<S: Site + Accounts + Supplies, A: Dial> SharedDial<S, A> {
         self,
         rt: &R,
         call_backs: &PendingCallBacks,
-        others: CallBackPass,
-        told: Option<&FetchesFront<S>>,
-        orders: &mut Share<ReachedOrders<S>>,
-        sources: &mut Share<FailedSources<S>>,
-        versions: &mut Share<FetchedVersions<S>>,
+        others: LeftCallBacks<S>,
+        shares: DialShares<S>,
         known: &FetchesFront<S>,
     ) -> Dialer<A>
-        requires queue { (call_backs.now ≡ S.call_backs) × (others.queue ≡ S.call_backs) }
-        requires left { others.took ≡ [] }
-        requires told { AreKnown (option_map (λ front. front.now) told) others.left }
+        requires queue { (call_backs.now ≡ S.call_backs) × (others.pass.queue ≡ S.call_backs) }
+        requires left { others.pass.took ≡ [] }
+        requires told { AreKnown others.known others.pass.left }
         ensures dialer { result ≡ record self { dial = result.dial } }
         ensures hosts { result.hosts ≡ S.hosts }
-        ensures orders { (n : ℕ) → n ≤ orders.old.amount → CoversOrders S.wires (A.past result.dial) n }
-        ensures sources { (n : ℕ) → n ≤ sources.old.amount
+        ensures orders { (n : ℕ) → n ≤ shares.orders.amount → CoversOrders S.wires (A.past result.dial) n }
+        ensures sources { (n : ℕ) → n ≤ shares.sources.amount
             → CoversSources S.wires (A.past result.dial) S.dial_faults (A.faults result.dial) n }
-        ensures versions { (n : ℕ) → n ≤ versions.old.amount → CoversBy IsGood S.wires (A.past result.dial) n }
+        ensures versions { (n : ℕ) → n ≤ shares.versions.amount → CoversBy IsGood S.wires (A.past result.dial) n }
         ensures known { AllCameByWire S.wires (A.past result.dial) known.now }
-        ensures dialed { TellsAllLeft S.hosts S.catalogue.maps S.shares others
+        ensures dialed { TellsAllLeft S.hosts S.catalogue.maps S.shares others.pass
             (dial_told S.wires S.letters S.dial_faults) (dial_by A.Dial result.dial) }
     {
         let mut shared = self;
-        shared.orders.audit(orders);
-        shared.sources.audit(sources);
-        shared.versions.audit(versions);
+        let DialShares {
+            mut orders,
+            mut sources,
+            mut versions,
+        } = shares;
+        shared.orders.audit(&mut orders);
+        shared.sources.audit(&mut sources);
+        shared.versions.audit(&mut versions);
         shared.fetches.covers(known);
+        let LeftCallBacks {
+            pass: theirs,
+            known: told,
+        } = others;
         cover_told(&mut shared.fetches, told);
         let SharedDial {
             mut dialer,
@@ -163,7 +178,7 @@ impl<S: Site + Accounts + Supplies, A: Dial> SharedDial<S, A> {
             fetches: _,
             call_backs: mut pass,
         } = shared;
-        call_backs.merge(&mut pass, others);
+        call_backs.merge(&mut pass, theirs);
         tell_waiting(rt, call_backs, &mut pass, &mut dialer.dial);
         dialer
     }
@@ -230,12 +245,12 @@ impl<S: Site + Accounts + Supplies, A: Dial> SharedDial<S, A> {
 }
 
 /// What is known to be told is a front of the log of fetches, where something is.
-fn cover_told<S: Accounts>(fetches: &mut Fetches<S>, told: Option<&FetchesFront<S>>)
-    ensures front { IfSome (option_map (λ front. front.now) told.entry) (λ front. IsBeginning front fetches.old) }
+fn cover_told<S: Accounts>(fetches: &mut Fetches<S>, told: Option<FetchesFront<S>>)
+    ensures front { IfSome told (λ front. IsBeginning front fetches.old) }
     ensures same { fetches.new ≡ fetches.old }
 {
     if let Some(told) = told {
-        fetches.covers(told);
+        fetches.covers(&told);
     }
 }
 

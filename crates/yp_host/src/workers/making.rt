@@ -21,7 +21,7 @@ use yp_board::Tell;
 use yp_io::{Clock, Dial, Disk, NoMemory, Texts};
 use yp_messages::XfrStat;
 use yp_publisher::Origin;
-use yp_publisher::sharing::{Accounts, Site, install_shared, tell_shared};
+use yp_publisher::sharing::{Accounts, MapOffer, Site, install_shared, tell_shared};
 use yp_texts::laws::built_is_built_behind;
 
 /// Makes a map anew, behind all that was shown, and lets the reader know it. Where another version of the map is shown
@@ -102,10 +102,12 @@ where
         &setting.rt,
         setting.publisher,
         reader,
-        job.map,
-        version,
-        Origin::Built,
-        None,
+        MapOffer {
+            map: job.map,
+            version,
+            origin: Origin::Built,
+            known: None,
+        },
         &mut charges.debits,
     ) {
         Ok(()) => Some(XfrStat::Succ),

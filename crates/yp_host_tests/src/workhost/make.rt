@@ -160,7 +160,12 @@ fn came_of<R: RandomSource + Wait + Abort>(rt: &R, alloc: Global, row: &Row) -> 
         source: b"m1",
         fetching: row.fetching,
     };
-    staged::<Brand, _, R>(rt, alloc, Opened::new(), row.own, file, desk, script)
+    let place = Place {
+        own: row.own,
+        file,
+        desk,
+    };
+    staged::<Brand, _, R>(rt, alloc, Opened::new(), place, script)
 }
 
 fn try_row<R: RandomSource + Wait + Abort>(rt: &R, alloc: Global, row: &Row) {

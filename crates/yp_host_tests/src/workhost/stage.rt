@@ -26,7 +26,7 @@ use yp_board::{Catalog, Tell, View};
 use yp_for_server_tests::Maps;
 use yp_host::Desk;
 use yp_host::workers::{
-    Account, CallBackPass, Charges, Dialer, FailedSources, Materials, PendingCallBacks,
+    Account, CallBackPass, Charges, DialShares, Dialer, FailedSources, Materials, PendingCallBacks,
     ReachedOrders, SharedDial, SharedTexts, Supplies, Totals, UnreadTexts, WorkerHost,
     WorkerSetting,
 };
@@ -176,6 +176,15 @@ fn play_beside_fetch<
     play(rt, alloc, first, second, script)
 }
 
+/// What two workers share, each part under its lock, and the queue of call backs.
+#[derive(Clone, Copy)]
+struct Locks<'m, S: Site + Accounts + Supplies, J: Naming, T: Texts, R: Wait + Drop> {
+    maps: &'m SharedMaps<S, J, R>,
+    texts: &'m MapTexts<S, T>,
+    dial: &'m MapDial<S>,
+    call_backs: &'m PendingCallBacks,
+}
+
 /// Two workers, made of their readers and the locks, play. What they counted, and what they are charged by behind that.
 fn meet<
     'm,
@@ -187,10 +196,7 @@ fn meet<
 >(
     rt: &'r R,
     alloc: Global,
-    maps: &'m SharedMaps<S, J, &'r R>,
-    texts: &'m MapTexts<S, T>,
-    dial: &'m MapDial<S>,
-    call_backs: &'m PendingCallBacks,
+    locks: Locks<'m, S, J, T, &'r R>,
     readers: (Reader<J>, Reader<J>),
     charges: Charges<S>,
     script: Script<'_>,
@@ -199,8 +205,14 @@ fn meet<
     requires first { readers.0.catalogue ≡ S.catalogue }
     requires second { readers.1.catalogue ≡ S.catalogue }
     requires charges { charges.parts ≡ 4 }
-    requires queue { call_backs.now ≡ S.call_backs }
+    requires queue { locks.call_backs.now ≡ S.call_backs }
 {
+    let Locks {
+        maps,
+        texts,
+        dial,
+        call_backs,
+    } = locks;
     let mut charges = charges;
     let one = charges.split_off(call_backs);
     let other = charges.split_off(call_backs);
@@ -241,25 +253,45 @@ fn meet<
 /// What came of a stage: of each act, what both workers counted, and what was posted.
 pub type Played = (Vec<Came>, Totals, Posted);
 
-/// What came of a script over a map of a host of this name, with this file.
+/// A host: its name, the file of its map, and its desk.
+pub struct Place<'a, T> {
+    pub own: &'a [u8],
+    pub file: Vec<u8>,
+    pub desk: Desk<MemDial, T, SetClock>,
+}
+
+/// What came of a script at a host.
 pub fn staged<J: Naming, T: Texts + Drop, R: RandomSource + Wait + Abort>(
     rt: &R,
     alloc: Global,
     opened: Opened,
-    own: &[u8],
-    file: Vec<u8>,
-    desk: Desk<MemDial, T, SetClock>,
+    place: Place<'_, T>,
     script: Script<'_>,
 ) -> Played
     requires { opened ≡ J.book }
 {
+    let Place { own, file, desk } = place;
     let (publisher, readers) = publisher::<J, R>(rt, alloc, opened, own, file, 2);
     let readers = two_of(rt, readers, publisher.catalog());
     let (call_backs, pass) = PendingCallBacks::new(alloc).expect(rt, "a queue");
-    let blanks = Blanks::new();
-    under_locks::<Brand, J, T, R>(
-        rt, alloc, publisher, readers, desk, blanks, call_backs, pass, script,
-    )
+    let stage = Stage {
+        publisher,
+        readers,
+        desk,
+        call_backs,
+        pass,
+    };
+    under_locks::<Brand, J, T, R>(rt, alloc, stage, Blanks::new(), script)
+}
+
+/// What two workers share, before it is under its locks: the publisher with two readers of its board, the desk, and the
+/// queue of call backs with the pass to all of it.
+struct Stage<'r, J: Naming, T: Texts, R: Wait> {
+    publisher: Maps<'r, J, R>,
+    readers: (Reader<J>, Reader<J>),
+    desk: Desk<MemDial, T, SetClock>,
+    call_backs: PendingCallBacks,
+    pass: CallBackPass,
 }
 
 /// What the ledgers of a stage are opened from, and the log of what is fetched.
@@ -302,27 +334,17 @@ fn under_locks<
     J: Naming,
     T: Texts + Drop,
     R: RandomSource + Wait + Abort,
->(
-    rt: &'r R,
-    alloc: Global,
-    publisher: Maps<'r, J, R>,
-    readers: (Reader<J>, Reader<J>),
-    desk: Desk<MemDial, T, SetClock>,
-    blanks: Blanks,
-    call_backs: PendingCallBacks,
-    pass: CallBackPass,
-    script: Script<'_>,
-) -> Played
-    requires site { publisher.catalogue ≡ S.catalogue }
-    requires stood { publisher_state (λ (w : Written). w.log) publisher ≡ S.first }
-    requires histories { map (λ (p : Platter). Some (history_of p)) (disks_of publisher.maps) ≡ S.histories }
-    requires disks { faults_over (λ (p : Platter). p.faults) (disks_of publisher.maps) ≡ S.disk_faults }
+>(rt: &'r R, alloc: Global, stage: Stage<'r, J, T, R>, blanks: Blanks, script: Script<'_>) -> Played
+    requires site { stage.publisher.catalogue ≡ S.catalogue }
+    requires stood { publisher_state (λ (w : Written). w.log) stage.publisher ≡ S.first }
+    requires histories { map (λ (p : Platter). Some (history_of p)) (disks_of stage.publisher.maps) ≡ S.histories }
+    requires disks { faults_over (λ (p : Platter). p.faults) (disks_of stage.publisher.maps) ≡ S.disk_faults }
     requires builds { SiteBuilds S.text S.catalogue S.built }
-    requires first { readers.0.catalogue ≡ S.catalogue }
-    requires second { readers.1.catalogue ≡ S.catalogue }
-    requires supplied { IsSupplied T.Texts S.text S.hosts desk }
-    requires before { (T.faults desk.texts ≡ S.text_faults) × (wires_of desk.dial ≡ S.wires)
-        × (desk.dial.faults ≡ S.dial_faults) × (Some desk.dial.letters ≡ S.letters) }
+    requires first { stage.readers.0.catalogue ≡ S.catalogue }
+    requires second { stage.readers.1.catalogue ≡ S.catalogue }
+    requires supplied { IsSupplied T.Texts S.text S.hosts stage.desk }
+    requires before { (T.faults stage.desk.texts ≡ S.text_faults) × (wires_of stage.desk.dial ≡ S.wires)
+        × (stage.desk.dial.faults ≡ S.dial_faults) × (Some stage.desk.dial.letters ≡ S.letters) }
     requires parts { S.shares ≡ 4 }
     requires unread { (blanks.unread.name ≡ S.unread) × (blanks.unread.parts ≡ 4) }
     requires failures { (blanks.failures.name ≡ S.failures) × (blanks.failures.parts ≡ 4) }
@@ -331,8 +353,15 @@ fn under_locks<
     requires made { (blanks.made.name ≡ S.made) × (blanks.made.parts ≡ 4) }
     requires versions { (blanks.versions.name ≡ S.versions) × (blanks.versions.parts ≡ 5) }
     requires fetches { blanks.fetches ≡ S.fetched }
-    requires call_backs { (call_backs ≡ S.call_backs) × (pass ≡ holds_none S.call_backs all_parts) }
+    requires call_backs { (stage.call_backs ≡ S.call_backs) × (stage.pass ≡ holds_none S.call_backs all_parts) }
 {
+    let Stage {
+        publisher,
+        readers,
+        desk,
+        call_backs,
+        pass,
+    } = stage;
     let Blanks {
         unread,
         failures,
@@ -373,49 +402,50 @@ fn under_locks<
         fetches,
         pass,
     ));
-    let (came, account, others) = meet(
-        rt,
-        alloc,
-        &maps,
-        &texts,
-        &dial,
-        &call_backs,
-        readers,
-        charges,
-        script,
-    );
-    let maps = maps.into_inner();
-    let (texts, dial) = (texts.into_inner(), dial.into_inner());
-    let (totals, dialer) = closed(rt, maps, texts, dial, &call_backs, account, others);
+    let locks = Locks {
+        maps: &maps,
+        texts: &texts,
+        dial: &dial,
+        call_backs: &call_backs,
+    };
+    let (came, account, others) = meet(rt, alloc, locks, readers, charges, script);
+    let unlocked = Unlocked {
+        maps: maps.into_inner(),
+        texts: texts.into_inner(),
+        dial: dial.into_inner(),
+    };
+    let (totals, dialer) = closed(rt, unlocked, &call_backs, account, others);
     (came, totals, posted_by(rt, alloc, &dialer.dial))
 }
 
-/// Takes the dial from under its lock, with what both workers counted.
-fn closed<'r, S: Site + Accounts + Supplies, J: Naming, T: Texts + Drop, R: Wait>(
-    rt: &'r R,
-    maps: Locked<S, MemDisk, Writer<J, &'r R>>,
+/// What two workers shared, from under its locks.
+struct Unlocked<S: Site + Accounts + Supplies, J: Naming, T: Texts, R: Wait + Drop> {
+    maps: Locked<S, MemDisk, Writer<J, R>>,
     texts: SharedTexts<S, T, SetClock>,
     dial: SharedDial<S, MemDial>,
+}
+
+/// Takes the dial out of what two workers shared, with what both of them counted.
+fn closed<'r, S: Site + Accounts + Supplies, J: Naming, T: Texts + Drop, R: Wait>(
+    rt: &'r R,
+    unlocked: Unlocked<S, J, T, &'r R>,
     call_backs: &PendingCallBacks,
     account: Account<S, Writer<J, &'r R>>,
     others: Charges<S>,
 ) -> (Totals, Dialer<MemDial>)
     requires { call_backs.now ≡ S.call_backs }
 {
+    let Unlocked { maps, texts, dial } = unlocked;
     let (totals, mut charges, _) = account.into_parts();
     charges.merge(call_backs, others);
-    let (mut unread, mut orders, mut sources, mut debits, left, told) = charges.into_shares();
-    let (_, mut versions, known) = maps.close(&mut debits);
+    let (mut unread, orders, sources, mut debits, left) = charges.into_shares();
+    let (_, versions, known) = maps.close(&mut debits);
     let _materials = texts.close(&mut unread);
-    let dialer = dial.close(
-        rt,
-        call_backs,
-        left,
-        told.as_ref(),
-        &mut orders,
-        &mut sources,
-        &mut versions,
-        &known,
-    );
+    let shares = DialShares {
+        orders,
+        sources,
+        versions,
+    };
+    let dialer = dial.close(rt, call_backs, left, shares, &known);
     (totals, dialer)
 }

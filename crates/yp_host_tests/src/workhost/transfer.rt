@@ -128,7 +128,12 @@ fn came_of<R: RandomSource + Wait + Abort>(rt: &R, alloc: Global, row: &Row) -> 
         source: row.source,
         fetching: false,
     };
-    staged::<Brand, _, R>(rt, alloc, Opened::new(), row.own, file, desk, script)
+    let place = Place {
+        own: row.own,
+        file,
+        desk,
+    };
+    staged::<Brand, _, R>(rt, alloc, Opened::new(), place, script)
 }
 
 // What is wanted of a row.

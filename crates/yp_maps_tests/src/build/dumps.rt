@@ -4,7 +4,7 @@ use crate::given::{assert_fits, assert_same};
 use std::alloc::Global;
 use std::process::Abort;
 use std::random::RandomSource;
-use yp_texts::{DumpFault, Reading, build, dump};
+use yp_texts::{DumpFault, Maker, Reading, SourceText, build, dump};
 use yp_version::{Order, Version, VersionBuilder};
 
 /// A name, rows, and the text that is told of them.
@@ -71,7 +71,15 @@ fn told_twice<R: RandomSource + Abort>(
     let again = match dump(alloc, version) {
         Ok(text) => {
             assert_fits(rt, &text);
-            build(alloc, rt, Reading::Rows, text, None, 7, b"m1").ok()
+            let source = SourceText {
+                reading: Reading::Rows,
+                text,
+            };
+            let maker = Maker {
+                name: b"m1",
+                moment: 7,
+            };
+            build(alloc, rt, source, None, &maker).ok()
         }
         Err(_) => None,
     };

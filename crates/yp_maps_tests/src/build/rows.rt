@@ -200,7 +200,15 @@ static MADE: [Made; 24] = [
 ];
 
 fn built<R: RandomSource + Abort>(rt: &R, alloc: Global, reading: Reading, text: &[u8]) -> Version {
-    build(alloc, rt, reading, text_of(rt, alloc, text), None, 7, b"m1").expect(rt, "a version")
+    let source = SourceText {
+        reading,
+        text: text_of(rt, alloc, text),
+    };
+    let maker = Maker {
+        name: b"m1",
+        moment: 7,
+    };
+    build(alloc, rt, source, None, &maker).expect(rt, "a version")
 }
 
 fn assert_rows<R: Abort>(rt: &R, version: &Version, rows: &[(&[u8], &[u8])], name: &str) {
@@ -360,16 +368,15 @@ fn big_text<R: Abort>(rt: &R, alloc: Global) -> Vec<u8> {
 fn too_big_at_a_line(rt: HostRuntime) {
     let text = big_text(&rt, rt.alloc());
     assert_fits(&rt, &text);
-    let fault = build(
-        rt.alloc(),
-        &rt,
-        Text(Kind::PasswdByname),
+    let source = SourceText {
+        reading: Text(Kind::PasswdByname),
         text,
-        None,
-        7,
-        b"m1",
-    )
-    .err();
+    };
+    let maker = Maker {
+        name: b"m1",
+        moment: 7,
+    };
+    let fault = build(rt.alloc(), &rt, source, None, &maker).err();
     // 16 bytes, 4 of the master and 255 rows of 8, 4 and 65,536 are 16,714,760; one more row is over 16,777,216.
     let wanted = Some(BuildFault::TooBig { line: 256 });
     assert_same(&rt, &fault, &wanted, "256 long lines");

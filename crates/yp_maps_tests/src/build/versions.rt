@@ -30,16 +30,15 @@ fn fault_of<R: RandomSource + Abort>(
     text: &[u8],
     previous: Option<Order>,
 ) -> Option<BuildFault> {
-    build(
-        alloc,
-        rt,
-        Reading::Text(Kind::Ypservers),
-        text_of(rt, alloc, text),
-        previous,
-        7,
-        b"m1",
-    )
-    .err()
+    let source = SourceText {
+        reading: Reading::Text(Kind::Ypservers),
+        text: text_of(rt, alloc, text),
+    };
+    let maker = Maker {
+        name: b"m1",
+        moment: 7,
+    };
+    build(alloc, rt, source, previous, &maker).err()
 }
 
 /// The number of the order that follows.
@@ -57,17 +56,15 @@ fn orders(rt: HostRuntime) {
         let came = (*previous, *now, following(*previous, *now));
         assert_same(&rt, &came, &(*previous, *now, *order), "an order");
     }
-    let text = text_of(&rt, alloc, b"m1");
-    let raised = build(
-        alloc,
-        &rt,
-        Reading::Text(Kind::Ypservers),
-        text,
-        Some(Order(100)),
-        50,
-        b"m1",
-    )
-    .expect(&rt, "a version");
+    let source = SourceText {
+        reading: Reading::Text(Kind::Ypservers),
+        text: text_of(&rt, alloc, b"m1"),
+    };
+    let maker = Maker {
+        name: b"m1",
+        moment: 50,
+    };
+    let raised = build(alloc, &rt, source, Some(Order(100)), &maker).expect(&rt, "a version");
     let wanted = (101, b"m1".as_slice(), false);
     assert_same(&rt, &head(&raised), &wanted, "a raised order");
     // A spent order goes before a row that is refused.
@@ -157,17 +154,15 @@ fn outcome_of<R: RandomSource + Abort>(
     last: Option<&Version>,
     flag: Option<bool>,
 ) -> After {
-    let text = text_of(rt, alloc, b"m1");
-    match build_after(
-        alloc,
-        rt,
-        Reading::Text(Kind::Ypservers),
-        text,
-        last,
-        flag,
-        50,
-        b"m1",
-    ) {
+    let source = SourceText {
+        reading: Reading::Text(Kind::Ypservers),
+        text: text_of(rt, alloc, b"m1"),
+    };
+    let maker = Maker {
+        name: b"m1",
+        moment: 50,
+    };
+    match build_after(alloc, rt, source, last, flag, &maker) {
         Ok(version) => After::Built {
             order: version.order().number(),
             secure: version.secure(),
@@ -189,17 +184,15 @@ fn after_last<R: RandomSource + Abort>(
     let Some((order, master, secure)) = last else {
         return Ok(outcome_of(rt, alloc, None, flag));
     };
-    let text = text_of(rt, alloc, b"m1");
-    let version = build(
-        alloc,
-        rt,
-        Reading::Text(Kind::Ypservers),
-        text,
-        None,
-        order,
-        master,
-    )?
-    .marked(secure);
+    let source = SourceText {
+        reading: Reading::Text(Kind::Ypservers),
+        text: text_of(rt, alloc, b"m1"),
+    };
+    let maker = Maker {
+        name: master,
+        moment: order,
+    };
+    let version = build(alloc, rt, source, None, &maker)?.marked(secure);
     Ok(outcome_of(rt, alloc, Some(&version), flag))
 }
 

@@ -163,6 +163,17 @@ pub enum ShareFault {
     Untold,
 }
 
+/// A version of a map that is offered to a publisher under its lock. One that was fetched comes with a front of the log
+/// of fetched versions that has it.
+#[derive(Drop)]
+pub struct MapOffer<S: Accounts> {
+    /// The number of the map.
+    pub map: u32,
+    pub version: Version,
+    pub origin: Origin,
+    pub known: Option<FetchesFront<S>>,
+}
+
 /// A publisher of the maps that are served, for a lock to keep, with the books of the files that failed and of the
 /// built versions that were shown since it is shared, with what stands for the fetched versions that were installed,
 /// and with a front of the log of fetched versions that has them. It is seen as that publisher.
@@ -268,32 +279,36 @@ impl<S: Site + Accounts, D: Disk, B: Show> Locked<S, D, B> {
         &mut self,
         alloc: Global,
         rt: &impl RandomSource,
-        map: u32,
-        version: Version,
-        origin: Origin,
-        known: Option<FetchesFront<S>>,
+        offer: MapOffer<S>,
         charge: &mut Debits<S>,
     ) -> Result<(), ShareFault>
-        requires map { map < length S.catalogue.maps }
-        requires built { IsBuiltThere S.built (B.log self.old.board) map S.catalogue.own version origin }
-        requires fetched { fetched_in origin ≤ charge.old.versions }
-        requires known { IsKnownFetched version origin known }
-        ensures installed { OnOk result (OpensAndInstalls (keeping_of D.history D.faults B.log) map version origin
-            self.old self.new) }
-        ensures refused { IfErr result (λ fault. IsNotInstalled (keeping_of D.history D.faults B.log) map version
-            origin fault self.old self.new) }
+        requires map { offer.map < length S.catalogue.maps }
+        requires built { IsBuiltThere S.built (B.log self.old.board) offer.map S.catalogue.own offer.version
+            offer.origin }
+        requires fetched { fetched_in offer.origin ≤ charge.old.versions }
+        requires known { IsKnownFetched offer.version offer.origin offer.known }
+        ensures installed { OnOk result (OpensAndInstalls (keeping_of D.history D.faults B.log) offer.map
+            offer.version offer.origin self.old self.new) }
+        ensures refused { IfErr result (λ fault. IsNotInstalled (keeping_of D.history D.faults B.log) offer.map
+            offer.version offer.origin fault self.old self.new) }
 
         // What that is to the log.
-        ensures shown { OnOk result (IsShownBehind S.catalogue.own map version origin
+        ensures shown { OnOk result (IsShownBehind S.catalogue.own offer.map offer.version offer.origin
             (B.log self.old.board) (B.log self.new.board)) }
-        ensures reason { IfErr result (λ fault. IsReason S.catalogue.own map version origin fault
+        ensures reason { IfErr result (λ fault. IsReason S.catalogue.own offer.map offer.version offer.origin fault
             (B.log self.new.board)) }
         ensures grown { IsFront (B.log self.old.board) (B.log self.new.board) }
 
         // What it is charged with.
-        ensures charged { DebitIsCharged (failures_of result) (made_by origin result) (fetched_in origin)
-            charge.old charge.new }
+        ensures charged { DebitIsCharged (failures_of result) (made_by offer.origin result)
+            (fetched_in offer.origin) charge.old charge.new }
     {
+        let MapOffer {
+            map,
+            version,
+            origin,
+            known,
+        } = offer;
         let _catalog = self.publisher.catalog();
         self.fetches = self.fetches.with_known(known);
         let installed = open_and_offer(alloc, rt, &mut self.publisher, map, version, origin);
@@ -334,28 +349,25 @@ impl<S: Site + Accounts, D: Disk, B: Tell> Locked<S, D, B> {
         alloc: Global,
         rt: &impl RandomSource,
         reader: &mut B::Reader,
-        map: u32,
-        version: Version,
-        origin: Origin,
-        known: Option<FetchesFront<S>>,
+        offer: MapOffer<S>,
         charge: &mut Debits<S>,
     ) -> Result<(), ShareFault>
-        requires map { map < length S.catalogue.maps }
+        requires map { offer.map < length S.catalogue.maps }
         requires built { IsBuiltThere S.built (B.Reader.seen reader.old).known
-            map S.catalogue.own version origin }
-        requires fetched { fetched_in origin ≤ charge.old.versions }
-        requires known { IsKnownFetched version origin known }
-        ensures shown { OnOk result (IsShownBehind S.catalogue.own map version origin
+            offer.map S.catalogue.own offer.version offer.origin }
+        requires fetched { fetched_in offer.origin ≤ charge.old.versions }
+        requires known { IsKnownFetched offer.version offer.origin offer.known }
+        ensures shown { OnOk result (IsShownBehind S.catalogue.own offer.map offer.version offer.origin
             (B.Reader.seen reader.old).known (B.Reader.seen reader.new).known) }
-        ensures reason { IfErr result (λ fault. IsReason S.catalogue.own map version origin fault
+        ensures reason { IfErr result (λ fault. IsReason S.catalogue.own offer.map offer.version offer.origin fault
             (B.Reader.seen reader.new).known) }
         ensures learned { Learns (B.Reader.seen reader.old) (B.Reader.seen reader.new) }
-        ensures charged { DebitIsCharged (failures_of result) (made_by origin result) (fetched_in origin)
-            charge.old charge.new }
+        ensures charged { DebitIsCharged (failures_of result) (made_by offer.origin result)
+            (fetched_in offer.origin) charge.old charge.new }
     {
         // It needn't know what was shown before, but that this begins with all that it knows.
         let _ = self.tell_to(reader);
-        let installed = self.install(alloc, rt, map, version, origin, known, charge);
+        let installed = self.install(alloc, rt, offer, charge);
         match self.tell_to(reader) {
             Ok(()) => installed,
             Err(NoMemory) => Err(ShareFault::Untold),

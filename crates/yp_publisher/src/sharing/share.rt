@@ -8,16 +8,13 @@ ghost use Rattle.yp_publisher.specs.inside.sharing.Debits.{DebitIsCharged};
 ghost use Rattle.yp_publisher.specs.inside.sharing.Sources.{IsBuiltThere, fetched_in};
 ghost use Rattle.yp_publisher.specs.inside.sharing.Tracing.{IsKnownFetched};
 
-use crate::Origin;
 use crate::sharing::debits::Debits;
-use crate::sharing::fetches::FetchesFront;
-use crate::sharing::locked::{Accounts, Locked, ShareFault, Site};
+use crate::sharing::locked::{Accounts, Locked, MapOffer, ShareFault, Site};
 use std::alloc::Global;
 use std::random::RandomSource;
 use std::sync::{Mutex, Wait};
 use yp_board::Tell;
 use yp_io::{Disk, NoMemory};
-use yp_version::Version;
 
 /// Stores a version of a map and shows it, in any thread, and lets the caller's reader know it. It waits for the lock,
 /// and for readers that are inside a read step.
@@ -30,26 +27,24 @@ pub fn install_shared<S: Site + Accounts, D: Disk, B: Tell, R: RandomSource + Wa
     rt: &R,
     shared: &Mutex<Locked<S, D, B>>,
     reader: &mut B::Reader,
-    map: u32,
-    version: Version,
-    origin: Origin,
-    known: Option<FetchesFront<S>>,
+    offer: MapOffer<S>,
     charge: &mut Debits<S>,
 ) -> Result<(), ShareFault>
-    requires map { map < length S.catalogue.maps }
-    requires built { IsBuiltThere S.built (B.Reader.seen reader.old).known map S.catalogue.own version origin }
-    requires fetched { fetched_in origin ≤ charge.old.versions }
-    requires known { IsKnownFetched version origin known }
-    ensures shown { OnOk result (IsShownBehind S.catalogue.own map version origin
+    requires map { offer.map < length S.catalogue.maps }
+    requires built { IsBuiltThere S.built (B.Reader.seen reader.old).known offer.map S.catalogue.own offer.version
+        offer.origin }
+    requires fetched { fetched_in offer.origin ≤ charge.old.versions }
+    requires known { IsKnownFetched offer.version offer.origin offer.known }
+    ensures shown { OnOk result (IsShownBehind S.catalogue.own offer.map offer.version offer.origin
         (B.Reader.seen reader.old).known (B.Reader.seen reader.new).known) }
-    ensures reason { IfErr result (λ fault. IsReason S.catalogue.own map version origin fault
+    ensures reason { IfErr result (λ fault. IsReason S.catalogue.own offer.map offer.version offer.origin fault
         (B.Reader.seen reader.new).known) }
     ensures learned { Learns (B.Reader.seen reader.old) (B.Reader.seen reader.new) }
-    ensures charged { DebitIsCharged (failures_of result) (made_by origin result) (fetched_in origin)
+    ensures charged { DebitIsCharged (failures_of result) (made_by offer.origin result) (fetched_in offer.origin)
         charge.old charge.new }
 {
     let mut locked = shared.lock(rt);
-    locked.install_for(alloc, rt, reader, map, version, origin, known, charge)
+    locked.install_for(alloc, rt, reader, offer, charge)
 }
 
 /// Lets a reader of the board know all that was shown, in any thread. It waits for the lock. After a refusal the reader

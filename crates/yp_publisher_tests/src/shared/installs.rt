@@ -14,6 +14,7 @@ use crate::given::{assert_same, held, one_of, version};
 use crate::shared::maps::*;
 use std::alloc::Global;
 use std::marker::Brand;
+use std::mem;
 use std::process::Abort;
 use std::random::RandomSource;
 use std::sync::ledger::{Blank, Book};
@@ -23,7 +24,7 @@ use yp_board::readers::{Naming, Opened, Reader, Writer};
 use yp_memory::MemDisk;
 use yp_publisher::sharing::{
     Accounts, BuiltVersions, Debits, FailedFiles, FetchedVersions, Fetches, FetchesFront, Locked,
-    OpenedFetches, ShareFault, Site, install_shared, tell_shared,
+    MapOffer, OpenedFetches, ShareFault, Site, install_shared, tell_shared,
 };
 use yp_publisher::{InstallFault, Origin};
 use yp_version::Version;
@@ -51,6 +52,15 @@ const FIRST: Row = (Origin::Built, 100, Outcome::Installed, Some(100));
 
 const SECOND: Row = (Origin::Built, 101, Outcome::Installed, Some(101));
 
+// Installs that are made in turn over an empty disk of which these calls fail, and the order that another reader is
+// told of then.
+#[derive(Clone, Copy)]
+struct Script<'a> {
+    failing: &'a [u64],
+    rows: &'a [Row],
+    told: u32,
+}
+
 static KNOWN_AND_REFUSED: [Row; 4] = [
     FIRST,
     (
@@ -76,7 +86,12 @@ static KNOWN_AND_REFUSED: [Row; 4] = [
 
 #[test]
 fn installs_known_and_refused(rt: HostRuntime) {
-    try_installs(&rt, rt.alloc(), &[], &KNOWN_AND_REFUSED, 101);
+    let script = Script {
+        failing: &[],
+        rows: &KNOWN_AND_REFUSED,
+        told: 101,
+    };
+    try_installs(&rt, rt.alloc(), script);
 }
 
 // The first call of the third install fails, and then the reading of the file. The fifth opens it again.
@@ -90,7 +105,12 @@ static FAILING: [Row; 5] = [
 
 #[test]
 fn failing_disk(rt: HostRuntime) {
-    try_installs(&rt, rt.alloc(), &[16, 17], &FAILING, 104);
+    let script = Script {
+        failing: &[16, 17],
+        rows: &FAILING,
+        told: 104,
+    };
+    try_installs(&rt, rt.alloc(), script);
 }
 
 // Where nothing is shown, a version goes in wherever it comes from. Its master is this host, so that behind it only
@@ -103,53 +123,55 @@ static FETCHED: [Row; 3] = [
 
 #[test]
 fn fetched_and_built(rt: HostRuntime) {
-    try_installs(&rt, rt.alloc(), &[], &FETCHED, 101);
+    let script = Script {
+        failing: &[],
+        rows: &FETCHED,
+        told: 101,
+    };
+    try_installs(&rt, rt.alloc(), script);
 }
 
 #[test]
 fn told_of_an_install(rt: HostRuntime) {
-    try_installs(&rt, rt.alloc(), &[], &[FIRST], 100);
+    let script = Script {
+        failing: &[],
+        rows: &[FIRST],
+        told: 100,
+    };
+    try_installs(&rt, rt.alloc(), script);
 }
 
-// Makes these installs in turn over an empty disk of which these calls fail. Another reader is told of this order then.
-fn try_installs<R: Wait + RandomSource + Abort>(
-    rt: &R,
-    alloc: Global,
-    failing: &[u64],
-    rows: &[Row],
-    told: u32,
-) {
-    played::<Brand, R>(rt, alloc, Opened::new(), failing, rows, told);
+// Plays a script.
+fn try_installs<R: Wait + RandomSource + Abort>(rt: &R, alloc: Global, script: Script<'_>) {
+    played::<Brand, R>(rt, alloc, Opened::new(), script);
 }
 
 fn played<J: Naming, R: Wait + RandomSource + Abort>(
     rt: &R,
     alloc: Global,
     opened: Opened,
-    failing: &[u64],
-    rows: &[Row],
-    told: u32,
+    script: Script<'_>,
 )
     requires { opened ≡ J.book }
 {
-    let disk = disk(rt, alloc, failing);
-    let (maps, mut readers) = publisher_of::<J, R>(rt, alloc, opened, disk);
-    let mut reader = one_of(rt, &mut readers);
-    let mut other = one_of(rt, &mut readers);
-    let (failures, made, versions) = (Blank::new(2), Blank::new(2), Blank::new(3));
-    play_all::<J, Brand, R>(
-        rt,
-        alloc,
-        maps,
-        failures,
-        made,
-        versions,
-        OpenedFetches::new(),
-        &mut reader,
-        &mut other,
-        rows,
-        told,
-    );
+    let disk = disk(rt, alloc, script.failing);
+    let (maps, readers) = publisher_of::<J, R>(rt, alloc, opened, disk);
+    let blanks = Blanks {
+        failures: Blank::new(2),
+        made: Blank::new(2),
+        versions: Blank::new(3),
+        fetches: OpenedFetches::new(),
+    };
+    play_all::<J, Brand, R>(rt, alloc, maps, readers, blanks, script);
+}
+
+// What the ledgers of a site are opened from, and its log of fetched versions.
+#[derive(Drop)]
+struct Blanks {
+    failures: Blank,
+    made: Blank,
+    versions: Blank,
+    fetches: OpenedFetches,
 }
 
 // Makes these installs in turn, each as whatever it is offered as, and tells another reader of them.
@@ -157,14 +179,9 @@ fn play_all<'r, J: Naming, S: Site + Accounts, R: Wait + RandomSource + Abort>(
     rt: &'r R,
     alloc: Global,
     maps: Maps<'r, J, R>,
-    failures: Blank,
-    made: Blank,
-    versions: Blank,
-    fetches: OpenedFetches,
-    reader: &mut Reader<J>,
-    other: &mut Reader<J>,
-    rows: &[Row],
-    told: u32,
+    readers: Vec<Reader<J>>,
+    blanks: Blanks,
+    script: Script<'_>,
 )
     requires site { maps.catalogue ≡ S.catalogue }
     requires some { 0 < length S.catalogue.maps }
@@ -173,18 +190,34 @@ fn play_all<'r, J: Naming, S: Site + Accounts, R: Wait + RandomSource + Abort>(
     requires first { publisher_state (λ (w : Written). w.log) maps ≡ S.first }
     requires histories { map (λ (p : Platter). Some (history_of p)) (disks_of maps.maps) ≡ S.histories }
     requires disks { faults_over (λ (p : Platter). p.faults) (disks_of maps.maps) ≡ S.disk_faults }
-    requires names { (failures.name ≡ S.failures) × (made.name ≡ S.made) × (versions.name ≡ S.versions) }
-    requires parts { (failures.parts ≡ S.shares) × (made.parts ≡ S.shares) × (versions.parts ≡ S.shares + 1) }
+    requires names { (blanks.failures.name ≡ S.failures) × (blanks.made.name ≡ S.made)
+        × (blanks.versions.name ≡ S.versions) }
+    requires parts { (blanks.failures.parts ≡ S.shares) × (blanks.made.parts ≡ S.shares)
+        × (blanks.versions.parts ≡ S.shares + 1) }
     requires two { S.shares ≡ 2 }
-    requires fetches { fetches ≡ S.fetched }
+    requires fetches { blanks.fetches ≡ S.fetched }
 {
-    let log = fetches.named::<S>().expect(rt, "a log");
-    let (locked, mut charge, book) = open_all::<J, S, R>(maps, failures, made, versions, &log);
+    let mut readers = readers;
+    let reader = one_of(rt, &mut readers);
+    let mut other = one_of(rt, &mut readers);
+    let (locked, charge, fetched) = open_all::<J, S, R>(rt, maps, blanks);
     let shared = Mutex::new(locked);
-    let mut fetched = Fetched { book, log };
-    play_part(rt, alloc, &shared, reader, &mut charge, &mut fetched, rows);
-    assert_told(rt, &shared, other, told);
-    close_all(shared.into_inner(), &mut charge, reader);
+    let mut caller = Caller {
+        reader,
+        charge,
+        fetched,
+    };
+    play_part(rt, alloc, &shared, &mut caller, script.rows);
+    assert_told(rt, &shared, &mut other, script.told);
+    close_all(shared.into_inner(), caller);
+}
+
+// Who installs versions: its reader, what it is charged with, and what it fetched.
+#[derive(Drop)]
+struct Caller<S: Accounts, J: Naming> {
+    reader: Reader<J>,
+    charge: Debits<S>,
+    fetched: Fetched<S>,
 }
 
 // What was fetched: how much, and which versions.
@@ -194,64 +227,66 @@ struct Fetched<S: Accounts> {
     log: Fetches<S>,
 }
 
-// The maps with what is counted of them, two parts of what a caller is charged with, and the book of fetched versions.
+// The maps with what is counted of them, two parts of what a caller is charged with, and what was fetched, nothing yet.
 fn open_all<'r, J: Naming, S: Site + Accounts, R: Wait + RandomSource + Abort>(
+    rt: &'r R,
     maps: Maps<'r, J, R>,
-    failures: Blank,
-    made: Blank,
-    versions: Blank,
-    log: &Fetches<S>,
-) -> (Kept<'r, S, J, R>, Debits<S>, Book<FetchedVersions<S>>)
+    blanks: Blanks,
+) -> (Kept<'r, S, J, R>, Debits<S>, Fetched<S>)
     requires site { maps.catalogue ≡ S.catalogue }
     requires first { publisher_state (λ (w : Written). w.log) maps ≡ S.first }
     requires histories { map (λ (p : Platter). Some (history_of p)) (disks_of maps.maps) ≡ S.histories }
     requires disks { faults_over (λ (p : Platter). p.faults) (disks_of maps.maps) ≡ S.disk_faults }
-    requires names { (failures.name ≡ S.failures) × (made.name ≡ S.made) × (versions.name ≡ S.versions) }
-    requires parts { (failures.parts ≡ S.shares) × (made.parts ≡ S.shares) × (versions.parts ≡ S.shares + 1) }
+    requires names { (blanks.failures.name ≡ S.failures) × (blanks.made.name ≡ S.made)
+        × (blanks.versions.name ≡ S.versions) }
+    requires parts { (blanks.failures.parts ≡ S.shares) × (blanks.made.parts ≡ S.shares)
+        × (blanks.versions.parts ≡ S.shares + 1) }
     requires two { S.shares ≡ 2 }
+    requires fetches { blanks.fetches ≡ S.fetched }
     ensures { result.1.parts ≡ 2 }
 {
-    let (failed, failures) = failures.open::<FailedFiles<S>>();
-    let (shown, made) = made.open::<BuiltVersions<S>>();
-    let (fetches, mut versions) = versions.open::<FetchedVersions<S>>();
+    let (failed, failures) = blanks.failures.open::<FailedFiles<S>>();
+    let (shown, made) = blanks.made.open::<BuiltVersions<S>>();
+    let (book, mut versions) = blanks.versions.open::<FetchedVersions<S>>();
+    let log = blanks.fetches.named::<S>().expect(rt, "a log");
     // One part of the last stays under the lock.
     let kept = versions.split_off(1, 0);
     let locked = Locked::new(maps, failed, shown, kept, log.front().again());
-    (locked, Debits::new(failures, made, versions), fetches)
+    let debits = Debits::new(failures, made, versions);
+    (locked, debits, Fetched { book, log })
 }
 
-// Takes the maps from under their lock, of which the reader knows a front.
+// Takes the maps from under their lock, of which the caller's reader knows a front.
 fn close_all<'r, J: Naming, S: Site + Accounts, R: Wait + RandomSource + Abort>(
     locked: Kept<'r, S, J, R>,
-    charge: &mut Debits<S>,
-    reader: &Reader<J>,
+    caller: Caller<S, J>,
 ) {
     let mut locked = locked;
-    let known = Writer::<J, &'r R>::known(reader);
+    let mut caller = caller;
+    let known = Writer::<J, &'r R>::known(&caller.reader);
     locked.covers(&known);
-    let _ = locked.close(charge);
+    let _ = locked.close(&mut caller.charge);
 }
 
-// Makes these installs, each charged to a part of what a caller is charged with.
+// Makes these installs, each charged to a part of what the caller is charged with.
 fn play_part<'r, J: Naming, S: Site + Accounts, R: Wait + RandomSource + Abort>(
     rt: &'r R,
     alloc: Global,
     shared: &Shared<'r, S, J, R>,
-    reader: &mut Reader<J>,
-    charge: &mut Debits<S>,
-    fetched: &mut Fetched<S>,
+    caller: &mut Caller<S, J>,
     rows: &[Row],
 )
     requires maps { 0 < length S.catalogue.maps }
     requires any { (log : Log) → (number : ℕ) → (last : Option MapVersion) → (version : MapVersion)
         → S.built log number last version }
-    requires parts { 1 < charge.old.parts }
+    requires parts { 1 < caller.old.charge.parts }
 {
-    let mut mine = charge.split_off();
+    let part = caller.charge.split_off();
+    let rest = mem::replace(&mut caller.charge, part);
     for row in rows {
-        play(rt, alloc, shared, reader, &mut mine, fetched, row);
+        play(rt, alloc, shared, caller, row);
     }
-    charge.merge(mine);
+    caller.charge.merge(rest);
 }
 
 // Makes an install, and compares what comes of it.
@@ -259,9 +294,7 @@ fn play<'r, J: Naming, S: Site + Accounts, R: Wait + RandomSource + Abort>(
     rt: &'r R,
     alloc: Global,
     shared: &Shared<'r, S, J, R>,
-    reader: &mut Reader<J>,
-    charge: &mut Debits<S>,
-    fetched: &mut Fetched<S>,
+    caller: &mut Caller<S, J>,
     row: &Row,
 )
     requires maps { 0 < length S.catalogue.maps }
@@ -270,35 +303,45 @@ fn play<'r, J: Naming, S: Site + Accounts, R: Wait + RandomSource + Abort>(
 {
     let (origin, order, outcome, after) = *row;
     let version = version(rt, alloc, order, b"m1");
-    let known = fetch(rt, origin, &version, charge, fetched);
+    let known = fetch(rt, origin, &version, caller);
+    let offer = MapOffer {
+        map: 0,
+        version,
+        origin,
+        known,
+    };
     let came = outcome_of(install_shared(
-        alloc, rt, shared, reader, 0, version, origin, known, charge,
+        alloc,
+        rt,
+        shared,
+        &mut caller.reader,
+        offer,
+        &mut caller.charge,
     ));
     assert_same(
         rt,
-        &(came, held(reader, 0)),
+        &(came, held(&caller.reader, 0)),
         &(outcome, after),
         "an install",
     );
 }
 
-// Tells the book and the log of a version that is fetched.
-fn fetch<S: Accounts, R: Abort>(
+// Tells the caller's book and log of a version that is fetched.
+fn fetch<S: Accounts, J: Naming, R: Abort>(
     rt: &R,
     origin: Origin,
     version: &Version,
-    charge: &mut Debits<S>,
-    fetched: &mut Fetched<S>,
+    caller: &mut Caller<S, J>,
 ) -> Option<FetchesFront<S>>
-    ensures charged { fetched_in origin ≤ charge.new.versions }
+    ensures charged { fetched_in origin ≤ caller.new.charge.versions }
     ensures known { IsKnownFetched version.now origin result }
 {
     match origin {
         Origin::Built => None,
         Origin::Fetched => {
-            charge.fetched(&mut fetched.book);
-            assert!(rt; fetched.log.push(version));
-            Some(fetched.log.front().again())
+            caller.charge.fetched(&mut caller.fetched.book);
+            assert!(rt; caller.fetched.log.push(version));
+            Some(caller.fetched.log.front().again())
         },
     }
 }

@@ -22,7 +22,7 @@ pub record Dealt : Type 0 where
 -- what work is that was left, where fronts tell their logs so
 abbrev pub deferred_as : {F : Type 0} → (F → Log) → Work F → Deferred
 deferred_as kept (work.Transfer errand peer) = Transfer (errand, peer)
-deferred_as kept (work.Call peer message front) = Call peer message.items (kept front)
+deferred_as kept (work.Call call) = Call call.peer call.message.items (kept call.front)
 
 -- the parts into which the right to know the whole of a queue is cut
 abbrev pub all_parts : ℕ

@@ -11,35 +11,39 @@ ghost use Rattle.yp_worker.specs.datagrams.Queues.{WeighTheSame};
 ghost use Rattle.yp_worker.specs.inside.Mailing.{CarriesOn, CarriesRest, DoesLeft, carrier_of};
 ghost use Rattle.yp_worker.specs.inside.Queues.{IsReady, all_parts, deferred_as};
 
-use crate::datagrams::deferred::Work;
+use crate::datagrams::deferred::{DeferredCall, Work};
 use crate::datagrams::pending::{DeferredPass, DeferredQueue};
 use crate::datagrams::reply::reply_to;
 use crate::{HandsOver, Known};
 use std::marker::Model;
 use std::sync::Wait;
 use yp_board::View;
-use yp_io::{Inbox, Peer};
+use yp_io::Inbox;
 use yp_publisher::sharing::Site;
 
-/// Answers a call that was left with this front, once the host knows as much, and sends the reply, unless the inbox has
-/// failed. It answers whether the inbox has failed then.
+/// Answers a call that was left, once the host knows as much as its server knew then, and sends the reply, unless the
+/// inbox has failed. It answers whether the inbox has failed then.
 fn answer_left<I: Inbox, H: HandsOver>(
     host: &mut H,
     inbox: &mut I,
     fault: bool,
     buf: &mut [u8],
-    peer: Peer,
-    message: &[u8],
-    front: H::Front,
+    call: DeferredCall<H::Front>,
 ) -> bool
     requires buf { datagram_max ≤ length buf.old }
-    requires makes { may_make paths.Datagram peer message.now ≡ true }
-    requires short { length message.now ≤ datagram_max }
+    requires makes { may_make paths.Datagram call.peer call.message.items ≡ true }
+    requires short { length call.message.items ≤ datagram_max }
     ensures { DoesLeft (conduct_by H.Host) H.counted (box_by I.Inbox) I.faults
-        (Call peer message.now (H.Front.known front)) fault result host.old host.new inbox.old inbox.new }
+        (Call call.peer call.message.items (H.Front.known call.front)) fault result host.old host.new
+        inbox.old inbox.new }
 {
+    let DeferredCall {
+        peer,
+        message,
+        front,
+    } = call;
     host.reach(front);
-    let (len, _) = reply_to(host, message, peer, buf);
+    let (len, _) = reply_to(host, &message, peer, buf);
     if fault {
         return true;
     }
@@ -68,11 +72,7 @@ fn carry_out<I: Inbox, H: HandsOver>(
             host.transfer(&errand.job(), peer);
             fault
         }
-        Work::Call {
-            peer,
-            message,
-            front,
-        } => answer_left(host, inbox, fault, buf, peer, &message, front),
+        Work::Call(call) => answer_left(host, inbox, fault, buf, call),
     }
 }
 

@@ -9,19 +9,19 @@ use std::marker::Model;
 use yp_answer::session::Errand;
 use yp_io::Peer;
 
-/// A transfer that was taken, for its caller, or a call that isn't answered yet, with a front of what the host of its
-/// server knew.
+/// A call of a peer that isn't answered yet, with a front of what the host of its server knew.
+#[derive(Drop)]
+pub struct DeferredCall<F> {
+    pub peer: Peer,
+    pub message: Vec<u8>,
+    pub front: F,
+}
+
+/// A transfer that was taken, for its caller, or a call that isn't answered yet.
 #[derive(Drop)]
 pub enum Work<F> {
-    Transfer {
-        errand: Errand,
-        peer: Peer,
-    },
-    Call {
-        peer: Peer,
-        message: Vec<u8>,
-        front: F,
-    },
+    Transfer { errand: Errand, peer: Peer },
+    Call(DeferredCall<F>),
 }
 
 /// What a server of datagrams leaves for a carrier.
@@ -54,11 +54,11 @@ impl<F: Known> Deferred<F> {
         ensures { result ≡ Call peer message.items (F.known front) }
     {
         Deferred {
-            work: Work::Call {
+            work: Work::Call(DeferredCall {
                 peer,
                 message,
                 front,
-            },
+            }),
         }
     }
 

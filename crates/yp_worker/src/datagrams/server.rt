@@ -46,7 +46,7 @@ fn leave_or_carry_out<J: Site, H: HandsOver, R: Wait>(
                 host.transfer(&errand.job(), peer);
                 true
             }
-            Work::Call { .. } => unreachable!(),
+            Work::Call(_) => unreachable!(),
         },
     }
 }

@@ -1,7 +1,8 @@
 use Rattle.std.proofs.Common.{Result, ℕ, [], inl, sym, subst}
 use Rattle.yp_command.specs.Words.{Meaning, command_of, texts}
 use Rattle.yp_command.specs.declared.office.status.Status.{Status}
-use Rattle.yp_command_serve.specs.serve.Hosting.{doors_by}
+use Rattle.yp_command_serve.specs.Served.{witnessed}
+use Rattle.yp_command_serve.specs.serve.Hosting.{outside_by}
 use Rattle.yp_command.specs.office.Seeing.{Seeing, seeing}
 use Rattle.yp_program.specs.Commands.{Does, MayEnd}
 use Rattle.yp_program.proofs.Unparsed.{unparsed_may, unparsed_does}
@@ -11,14 +12,14 @@ pub returns-in-Ok-clause-does : goal.returns-in-Ok-clause-does
 returns-in-Ok-clause-does g c =
     let seen : Seeing g.row.S.Denot g.row.K.Denot g.row.D.Denot g.row.C.Denot g.row.A.Denot g.row.I.Denot g.row.T.Denot =
     seeing g.S.Source g.K.Sink g.D.Disk g.C.Clock g.A.Dial g.I.Inbox g.T.Texts in
-    let tells = doors_by g.L.Hall g.I.Inbox in
-    let outside = c.args.outside in
+    let tells = outside_by g.L.Hall g.I.Inbox in
+    let wires = g.W.Witness.wires in
     let did = c.run_command in
     let does = did.ensures.does in (
       does.0,
-      subst (λ (command : Result Meaning ℕ). Does seen command did.result.0 outside.office
-          did.result.1.office (tells outside.doors) (tells did.result.1.doors)
-          (g.W.Witness.wires c.args.witness.now) (g.W.Witness.wires did.new.witness) does.0)
+      subst (λ (command : Result Meaning ℕ). Does seen command did.result.0
+          (witnessed (tells c.args.outside) (wires c.args.witness.now))
+          (witnessed (tells did.result.1) (wires did.new.witness)) does.0)
           (sym c.in-Ok.ensures.sentence) (inl does.1),
       does.2,
     )
@@ -27,14 +28,11 @@ pub returns-in-Err-clause-does : goal.returns-in-Err-clause-does
 returns-in-Err-clause-does g c =
     let seen : Seeing g.row.S.Denot g.row.K.Denot g.row.D.Denot g.row.C.Denot g.row.A.Denot g.row.I.Denot g.row.T.Denot =
     seeing g.S.Source g.K.Sink g.D.Disk g.C.Clock g.A.Dial g.I.Inbox g.T.Texts in
-    let office = c.args.outside.office in
-    let door = doors_by g.L.Hall g.I.Inbox c.args.outside.doors in
-    let wires = g.W.Witness.wires c.args.witness.now in (
+    let outside = witnessed (outside_by g.L.Hall g.I.Inbox c.args.outside) (g.W.Witness.wires c.args.witness.now) in (
       [],
-      subst (λ (status : Status). Does seen (command_of (texts c.args.words.now)) status office office door door wires
-          wires []) (sym c.status_of-status.ensures.status)
-          (unparsed_does seen office door wires (command_of (texts c.args.words.now)) c.in-Err.fault
-          c.in-Err.ensures.usage),
+      subst (λ (status : Status). Does seen (command_of (texts c.args.words.now)) status outside outside [])
+          (sym c.status_of-status.ensures.status)
+          (unparsed_does seen outside (command_of (texts c.args.words.now)) c.in-Err.fault c.in-Err.ensures.usage),
       c.tell.ensures.note,
     )
 

@@ -60,13 +60,12 @@ returns-clause-traced g c = λ start. record {
   came = c.close-dialer.ensures.known;
 }
 
--- the versions of what was left are known, as a front that is borrowed says
+-- the versions of what was left are known
 pub close-dialer-requires-clause-told : goal.close-dialer-requires-clause-told
 close-dialer-requires-clause-told g c =
     let shares = c.into_shares-unread in
     let left = ap (λ (held : HeldCallBacks). held.left) shares.ensures.left in
-    subst (λ known. AreKnown known shares.result.4.left) (sym c.as_ref.ensures.value)
-    (subst (AreKnown shares.result.5) (sym left) shares.ensures.known)
+    subst (AreKnown shares.result.4.known) (sym left) shares.ensures.known
 
 pub returns-clause-told : goal.returns-clause-told
 returns-clause-told g c =
@@ -77,9 +76,9 @@ returns-clause-told g c =
     let all : c.merge.new.self.parts ≡ g.S.Accounts.shares = omega (arith, parts, own, rest) in
     let left =
     ap (λ (charged : Charged). charged.left) merged
-    ∙ ap (λ (told : List CallBack). told ++ c.args.others.left) c.into_parts-charges.ensures.told
-    ∙ ap (λ (more : List CallBack). c.args.account.told ++ more) c.requires.others.1
-    ∙ append-nil c.args.account.told in
+    ∙ ap (λ (told : List CallBack). told ++ c.args.ended.others.left) c.into_parts-charges.ensures.told
+    ∙ ap (λ (more : List CallBack). c.args.ended.account.told ++ more) c.requires.others.1
+    ∙ append-nil c.args.ended.account.told in
     let queue = g.S.Supplies.call_backs in
     let is =
     c.into_shares-unread.ensures.left

@@ -24,9 +24,9 @@ ghosts-with_queue-J-Supplies g a = record {
   wires = g.A.Dial.past a.resources.desk.dial;
   letters = g.A.Dial.letters a.resources.desk.dial;
   dial_faults = g.A.Dial.faults a.resources.desk.dial;
-  unread = a.blanks.charges.unread.name;
-  orders = a.blanks.charges.orders.name;
-  sources = a.blanks.charges.sources.name;
+  unread = a.blanks.charges.desk.unread.name;
+  orders = a.blanks.charges.desk.orders.name;
+  sources = a.blanks.charges.desk.sources.name;
   call_backs = a.blanks.call_backs;
 }
 

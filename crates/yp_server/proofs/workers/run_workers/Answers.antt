@@ -9,7 +9,7 @@ use Rattle.yp_worker.specs.Receptions.{opening_by, terms_of}
 use Rattle.yp_worker.specs.inside.Receptions.{Passed}
 use Rattle.yp_worker.specs.Summing.{counting_of}
 use Rattle.yp_server.specs.declared.datagrams.DatagramWorker.{DatagramWorker}
-use Rattle.yp_server.specs.Serving.{SomeHasRisen}
+use Rattle.yp_server.specs.Serving.{SomeHasRisen, mail_service}
 use Rattle.yp_worker.specs.datagrams.Mailing.{Holding, Mailing}
 use Rattle.yp_worker.specs.datagrams.Carrying.{Delivers, left_for}
 use Rattle.yp_worker.specs.datagrams.Queues.{weigh}
@@ -242,6 +242,7 @@ returns-clause-counted g c = λ inboxes datagram_workers was turns begins log re
     (front_then middle reached log rest.kept reaches) handed.covered in
     let catalogue = g.J.Site.catalogue in
     let starts = g.J.Reception.starts in
+    let service = mail_service conduct counting catalogue starts log turns in
     let carrier = c.args.carrier in
     let on = c.work_beside.ensures.carries in
     let then = rest.carries.carries in
@@ -274,9 +275,9 @@ returns-clause-counted g c = λ inboxes datagram_workers was turns begins log re
         left = left_by servers;
         took = map left_for (both.steps ++ both.unsent);
         each =
-            subst (λ (b : Bool). EachCounts conduct counting catalogue starts log turns b (map box inboxes) (map box out.result.inboxes.items) (left_by servers) counts)
+            subst (λ (b : Bool). EachCounts service b (map box inboxes) (map box out.result.inboxes.items) (left_by servers) counts)
             (sym out.ensures.fault)
-            (subst (λ (l : List g.row.I.Denot). EachCounts conduct counting catalogue starts log turns (list_any (λ (m : DatagramWorker g.row.I.Denot g.row.J.Denot g.row.H.Denot g.row.H-Front.Denot g.row.R.Denot). m.fault) ended) (map box inboxes) (map box l) (left_by servers) counts)
+            (subst (λ (l : List g.row.I.Denot). EachCounts service (list_any (λ (m : DatagramWorker g.row.I.Denot g.row.J.Denot g.row.H.Denot g.row.H-Front.Denot g.row.R.Denot). m.fault) ended) (map box inboxes) (map box l) (left_by servers) counts)
             (sym out.ensures.inboxes)
             (each_mailed conduct counting box g.I.Inbox.faults catalogue starts queue turns log inboxes datagram_workers ended begins zip fronts));
         carrier = record {

@@ -7,5 +7,5 @@ pub returns-clause-over : goal.returns-clause-over
 returns-clause-over g c =
     let last = option_map (λ version. version.now) c.args.last in
     let is : c.marked.result ≡ secured c.args.flag last c.in_ok-version.version = search rules in
-    subst (HasLaterOrder last) (sym is) (built_over c.args.reading c.args.text.items last c.args.now c.args.own.now c.args.flag
+    subst (HasLaterOrder last) (sym is) (built_over c.args.source.reading c.args.source.text.items last c.args.maker.now.moment c.args.maker.now.name.now c.args.flag
     c.in_ok-version.version (search rules))

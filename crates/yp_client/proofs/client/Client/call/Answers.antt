@@ -1,6 +1,4 @@
-use Rattle.std.proofs.Common.{◌≡◌, ℕ, ◌++◌, ◌∙◌, ap, refl, arith, length, take, drop}
-use Rattle.std.proofs.lemmas.List.{take_at}
-use Rattle.std.proofs.lemmas.Grind.{common_steps}
+use Rattle.std.proofs.Common.{ℕ, ◌∙◌, ap, refl}
 use Rattle.yp_client.specs.Calls.{spends}
 use Rattle.yp_client.proofs.Judging.{called_ok, called_err}
 use Rattle.yp_client.proofs.client.Client.call.Goals as goal
@@ -9,12 +7,7 @@ use Rattle.yp_client.proofs.client.Client.call.Goals.{in-Ok, in-Err}
 pub returns : goal.returns
 returns g c = rw (← c.self.view_is) (elim c.match-read.branch [
   | in-Ok w ↦
-      let buf = c.exchange-read.new.buf in
-      let old = c.self.inside.buf in
-      let size : length buf ≡ old.len = grind (arith, common_steps) in
-      let whole : take old.len (buf ++ drop (length buf) old.items) ≡ buf =
-      take_at buf (drop (length buf) old.items) old.len size in
-      let says = rw (w.deref.ensures.value, whole) at w.judge-judged.ensures.answers in
+      let says = rw w.deref.ensures.value at w.judge-judged.ensures.answers in
       rw w.judged-is (called_ok _ _ _ _ w.judge-judged.result _ _ _ c.if-self.false w.judge-judged.ensures.of_reply
       says w.in-Ok.ensures.sent w.in-Ok.ensures.waited w.in-Ok.ensures.taken
       (c.is_spent_by-self-inside.ensures ∙ ap spends w.judged-is) refl c.exchange-read.ensures.reads

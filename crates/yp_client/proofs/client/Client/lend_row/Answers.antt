@@ -1,6 +1,4 @@
-use Rattle.std.proofs.Common.{◌≡◌, ℕ, ◌++◌, ◌∙◌, refl, arith, length, take, drop}
-use Rattle.std.proofs.lemmas.List.{take_at}
-use Rattle.std.proofs.lemmas.Grind.{common_steps}
+use Rattle.std.proofs.Common.{ℕ, ◌∙◌, refl, take}
 use Rattle.yp_client.specs.declared.answers.Row.{Row}
 use Rattle.yp_client.specs.Results.{row_of}
 use Rattle.yp_client.proofs.Judging.{called_ok, called_err, no_reply_spends, same_spends}
@@ -21,13 +19,9 @@ returns-in-Err g c = (
 
 pub returns : goal.returns
 returns g c =
-    let buf = c.exchange-read.new.buf in
-    let old = c.self.inside.buf in
-    let size : length buf ≡ old.len = grind (arith, common_steps) in
-    let whole : take old.len (buf ++ drop (length buf) old.items) ≡ buf =
-    take_at buf (drop (length buf) old.items) old.len size in
-    let first = rw (c.deref.ensures.value, whole) at c.read_found.ensures.says in
-    let second = rw (c.deref-2.ensures.value, whole) at c.read_found-2.ensures.says in
+    let buf = c.exchange-read.new.self.buf.items in
+    let first = rw c.deref.ensures.value at c.read_found.ensures.says in
+    let second = rw c.deref-2.ensures.value at c.read_found-2.ensures.says in
     let spent = same_spends (λ (row : Row). (row.value.now, row.key.now))
     (row_of c.self.inside.xid (take c.in-Ok.len buf)) c.read_found.result c.read_found-2.result first second in (
       (

@@ -108,7 +108,7 @@ returns-in-Ok-serve-clause-count g c =
 pub returns-in-Ok-serve-clause-inboxes : goal.returns-in-Ok-serve-clause-inboxes
 returns-in-Ok-serve-clause-inboxes g c =
     let box = box_by g.I.Inbox in
-    let long = served_long _ _ _ _ _ _ _ (map box c.args.resources.inboxes.items) (map box c.in-Ok-serve.served.inboxes.items) _ _ c.in-Ok-serve.ensures.datagrams in
+    let long = served_long _ _ (map box c.args.resources.inboxes.items) (map box c.in-Ok-serve.served.inboxes.items) _ _ c.in-Ok-serve.ensures.datagrams in
     let old = length-map c.args.resources.inboxes.items box in
     let new = length-map c.in-Ok-serve.served.inboxes.items box in
     omega (arith, long, old, new)

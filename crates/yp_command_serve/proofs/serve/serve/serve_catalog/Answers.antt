@@ -9,7 +9,7 @@ use Rattle.yp_command.specs.inside.Words.{IsNamed}
 use Rattle.yp_command.specs.declared.office.office.Office.{Office}
 use Rattle.yp_command.specs.office.Seeing.{Seeing, seeing, output}
 use Rattle.yp_command_serve.specs.declared.serve.resources.HostResources.{HostResources}
-use Rattle.yp_command_serve.specs.serve.Hosting.{DoorTells, end_by, doors_by, server_tells}
+use Rattle.yp_command_serve.specs.serve.Hosting.{DoorTells, OutsideTells, outside_tells, end_by, doors_by, server_tells}
 use Rattle.yp_command_serve.specs.serve.Serve.{serve_job_of, setup, supply, place}
 use Rattle.yp_command_serve.specs.serve.Log.{IsLog}
 use Rattle.yp_command_serve.specs.inside.serve.Serve.{TellsServeEnd}
@@ -94,6 +94,8 @@ returns-clause-does g c =
           let more = c.args.outside.doors.more.items in
           let door : DoorTells = tells c.args.outside.doors.listen more c.args.outside.doors.outbox in
           let door' : DoorTells = tells back.listen rest back.outbox in
+          let was : OutsideTells g.row.S.Denot g.row.K.Denot g.row.D.Denot g.row.C.Denot g.row.A.Denot g.row.I.Denot g.row.T.Denot = outside_tells old door in
+          let now : OutsideTells g.row.S.Denot g.row.K.Denot g.row.D.Denot g.row.C.Denot g.row.A.Denot g.row.I.Denot g.row.T.Denot = outside_tells new door' in
           let lent : resources.inboxes.items ≡ more ++ old.inbox ∷ [] =
           c.push_reserved.ensures.items ∙ ap (λ (l : List g.row.I.Denot). l ++ old.inbox ∷ []) c.reserve.ensures.items in
           let came : back.inboxes.items ≡ rest ++ inbox ∷ [] = c.in-Some.ensures.items in
@@ -109,13 +111,13 @@ returns-clause-does g c =
           let hosted = hosted_at g.D.Disk.history g.D.Disk.faults (setup seen job old) did.result.0
           (server_tells (opening_by g.L.Hall c.args.outside.doors.listen) (map (box_by g.I.Inbox) resources.inboxes.items) (box_by g.I.Inbox resources.outbox) (supply seen old))
           (server_tells (opening_by g.L.Hall back.listen) (map (box_by g.I.Inbox) back.inboxes.items) (box_by g.I.Inbox back.outbox) (supply seen new))
-          (place seen old door) (place seen new door')
+          (place seen was) (place seen now)
           (ap (λ l. server_tells door.listen l door.out.box (supply seen old)) (boxes_are g.I.Inbox resources.inboxes.items more old.inbox lent))
           (ap (λ l. server_tells door'.listen l door'.out.box (supply seen new)) (boxes_are g.I.Inbox back.inboxes.items rest inbox came))
           apart.disks.items back.disks.items did.ensures.hosted in
-          let fails = some_fails seen old new door door' did.result.0 resources.inboxes.items back.inboxes.items more rest
+          let fails = some_fails seen was now did.result.0 resources.inboxes.items back.inboxes.items more rest
           resources.outbox back.outbox lent came did.ensures.inboxes refl refl refl refl did.ensures.inbox_fault in
-          all_done seen job told.result old new door door' logged.0 did.result.0 apart.disks.items
+          all_done seen job told.result was now logged.0 did.result.0 apart.disks.items
           back.disks.items c.in-Ok.ensures.disks (sym c.put_together.ensures.disks) hosted did.ensures.unhosted shut log
           (subst (λ (l : List Name). TellsServeEnd did.result.0 l told.result (output seen old) (output seen new))
           names_told told.ensures.tells)

@@ -5,7 +5,7 @@ use Rattle.yp_board.specs.Catalogues.{Catalogue, name_view}
 use Rattle.yp_command.specs.inside.Words.{IsNamed}
 use Rattle.yp_transfer.specs.HostTable.{HostList}
 use Rattle.yp_command.specs.office.Seeing.{Seeing, seeing}
-use Rattle.yp_command_serve.specs.serve.Hosting.{doors_by}
+use Rattle.yp_command_serve.specs.serve.Hosting.{doors_by, outside_by}
 use Rattle.yp_command_serve.specs.serve.Serve.{Job, ServeDoes, serve_job_of}
 use Rattle.yp_command_serve.specs.inside.serve.Serve.{serve_job_view}
 use Rattle.yp_command_serve.proofs.serve.Told.{nothing_done}
@@ -37,7 +37,7 @@ returns-clause-does g c =
     seeing g.S.Source g.K.Sink g.D.Disk g.C.Clock g.A.Dial g.I.Inbox g.T.Texts in
     let job = c.args.job in
     let did = c.serve_catalog in
-    let tells = doors_by g.L.Hall g.I.Inbox in
+    let tells = outside_by g.L.Hall g.I.Inbox in
     let same : serve_job_of c.in-Ok-new.catalog.own job.connections job.turns c.in-Ok-new.catalog.maps c.in-Ok.hosts job.log
     ≡ serve_job_view job =
     ap (λ (k : Catalogue). serve_job_of k.own job.connections job.turns k.maps c.in-Ok.hosts job.log) c.in-Ok-new.ensures.ok
@@ -45,7 +45,6 @@ returns-clause-does g c =
     c.in-Ok.ensures in
     let does = did.ensures.does in (
       does.0,
-      subst (λ (o : Job). ServeDoes seen o did.result.0 c.args.outside.office did.result.1.office
-          (tells c.args.outside.doors) (tells did.result.1.doors) does.0) same (does.1 job.connections),
+      subst (λ (o : Job). ServeDoes seen o did.result.0 (tells c.args.outside) (tells did.result.1) does.0) same (does.1 job.connections),
       does.2,
     )

@@ -15,9 +15,9 @@ ghosts-play_all-S-Accounts g a = record {
   first = publisher_state (λ (w : Written). w.log) a.maps;
   histories = map (λ (p : Platter). Some (history_of p)) (disks_of a.maps.maps);
   disk_faults = faults_over (λ (p : Platter). p.faults) (disks_of a.maps.maps);
-  failures = a.failures.name;
-  made = a.made.name;
-  versions = a.versions.name;
-  fetched = a.fetches;
-  shares = a.failures.parts;
+  failures = a.blanks.failures.name;
+  made = a.blanks.made.name;
+  versions = a.blanks.versions.name;
+  fetched = a.blanks.fetches;
+  shares = a.blanks.failures.parts;
 }

@@ -16,9 +16,9 @@ use Rattle.yp_server.proofs.preparing.WorkerMaker.add_datagram_workers.Goals as 
 pub loop-inbox-init : goal.loop-inbox-init
 loop-inbox-init g c =
     let turned = c.reverse.ensures.items in
-    let long = ap length turned ∙ length-reverse c.args.inboxes.items in
+    let long = ap length turned ∙ length-reverse c.args.inbox_resources.inboxes.items in
     record {
-      workers = ([], [], c.requires.none, ap reverse turned ∙ reverse-reverse c.args.inboxes.items, tt);
+      workers = ([], [], c.requires.none, ap reverse turned ∙ reverse-reverse c.args.inbox_resources.inboxes.items, tt);
       count = let none = ap length c.requires.none in omega (arith, none, long);
       room = refl;
       rooms = c.requires.rooms ∙ sym long;
@@ -39,7 +39,7 @@ loop-inbox-preserved g c =
     let longer = length_push c.loop-inbox.all_workers.items (Datagrams made.result) in
     let less = c.split_off-charges.ensures in
     let begins = BeginsMail (conduct_at g.B.Reader.View.seen g.B.Reader.View.stepped g.J.Supplies.text g.J.Supplies.hosts) count_told
-    g.J.Site.catalogue g.J.Reception.starts c.args.self.now.pending.now c.args.turns in
+    g.J.Site.catalogue g.J.Reception.starts c.args.self.now.pending.now c.args.inbox_resources.turns in
     let knows = all_last (λ reader. IsAtStart g.J.Site.catalogue g.J.Reception.starts (g.B.Reader.View.seen reader)) _ _ _
     c.in-Some-pop-2.ensures.items before.knows in
     record {
@@ -83,10 +83,10 @@ returns-clause-workers g c =
     let after = c.loop-inbox.invariant.workers in
     let none : length c.loop-inbox.inboxes.items ≡ 0 = omega (arith, c.in_default.ensures.cases.0) in
     let begins = BeginsMail (conduct_at g.B.Reader.View.seen g.B.Reader.View.stepped g.J.Supplies.text g.J.Supplies.hosts) count_told
-    g.J.Site.catalogue g.J.Reception.starts c.args.self.now.pending.now c.args.turns in (
+    g.J.Site.catalogue g.J.Reception.starts c.args.self.now.pending.now c.args.inbox_resources.turns in (
       after.0,
       after.2,
-      subst (λ l. AllZip begins l after.0) (all_inboxes after.1 c.loop-inbox.inboxes.items c.args.inboxes.items none after.3) after.4,
+      subst (λ l. AllZip begins l after.0) (all_inboxes after.1 c.loop-inbox.inboxes.items c.args.inbox_resources.inboxes.items none after.3) after.4,
     )
 
 pub datagram_worker-datagram_worker-requires-clause-knows : goal.datagram_worker-datagram_worker-requires-clause-knows

@@ -43,8 +43,8 @@ pub returns-clause-dialed : goal.returns-clause-dialed
 returns-clause-dialed g c =
     let told = c.tell_waiting.ensures.told in
     let tells = dial_by g.A.Dial in
-    let all = all_told c.shared.inside.call_backs c.args.others _ _ told.more g.S.Accounts.shares c.shared.invariant.7
-    c.shared.invariant.8 c.requires.left c.merge.ensures.parts c.merge.ensures.same told.takes
+    let all = all_told c.shared.inside.call_backs c.args.others.pass _ _ told.more g.S.Accounts.shares
+    c.shared.invariant.7 c.shared.invariant.8 c.requires.left c.merge.ensures.parts c.merge.ensures.same told.takes
     c.tell_waiting.ensures.all in
     record {
       posted = c.shared.inside.call_backs.took ++ told.more;
@@ -53,7 +53,7 @@ returns-clause-dialed g c =
           (tells c.tell_waiting.new.dial) c.shared.invariant.5 told.in_turn;
       same = λ is. (all is).same;
       among = λ is. (all is).among;
-      came = all_came g.S.Supplies.wires _ _ _ c.shared.inside.fetches c.args.others.left
+      came = all_came g.S.Supplies.wires _ _ _ c.shared.inside.fetches c.args.others.pass.left
           (rw c.covers.ensures.same at c.cover_told.ensures.front) c.shared.invariant.4
           (past_stays told.more _ _ told.in_turn) c.requires.told;
     }

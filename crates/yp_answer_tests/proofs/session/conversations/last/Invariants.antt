@@ -1,7 +1,0 @@
-use Rattle.std.proofs.Common.{length}
-use Rattle.std.specs.Prelude.{IfSome}
-use Rattle.yp_answer.specs.inside.session.Errands.{IsDue}
-use Rattle.yp_answer_tests.proofs.session.conversations.last.Given as goal
-
-abbrev pub invariant-loop : goal.invariant-loop
-invariant-loop l = IfSome l.conversation.waiting (IsDue (length l.host.board.catalogue.maps))

@@ -1,0 +1,8 @@
+//! Maps that are fetched.
+
+mod calls_back;
+mod fetches;
+mod sample;
+mod source;
+mod transfers;
+mod walks;
