@@ -16,8 +16,9 @@ lines are reached, and the sums. The options:
           each file in its own order. So a word mostly stands before what it means
 
 A name counts where it is spelled, so a variable that has the name of a definition reaches it, and the sums are a
-little too high. The name of a constructor reaches its data type, and the signs of an operator the operator. Definitions
-of the kit are not followed. Lines are those of a definition and of the comment above it.
+little too high. The name of a constructor reaches its data type, and the signs of an operator the operator. A type that
+another file of the crate brings counts where it has no model of its own, and so is seen as its fields. Definitions of
+the kit are not followed. Lines are those of a definition and of the comment above it.
 """
 
 import os
@@ -69,6 +70,7 @@ class Item:
 
     def __init__(self, file, name, at, lines, head=""):
         self.file, self.name, self.at, self.lines, self.head = file, name, at, lines, head
+        self.has_model = any(" Model for " in line for line in lines)
         self.code = "\n".join(re.split(r"(?:^|\s)(?:--|//)", line)[0] for line in [head, *lines])
         self.words = set(TOKEN.findall(self.code))
 
@@ -205,7 +207,10 @@ class Repository:
         for word in item.words | {name for name in known if has_operator(item.code, name)}:
             first, _, second = word.partition(".")
             for whole in (word, first):
-                if whole in names:
+                if names.get(whole, ("", ""))[0] == "crate crate":
+                    own = self.types.get((crate, names[whole][1]))
+                    yield None if own and own.has_model else own
+                elif whole in names:
                     yield self.named(*names[whole])
                 elif self.defined(item.file, whole):
                     yield self.defined(item.file, whole)
