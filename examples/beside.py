@@ -4,9 +4,10 @@
 The server, of its own, has four workers, a map of 20,000 rows, one of 262,144, and one of another master. Eight callers
 look up keys of the first one, again and again, four over a connection each and four in datagrams. Meanwhile, one after
 the other, nothing else is done; the second map is made for a call over a connection; it is made for one in a datagram;
-and the third one is fetched, for a datagram, from a master that says nothing for SECONDS, or 5. It prints how many keys
-were looked up meanwhile, and the longest that one of these waited for its reply, and ends with status 1 where a reply is
-wrong, or took longer than 0.1 seconds, or the map isn't made. It isn't part of the gate.
+the third one is fetched, for a datagram, from a master that says nothing for SECONDS, or 5; and it is fetched, for a
+call over a connection, from a master that says nothing while the second one is made for another. It prints how many
+keys were looked up meanwhile, and the longest that one of these waited for its reply, and ends with status 1 where a
+reply is wrong, or took longer than 0.1 seconds, or the map isn't made. It isn't part of the gate.
 """
 
 import contextlib
@@ -109,16 +110,28 @@ def made_in_datagram(running):
         return rpc.results(client.recv(rpc.DATAGRAM), 8) == MADE
 
 
-def fetched_from(running, silent, seconds):
-    """Asks for a transfer, and lets the source be silent for so long."""
+def transfer_call():
     arguments = server.of_map(FOREIGN) + rpc.word(0) + rpc.opaque(b"m2") + b"".join(map(rpc.word, (9, 1 << 30, 1)))
+    return rpc.call(9, rpc.YP, rpc.XFR, arguments)
+
+
+def fetched_in_datagram(running, silent, meanwhile):
+    """Asks for a transfer, does this while the source is silent, and tells whether both were done."""
     with server.datagrams(running.address) as client:
         client.settimeout(10)
-        client.send(rpc.call(9, rpc.YP, rpc.XFR, arguments))
+        client.send(transfer_call())
         is_taken = rpc.results(client.recv(rpc.DATAGRAM), 9) is not None
     with silent.accept()[0]:
-        time.sleep(seconds)
-    return is_taken
+        return meanwhile() and is_taken
+
+
+def fetched_over_stream(running, silent, meanwhile):
+    """The same over a connection."""
+    with running.connect(60) as connection, connection.makefile("rb") as stream:
+        connection.sendall(rpc.record(transfer_call()))
+        is_taken = rpc.results(rpc.read_message(stream) or b"", 9) is not None
+        with silent.accept()[0]:
+            return meanwhile() and is_taken
 
 
 def looked_beside(callers, name, work):
@@ -137,8 +150,8 @@ def looked_beside(callers, name, work):
     return is_well
 
 
-def nothing_done():
-    time.sleep(1)
+def waited(seconds):
+    time.sleep(seconds)
     return True
 
 
@@ -162,7 +175,7 @@ def main(seconds=5):
         callers = [Caller(ask) for ask in asks]
         try:
             wells = [
-                looked_beside(callers, "beside nothing", nothing_done),
+                looked_beside(callers, "beside nothing", lambda: waited(1)),
                 looked_beside(
                     callers,
                     f"while a map of {MOST_ROWS:,} rows is made, by stream",
@@ -176,7 +189,12 @@ def main(seconds=5):
                 looked_beside(
                     callers,
                     "while a source says nothing",
-                    lambda: fetched_from(running, silent, float(seconds)),
+                    lambda: fetched_in_datagram(running, silent, lambda: waited(float(seconds))),
+                ),
+                looked_beside(
+                    callers,
+                    "while a source says nothing and that map is made",
+                    lambda: fetched_over_stream(running, silent, lambda: made_over_stream(running)),
                 ),
             ]
             is_running = running.is_running()

@@ -43,7 +43,7 @@ use yp_io::{Clock, Dial, Disk, Hall, Inbox, Texts};
 use yp_publisher::sharing::Accounts;
 use yp_rpc::Room;
 use yp_worker::datagrams::{Carrier, DeferredPass, DeferredQueue, MailServer};
-use yp_worker::{Gate, ListenerBooks, Listening, Pass, Reception, Worker};
+use yp_worker::{Gate, ListenerBooks, Listening, LongWork, Pass, Reception, Worker};
 
 /// What workers work with: their memory, a reader for each and for the carrier, and the inboxes of those of datagrams,
 /// with the most turns of each.
@@ -125,14 +125,14 @@ impl<
         }
     }
 
-    /// A worker with this reader and this memory, which is charged by these, and does what takes long where that is
-    /// said.
+    /// A worker with this reader and this memory, which is charged by these, and does what takes long where that is its
+    /// work.
     fn worker(
         &self,
         reader: B::Reader,
         buffers: Buffers,
         charges: Charges<J>,
-        carries: bool,
+        work: Option<LongWork>,
     ) -> Worker<WorkerHost<'a, J, D, B, A, T, C, &'a R>, &'a G>
         requires most { (self.now.setting.spec.most ≡ J.most) × (self.now.setting.spec.most ≤ CALLS_MAX) }
         requires knows { IsAtStart J.catalogue J.starts (B.Reader.seen reader) }
@@ -149,7 +149,7 @@ impl<
             buffers,
             self.setting.gate,
             self.setting.spec.most,
-            carries,
+            work,
         )
     }
 
@@ -158,7 +158,7 @@ impl<
         &self,
         reader: B::Reader,
         buffers: Buffers,
-        carries: bool,
+        work: Option<LongWork>,
         shares: &mut WorkerShares<J, E>,
     ) -> ConnectionWorker<J, E, WorkerHost<'a, J, D, B, A, T, C, &'a R>, &'a G>
         requires most { (self.now.setting.spec.most ≡ J.most) × (self.now.setting.spec.most ≤ CALLS_MAX) }
@@ -175,7 +175,7 @@ impl<
             × (shares.new.charges.left ≡ shares.old.charges.left) }
     {
         let charges = shares.charges.split_off(self.call_backs);
-        let worker = self.worker(reader, buffers, charges, carries);
+        let worker = self.worker(reader, buffers, charges, work);
         ConnectionWorker::new(
             worker,
             Pass::new(shares.out.split_off(1, 0), shares.ended.split_off(1, 0)),
@@ -309,8 +309,8 @@ impl<
         }
     }
 
-    /// Makes a worker of each reader, behind those of datagrams. The last one does what takes long for all others, so
-    /// where there are too few threads it works behind them.
+    /// Makes a worker of each reader, behind those of datagrams. The last two do what takes long for all others, so where
+    /// there are too few threads they work behind them.
     fn add_connection_workers<E: Ledger, I>(
         &self,
         all_workers: &mut Vec<
@@ -346,8 +346,8 @@ impl<
             let Some(reader) = readers.pop() else {
                 unreachable!();
             };
-            let carries = all_buffers.is_empty();
-            let connection_worker = self.connection_worker(reader, buffers, carries, shares);
+            let work = work_before(all_buffers.len());
+            let connection_worker = self.connection_worker(reader, buffers, work, shares);
             all_workers.push_reserved(ServerWorker::Connections(connection_worker));
         }
     }
@@ -434,7 +434,7 @@ impl<
     R: Threads + Wait + RandomSource + Sync,
 > WorkerMaker<'a, J, D, B, A, T, C, G, R> {
     /// Serves the connections of a listener and the datagrams of inboxes by workers in threads, which have room here.
-    /// One of the workers does what takes long for those of connections, and a carrier for those of datagrams.
+    /// Two of the workers do what takes long for those of connections, and a carrier for those of datagrams.
     pub(crate) fn serve<E: Ledger + Send + Sync, L: Hall + Send, I: Inbox + Send + Drop>(
         &self,
         mut staff: Staff<
@@ -473,8 +473,8 @@ impl<
         requires queue { self.now.call_backs.now ≡ J.call_backs }
         requires none { (staff.all_workers.items ≡ []) × (staff.datagram_workers.items ≡ [])
             × (staff.inboxes.items ≡ []) × (staff.hosts.items ≡ []) }
-        requires some { (0 < length worker_resources.memory.all_buffers.items)
-            × (length worker_resources.memory.all_buffers.items ≤ workers_max + 1) }
+        requires some { (1 < length worker_resources.memory.all_buffers.items)
+            × (length worker_resources.memory.all_buffers.items ≤ workers_max + 2) }
         requires room { (length worker_resources.memory.all_buffers.items + length worker_resources.inboxes.items
             ≤ vec_capacity staff.all_workers)
             × (length worker_resources.inboxes.items ≤ vec_capacity staff.datagram_workers)
@@ -509,7 +509,7 @@ impl<
         let ListenerResources { listen, blanks } = listener;
         let (book, out) = blanks.out.open::<J>();
         let (ends, ended) = blanks.ended.open::<E>();
-        let workers = worker_resources.memory.all_buffers.len() as u32 - 1;
+        let workers = worker_resources.memory.all_buffers.len() as u32 - 2;
         let Some(reader) = worker_resources.readers.pop() else {
             unreachable!();
         };
@@ -555,5 +555,15 @@ impl<
             account,
             others,
         }
+    }
+}
+
+/// What takes long and is the work of a worker before so many others: the last one makes maps, and the one before it
+/// fetches them.
+fn work_before(others: usize) -> Option<LongWork> {
+    match others {
+        0 => Some(LongWork::Makes),
+        1 => Some(LongWork::Transfers),
+        _ => None,
     }
 }

@@ -48,10 +48,10 @@ use yp_worker::{Gate, Reception};
 
 /// Serves the connections of a listener and the datagrams of inboxes, over maps and a desk that all workers share:
 /// connections until as many were accepted as are to be or the listener has failed, the datagrams of an inbox until all
-/// its turns are taken or it has failed. Each worker has a thread of its own, and each inbox has one more. One worker
-/// more, in a thread of its own, too, does for those of connections what takes long: makes and transfers, in the
-/// connections that they leave to it. A carrier, in one more, does so for those of datagrams. Where a thread can't be
-/// started, its work is done in another's.
+/// its turns are taken or it has failed. Each worker has a thread of its own, and each inbox has one more. Two workers
+/// more, each in a thread of its own, too, do for those of connections what takes long, in the connections that are left
+/// to them: one makes maps, and one fetches them. A carrier, in one more, does so for those of datagrams. Where a thread
+/// can't be started, its work is done in another's.
 ///
 /// Where there is a journal, the workers tell it what they do.
 pub fn serve<D, B, A, T, C, L, I, G, R>(
@@ -84,7 +84,7 @@ where
     R: Threads + Wait + RandomSource + Sync,
     requires workers { (1 ≤ spec.now.workers) × (spec.now.workers ≤ workers_max) }
     requires inboxes { (1 ≤ vec_len resources.inboxes) × (vec_len resources.inboxes < 2 ^ 32) }
-    requires readers { vec_len resources.readers ≡ spec.now.workers + 2 + vec_len resources.inboxes }
+    requires readers { vec_len resources.readers ≡ spec.now.workers + 3 + vec_len resources.inboxes }
     requires starts { All (λ reader. IsAtStart resources.publisher.catalogue (B.log resources.publisher.board)
         (B.Reader.seen reader)) resources.readers.items }
     requires most { spec.now.most ≤ CALLS_MAX }
@@ -165,7 +165,7 @@ where
         × (refused.inboxes ≡ resources.inboxes) × (refused.outbox ≡ resources.outbox)) }
     ensures disks { IfErr result (λ refused. refused.disks.items ≡ disks_of resources.publisher.maps) }
 {
-    let workers = spec.workers as usize + 1;
+    let workers = spec.workers as usize + 2;
     let inboxes = resources.inboxes.len();
     let Ok(memory) = ServerMemory::new(alloc, workers, inboxes) else {
         return Err(refuse(resources));
@@ -227,8 +227,8 @@ where
     requires supplied { IsSupplied T.Texts J.text J.hosts resources.desk }
     requires opening { opening_by L.Hall resources.listen ≡ J.opening }
     requires most { (setting.spec.most ≡ J.most) × (setting.spec.most ≤ CALLS_MAX) }
-    requires some { (0 < length memory.workers.all_buffers.items)
-        × (length memory.workers.all_buffers.items ≤ workers_max + 1) }
+    requires some { (1 < length memory.workers.all_buffers.items)
+        × (length memory.workers.all_buffers.items ≤ workers_max + 2) }
     requires inboxes { (0 < length resources.inboxes.items) × (length resources.inboxes.items < 2 ^ 32) }
     requires rooms { length memory.workers.rooms.items ≡ length resources.inboxes.items }
     requires letter { datagram_max ≤ length memory.letter.items }
@@ -340,8 +340,8 @@ where
     requires supplied { IsSupplied T.Texts J.text J.hosts resources.desk }
     requires opening { opening_by L.Hall resources.listen ≡ J.opening }
     requires most { (setting.spec.most ≡ J.most) × (setting.spec.most ≤ CALLS_MAX) }
-    requires some { (0 < length memory.workers.all_buffers.items)
-        × (length memory.workers.all_buffers.items ≤ workers_max + 1) }
+    requires some { (1 < length memory.workers.all_buffers.items)
+        × (length memory.workers.all_buffers.items ≤ workers_max + 2) }
     requires inboxes { (0 < length resources.inboxes.items) × (length resources.inboxes.items < 2 ^ 32) }
     requires rooms { length memory.workers.rooms.items ≡ length resources.inboxes.items }
     requires letter { datagram_max ≤ length memory.letter.items }

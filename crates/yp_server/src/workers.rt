@@ -241,7 +241,7 @@ impl<
 }
 
 /// Serves the datagrams of inboxes at the first workers, one for each inbox, and the connections of a listener at all
-/// others, side by side, until all have ended. The last one does for the others what takes long, and a carrier beside
+/// others, side by side, until all have ended. The last two do for the others what takes long, and a carrier beside
 /// them what those of datagrams leave. What came of the connections and of the datagrams, the sum of what was counted,
 /// and the hosts of all.
 pub(crate) fn run_workers<J, E, H, G, L, I, R: Threads + Wait + Sync>(

@@ -157,7 +157,7 @@ fn served<J: Naming + Send + Sync, R: Threads + Wait + RandomSource + Abort + Sy
     let listen = hall(rt, alloc, NAMES, &visit);
     let inboxes = inboxes_of(rt, alloc, case, gate);
     let desk = desk_of(rt, alloc, case.unread, gate);
-    let count = spec.workers + 2 + inboxes.len() as u32;
+    let count = spec.workers + 3 + inboxes.len() as u32;
     let (publisher, readers) = publisher::<J, R>(rt, alloc, opened, b"m1", file, count);
     let resources = ServerResources {
         publisher,
@@ -225,12 +225,16 @@ const TWO_WORKERS: Case = Case {
     carried: "",
 };
 
-// The text isn't read at the first MAKE.
+// The text isn't read at the first MAKE, behind which the second connection comes.
 static TRANSFER_AND_MAKES: Case = Case {
     name: "a transfer and two makes",
     file: "",
     callers: &[("XFR MAKE", 0, 0), ("MAKE", 0, 0)],
     workers: 1,
+    holds: &[
+        ((Kind::Accepted, 1, 1), (Kind::Begun, 0, 2)),
+        ((Kind::Accepted, 2, 1), (Kind::Replied, 1, 2)),
+    ],
     unread: 0,
     totals: Totals {
         files: 1,
@@ -426,7 +430,7 @@ static MADE_MEANWHILE: Case = Case {
     callers: &[("MAKE MATCH", 0, 0), ("MATCH", 0, 0)],
     workers: 1,
     holds: &[
-        ((Kind::Accepted, 1, 1), (Kind::Begun, 0, 1)),
+        ((Kind::Accepted, 1, 1), (Kind::Begun, 0, 2)),
         ((Kind::Accepted, 2, 1), (Kind::Replied, 1, 1)),
         ((Kind::Replied, 1, 1), (Kind::Replied, 2, 1)),
     ],
@@ -447,7 +451,7 @@ static CARRIED_MEANWHILE: Case = Case {
     callers: &[("XFR MATCH", 0, 0), ("MATCH", 0, 0)],
     workers: 1,
     holds: &[
-        ((Kind::Accepted, 1, 1), (Kind::Begun, 0, 1)),
+        ((Kind::Accepted, 1, 1), (Kind::Begun, 0, 2)),
         ((Kind::Replied, 1, 2), (Kind::Replied, 2, 1)),
     ],
     totals: Totals {
@@ -465,6 +469,38 @@ static CARRIED_MEANWHILE: Case = Case {
 #[test]
 fn served_while_a_transfer_is_carried_out(rt: HostRuntime) {
     try_case(&rt, rt.alloc(), &CARRIED_MEANWHILE);
+}
+
+// A map is made while the one who carries transfers is held behind the reply to its next call.
+static MADE_BESIDE_A_TRANSFER: Case = Case {
+    name: "a map is made beside a transfer",
+    file: "",
+    callers: &[("XFR NULL_STREAM", 0, 0), ("MAKE MATCH", 0, 0)],
+    workers: 1,
+    holds: &[
+        ((Kind::Accepted, 1, 1), (Kind::Begun, 0, 2)),
+        ((Kind::Replied, 1, 2), (Kind::Replied, 2, 1)),
+    ],
+    tally: Tally {
+        connections: 2,
+        calls: 4,
+        listen_fault: false,
+    },
+    totals: Totals {
+        transfers: 1,
+        outcomes: Outcomes {
+            no_address: 1,
+            ..NO_OUTCOMES
+        },
+        ..ONE_MADE
+    },
+    output: "TAKEN NULL_STREAM_DONE MADE NEW",
+    ..TWO_WORKERS
+};
+
+#[test]
+fn made_beside_a_transfer(rt: HostRuntime) {
+    try_case(&rt, rt.alloc(), &MADE_BESIDE_A_TRANSFER);
 }
 
 // The connection is held before its first write until the inbox was asked to send a reply, and the datagram comes once
@@ -551,18 +587,18 @@ fn transfer_of_a_datagram(rt: HostRuntime) {
     try_case(&rt, rt.alloc(), &TRANSFER_MAILED);
 }
 
-// No map is shown yet, since one of the own host is fetched from nowhere. The carrier attends once it dials for the
-// transfer, and is held there until the inbox was asked to send the reply behind those to the transfer. So the map,
-// which the second datagram asks for, is made behind that, and the carrier replies.
+// No map is shown yet, since one of the own host is fetched from nowhere. The carrier is held where it dials for the
+// transfer until the inbox was asked to send the last reply. So the map, which the second datagram asks for, is made by
+// the one who takes the datagrams, and shown to the third.
 static MAKE_MAILED: Case = Case {
-    name: "a look-up behind a datagram that makes a map",
+    name: "a datagram makes a map beside a transfer",
     file: "",
     callers: &[],
     most: 0,
     workers: 1,
     holds: &[
         ((Kind::Turn, 0, 2), (Kind::Dialed, 0, 1)),
-        ((Kind::Dialed, 0, 1), (Kind::Asked, 0, 2)),
+        ((Kind::Dialed, 0, 1), (Kind::Asked, 0, 3)),
     ],
     mail: &["FETCH_MAIL", "MAKE_MAIL", "MATCH_MAIL"],
     turns: 3,
@@ -581,13 +617,12 @@ static MAKE_MAILED: Case = Case {
         ..NONE
     },
     output: "",
-    mailed: (3, "TAKEN_MAIL NO_MAP_MAIL", false),
-    carried: "MADE_MAIL",
+    mailed: (3, "TAKEN_MAIL MADE_MAIL NEW_MAIL", false),
     ..TWO_WORKERS
 };
 
 #[test]
-fn look_up_while_a_datagram_makes_a_map(rt: HostRuntime) {
+fn datagram_makes_a_map_beside_a_transfer(rt: HostRuntime) {
     try_case(&rt, rt.alloc(), &MAKE_MAILED);
 }
 

@@ -155,8 +155,8 @@ fn opened<'a, R: Net>(
         let new = Door {
             listener: listen_at(net, port)?,
             is_short: AtomicBool::new(false),
-            is_held: AtomicBool::new(false),
             free: AtomicU64::new(0),
+            held: AtomicU64::new(0),
             is_closed: AtomicBool::new(false),
         };
         *door = Some(shared(alloc, new)?);

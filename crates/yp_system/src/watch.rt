@@ -25,10 +25,10 @@ pub(crate) struct Door {
     pub listener: TcpListener,
     /// Whether an accept found no descriptor left.
     pub is_short: AtomicBool,
-    /// Whether the watch that isn't told of the door has connections.
-    pub is_held: AtomicBool,
     /// How many of the watches that are told of the door have no connection.
     pub free: AtomicU64,
+    /// How many of those that aren't told of it have some.
+    pub held: AtomicU64,
     /// Whether nobody is let in any more.
     pub is_closed: AtomicBool,
 }
@@ -83,8 +83,8 @@ pub struct TcpWatch<R> {
     // Whether it does, and whether anybody has entered since it was asked for that.
     is_told: bool,
     has_let_in: bool,
-    // Whether the door counts it among those that have nobody, and whether it has left who comes to these.
-    is_free: bool,
+    // Whether the door counts it, and whether it has left who comes to one that has nobody.
+    is_counted: bool,
     has_yielded: bool,
     poll: Poll,
     events: Events,
@@ -148,7 +148,7 @@ impl<R: Net + Clock + Drop> TcpWatch<R> {
             system,
             is_told: is_at_door && door.is_some(),
             has_let_in: false,
-            is_free: false,
+            is_counted: false,
             has_yielded: false,
             door,
             is_at_door,
@@ -160,30 +160,35 @@ impl<R: Net + Clock + Drop> TcpWatch<R> {
             now,
             let_go: 0,
         };
-        watch.count_free();
+        watch.count();
         Ok(watch)
     }
 
-    // Has the door count it where it has nobody, if it is told of the door.
-    fn count_free(&mut self)
+    // Has the door count it: where it has nobody, if it is told of the door, and else where it has somebody.
+    fn count(&mut self)
         ensures let_go { self.new.let_go ≡ self.old.let_go }
     {
-        let is_free = self.is_at_door && self.places.is_empty();
+        let is_counted = self.is_at_door == self.places.is_empty();
         if let Some(door) = &self.door
-            && is_free != self.is_free
+            && is_counted != self.is_counted
         {
-            if is_free {
-                door.free.fetch_add(1, Ordering::SeqCst);
+            let count = if self.is_at_door {
+                &door.free
             } else {
-                door.free.fetch_sub(1, Ordering::SeqCst);
+                &door.held
+            };
+            if is_counted {
+                count.fetch_add(1, Ordering::SeqCst);
+            } else {
+                count.fetch_sub(1, Ordering::SeqCst);
             }
-            self.is_free = is_free;
+            self.is_counted = is_counted;
         }
     }
 
     // Whether it leaves who has come to one who has nobody: once, while it has connections itself.
     fn yields(&self) -> bool {
-        !self.is_free && !self.has_yielded && self.is_any_free()
+        !self.places.is_empty() && !self.has_yielded && self.is_any_free()
     }
 
     // Whether a watch at the door has nobody.
@@ -240,23 +245,10 @@ impl<R: Net + Clock + Drop> TcpWatch<R> {
     // How long whom it lets go has to have been idle: a second where there may be one elsewhere who was for longer.
     fn least_idle(&self) -> Duration {
         match &self.door {
-            Some(door) if self.is_at_door && door.is_held.load(Ordering::SeqCst) => {
+            Some(door) if self.is_at_door && door.held.load(Ordering::SeqCst) > 0 => {
                 Duration::from_millis(WAIT_MILLIS)
             }
             _ => Duration::ZERO,
-        }
-    }
-
-    // Tells the watches at the door whether it has connections.
-    fn tell_held(&mut self)
-        ensures let_go { self.new.let_go ≡ self.old.let_go }
-    {
-        self.count_free();
-        if let Some(door) = &self.door
-            && !self.is_at_door
-        {
-            door.is_held
-                .store(!self.places.is_empty(), Ordering::SeqCst);
         }
     }
 
@@ -457,7 +449,7 @@ impl<R: Net + Clock + Drop> Watch for TcpWatch<R> {
             Ok(()) => {
                 self.has_let_in = true;
                 self.places.go_at_once(place);
-                self.tell_held();
+                self.count();
                 Ok(())
             }
             Err(_) => Err(count_fault(&mut self.let_go)),
@@ -483,7 +475,7 @@ impl<R: Net + Clock + Drop> Watch for TcpWatch<R> {
             let _ = tell_no_more(&self.poll, socket);
         }
         self.places.leave(place);
-        self.tell_held();
+        self.count();
     }
 
     fn next(&mut self) -> Notice {

@@ -1,18 +1,12 @@
 -- What lies under the lock of a listener, from one call of it to the next.
-use Rattle.std.proofs.Common.{◌≡◌, ◌⊎◌, inl, ℕ, ◌+◌, ◌<◌, ◌≤◌, Bool, true, false, List, [], ◌∷◌, ◌++◌, Option, None, Some, Result, Ok, Err, is_err, sym, ap, subst, ◌∙◌, arith}
+use Rattle.std.proofs.Common.{◌≡◌, ◌⊎◌, inl, ℕ, ◌<◌, ◌≤◌, Bool, true, false, List, [], Option, None, Some, Result, Ok, Err, is_err, ap, subst, ◌∙◌}
 use Rattle.std.specs.Prelude.{IfSome, OnOk}
-use Rattle.std.specs.List.{All}
-use Rattle.std.proofs.lemmas.List.Elements.{All-head, All-tail, All-push}
 use Rattle.yp_io.specs.Counts.{HasRisen}
 use Rattle.yp_io.specs.Calls.{ListenerHistory, ClosedConnection, Accepting, none_closed}
-use Rattle.yp_io.specs.declared.ready.TrySource as try_source
-use Rattle.yp_io.specs.declared.ready.TrySink as try_sink
 use Rattle.yp_board.specs.Logs.{Log}
 use Rattle.yp_answer.specs.session.Hosts.{Conduct}
 use Rattle.yp_worker.specs.Receptions.{Terms, GainsWhereTold, ListenTells, AcceptsNoMore, IsListenerState}
 use Rattle.yp_worker.specs.Summing.{Counting}
-use Rattle.yp_worker.specs.inside.GuestStates.{WaitingGuest}
-use Rattle.yp_worker.specs.inside.Guests.{IsWaiting}
 use Rattle.yp_worker.specs.inside.Listenings.{IsListening}
 use Rattle.yp_worker.proofs.Receiving.{told, kept_none_more, over_same}
 use Rattle.yp_worker.proofs.Summing.{sums_same}
@@ -42,22 +36,18 @@ kept_over old now connections failed out ended nobody some kept =
       over = λ one. kept.over some;
     })
 
-module _ {H T S K F : Type 0} (source : try_source.Ghosts S) (sink : try_sink.Ghosts K) (conduct : Conduct H)
-    (counting : Counting H T) (terms : Terms) (kept : F → Log) (old now : ListenTells) {connections calls : ℕ}
-    {failed : Bool} {out ended : ℕ} {sum : T} {reached : Log} {waiting : List (WaitingGuest S K F)} {count amount parts : ℕ}
-    (is : IsListening source sink conduct counting terms kept old now connections calls failed out ended sum reached waiting
-    count amount parts) where
+module _ {H T : Type 0} (conduct : Conduct H) (counting : Counting H T) (terms : Terms) (old now : ListenTells)
+    {connections calls : ℕ} {failed : Bool} {out ended : ℕ} {sum : T} {reached : Log} {waiting amount parts : ℕ}
+    (is : IsListening conduct counting terms old now connections calls failed out ended sum reached waiting amount parts) where
   -- none came, and the listener tells what it told
   pub none_more : (new : ListenTells) (after : Bool) (more : ℕ) → told new ≡ told now → new.returned ≡ now.returned
       → new.let_go ≡ now.let_go → now.faults ≤ new.faults
       → (after ≡ true → (failed ≡ true) ⊎ HasRisen now.faults new.faults) → (0 < more → AcceptsNoMore after new)
-      → IsListening source sink conduct counting terms kept old new connections calls after out more sum reached waiting
-      count amount parts
+      → IsListening conduct counting terms old new connections calls after out more sum reached waiting amount parts
   none_more new after more same returned let_go falls fault over = record {
     state = kept_none_more old now new connections failed out ended is.state after more same returned falls fault over;
     sums = sums_same conduct counting terms old now new calls sum reached (ap (λ (a : Accepting). a.past) same) returned
         let_go is.sums;
-    waits = is.waits;
     held = is.held;
     one_part = is.one_part;
   }
@@ -65,46 +55,18 @@ module _ {H T S K F : Type 0} (source : try_source.Ghosts S) (sink : try_sink.Gh
   -- nor has a worker ended
   pub stays : (new : ListenTells) → told new ≡ told now → new.returned ≡ now.returned → new.let_go ≡ now.let_go
       → now.faults ≤ new.faults
-      → IsListening source sink conduct counting terms kept old new connections calls failed out ended sum reached waiting
-      count amount parts
+      → IsListening conduct counting terms old new connections calls failed out ended sum reached waiting amount parts
   stays new same returned let_go falls =
       none_more new failed ended same returned let_go falls (λ was. inl was)
       (λ some. over_same old now new connections failed out ended is.state (ap (λ (a : Accepting). a.accepted) same)
       (ap (λ (a : Accepting). a.most) same) (is.state.over some))
 
-  -- the guest that has waited longest waits no more
-  pub first_waits : (one : WaitingGuest S K F) (rest : List (WaitingGuest S K F)) → waiting ≡ one ∷ rest
-      → IsWaiting source sink conduct counting terms old.past kept one
-  first_waits one rest items =
-      let P : WaitingGuest S K F → Type 0 = IsWaiting source sink conduct counting terms old.past kept in
-      All-head P one rest (subst (All P) items is.waits)
-
-  pub hands_on : (one : WaitingGuest S K F) (rest : List (WaitingGuest S K F)) (less held' parts' : ℕ)
-      → waiting ≡ one ∷ rest → less + 1 ≡ count → held' + 1 ≡ amount → parts' ≡ parts
-      → IsListening source sink conduct counting terms kept old now connections calls failed out ended sum reached rest
-      less held' parts'
-  hands_on one rest less held' parts' items fewer given same = record {
+  -- another number waits, and is held
+  pub wait_so : (waiting' amount' parts' : ℕ) → amount' ≡ waiting' → parts' ≡ parts
+      → IsListening conduct counting terms old now connections calls failed out ended sum reached waiting' amount' parts'
+  wait_so waiting' amount' parts' held same = record {
     state = is.state;
     sums = is.sums;
-    waits =
-        let P : WaitingGuest S K F → Type 0 = IsWaiting source sink conduct counting terms old.past kept in
-        All-tail P one rest (subst (All P) items is.waits);
-    held = let was = is.held in omega (arith, was, fewer, given);
-    one_part = same ∙ is.one_part;
-  }
-
-  -- one more waits
-  pub keeps : (one : WaitingGuest S K F) (all : List (WaitingGuest S K F)) (more held' parts' : ℕ)
-      → IsWaiting source sink conduct counting terms old.past kept one → all ≡ waiting ++ one ∷ [] → more ≡ count + 1
-      → held' ≡ amount + 1 → parts' ≡ parts
-      → IsListening source sink conduct counting terms kept old now connections calls failed out ended sum reached all
-      more held' parts'
-  keeps one all more held' parts' waits items longer taken same = record {
-    state = is.state;
-    sums = is.sums;
-    waits =
-        let P : WaitingGuest S K F → Type 0 = IsWaiting source sink conduct counting terms old.past kept in
-        subst (All P) (sym items) (All-push P waiting one is.waits waits);
-    held = let was = is.held in omega (arith, was, longer, taken);
+    held = held;
     one_part = same ∙ is.one_part;
   }

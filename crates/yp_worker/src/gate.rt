@@ -3,7 +3,7 @@
 /// A step of a worker. Connections are numbered from 1, in the order in which they were accepted.
 #[derive(Clone, Copy, Debug, PartialEq, Eq)]
 pub enum Point {
-    /// The one who does what takes long has begun: connections can be left to it.
+    /// One who does what takes long has begun: connections can be left to it.
     Begun,
     /// A connection was accepted, and nothing was read from it yet.
     Accepted { connection: u64 },

@@ -5,11 +5,12 @@ ghost use Rattle.yp_answer.specs.session.Progress.{begun};
 ghost use Rattle.yp_answer.specs.inside.session.Hosts.{conduct_by};
 ghost use Rattle.yp_answer.specs.inside.session.Cuts.{ComesTo, awaited_in, cut_of};
 ghost use Rattle.yp_answer.specs.inside.session.Errands.{IsDue};
-ghost use Rattle.yp_worker.specs.inside.Guests.{WorksOn};
+ghost use Rattle.yp_worker.specs.inside.Guests.{WorksOn, long_work_in};
 
 use crate::catch_up::CatchUp;
 use crate::gate::Gate;
 use crate::gated::Gated;
+use crate::left::LongWork;
 use std::alloc::Global;
 use std::marker::Model;
 use yp_answer::session::{Advance, Buffers, Conversation, Terms};
@@ -83,6 +84,17 @@ impl<S, K, G> Guest<S, K, G> {
         ensures { result ≡ awaited_in self.now.talk.settled self.now.talk.incoming }
     {
         self.conversation.awaited()
+    }
+
+    /// What takes long for it, where it can't go on before that.
+    pub(crate) fn long_work(&self) -> LongWork
+        ensures { result ≡ long_work_in self.now.talk.waiting }
+    {
+        if self.conversation.has_transfer() {
+            LongWork::Transfers
+        } else {
+            LongWork::Makes
+        }
     }
 
     /// Whether a record was read whole, or some of what is owed was taken, since this was asked last.

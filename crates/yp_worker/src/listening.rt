@@ -1,7 +1,7 @@
 //! What lies under the lock of a listener.
 
 ghost use Rattle.std.specs.Prelude.{◌≡◌, ◌<◌, ◌≤◌, ◌+◌, [], length, false, true, ℕ, Some};
-ghost use Rattle.std.specs.Prelude.{IfSome, IfNone, IfOk, OnOk, OnErr};
+ghost use Rattle.std.specs.Prelude.{IfSome, IfNone, IfOk, OnOk, OnErr, is_some};
 ghost use Rattle.slab.specs.Slab.{get};
 ghost use Rattle.yp_io.specs.Counts.{capped};
 ghost use Rattle.yp_io.specs.Hall.{try_halves_of};
@@ -14,15 +14,15 @@ ghost use Rattle.yp_worker.specs.inside.Guests.{IsKept, IsWaiting};
 
 use crate::catch_up::HandsOver;
 use crate::guest::Guest;
+use crate::left::{LeftGuests, LongWork};
 use crate::tally::Tally;
 use crate::waiting::Waiting;
 use crate::worker::Worker;
 use slab::Slab;
 use std::alloc::Global;
-use std::collections::VecDeque;
 use std::marker::{Brand, Model};
 use std::sync::ledger::{Book, Ledger, Share};
-use yp_io::{Called, Coming, Failed, Hall, Wake, Watch};
+use yp_io::{Called, Coming, Failed, Hall, Watch};
 use yp_publisher::sharing::Site;
 
 /// What every connection of a listener gets, and how the listener was before the first. Each call of a program that
@@ -128,8 +128,8 @@ pub struct ListenerBooks<J: Ledger, E: Ledger> {
     pub ended: Book<E>,
 }
 
-/// A listener, what workers that have ended did with its connections, the guests that they have left to the one that
-/// does what takes long, and the sum of what was counted in them, with a log of which each was answered on a front.
+/// A listener, what workers that have ended did with its connections, the guests that they have left to those that do
+/// what takes long, and the sum of what was counted in them, with a log of which each was answered on a front.
 #[derive(Drop)]
 pub struct Listening<J: Reception, E: Ledger, H: HandsOver, L: Hall, G> {
     listen: L,
@@ -139,14 +139,12 @@ pub struct Listening<J: Reception, E: Ledger, H: HandsOver, L: Hall, G> {
     out: Book<J>,
     ended: Book<E>,
     sum: H::Sum,
-    waiting: VecDeque<Waiting<L::In, L::Out, G, H::Front>>,
+    left: LeftGuests<J, H, L, G>,
     held: Share<J>,
     workers: u32,
-    waker: Option<L::Waker>,
 }
 
 impl<J: Reception, E: Ledger, H: HandsOver, L: Hall, G> Model for Listening<J, E, H, L, G> {
-    ghost use Rattle.std.specs.VecDeque.{deque_len};
     ghost use Rattle.yp_answer.specs.session.Hosts.{conduct_of};
     ghost use Rattle.yp_worker.specs.Receptions.{opening_by, terms_of};
     ghost use Rattle.yp_worker.specs.Summing.{counting_of};
@@ -162,19 +160,18 @@ impl<J: Reception, E: Ledger, H: HandsOver, L: Hall, G> Model for Listening<J, E
       failed = l.failed;
       out = l.out.total;
       ended = l.ended.total;
-      waiting = deque_len l.waiting;
+      waiting = l.left;
     } };
 
-    ghost invariant = { λ l. IsListening L.In.TrySource L.Out.TrySink
-        (conduct_of H.seen H.told H.counts H.stepped H.made H.carried) (counting_of H.counted H.none H.plus)
-        (terms_of J.catalogue J.starts J.most) H.Front.known J.opening (opening_by L.Hall l.listen)
-        l.connections l.calls l.failed l.out.total l.ended.total (H.summed l.sum) (H.reached l.sum)
-        l.waiting.items (deque_len l.waiting) l.held.amount l.held.parts };
+    ghost invariant = { λ l. IsListening (conduct_of H.seen H.told H.counts H.stepped H.made H.carried)
+        (counting_of H.counted H.none H.plus) (terms_of J.catalogue J.starts J.most) J.opening
+        (opening_by L.Hall l.listen) l.connections l.calls l.failed l.out.total l.ended.total (H.summed l.sum)
+        (H.reached l.sum) l.left l.held.amount l.held.parts };
 }
 
 impl<J: Reception, E: Ledger, H: HandsOver, L: Hall, G> Listening<J, E, H, L, G> {
-    /// A listener before its first connection. So many workers will leave to another what takes long. While one of them
-    /// hasn't ended, that other accepts nothing.
+    /// A listener before its first connection. So many workers will leave to others what takes long. While one of them
+    /// hasn't ended, those others accept nothing.
     pub fn new(
         alloc: Global,
         listen: L,
@@ -206,52 +203,57 @@ impl<J: Reception, E: Ledger, H: HandsOver, L: Hall, G> Listening<J, E, H, L, G>
             out,
             ended,
             sum,
-            waiting: VecDeque::new(alloc),
+            left: LeftGuests::new(alloc),
             held,
             workers,
-            waker: None,
         }
     }
 
-    /// Takes the guest that has waited longest, where one waits. Where more do, whoever takes them is told again.
-    fn hand_on(&mut self, pass: &mut Pass<J, E>) -> Option<Waiting<L::In, L::Out, G, H::Front>>
+    /// Takes the guest that has waited longest for this work, where one waits.
+    fn hand_on(
+        &mut self,
+        pass: &mut Pass<J, E>,
+        work: LongWork,
+    ) -> Option<Waiting<L::In, L::Out, G, H::Front>>
         ensures waits { IfSome result (IsWaiting L.In.TrySource L.Out.TrySink (conduct_by H.Host)
             (counting_of H.counted H.none H.plus) (terms_by J.Reception) J.opening.past H.Front.known) }
         ensures out { IfSome result (λ _. pass.new ≡ record pass.old { out = pass.old.out + 1 }) }
         ensures none { IfNone result (pass.new ≡ pass.old) }
     {
-        let waiting = self.waiting.pop_front()?;
+        let waiting = self.left.take(work)?;
         self.held.transfer(&mut pass.out, 1);
-        wake_again(&self.waker, &self.waiting);
         Some(waiting)
     }
 
-    /// Takes the next guest of a worker that left it, for the one who does what takes long. While there are none and
-    /// workers haven't ended, it is told to come again. Then, and for other workers, it is the next connection, where
-    /// one is there and nothing has failed before.
+    /// Takes the next guest that a worker left, for one who does such work. While there are none and workers haven't
+    /// ended, it is told to come again. Then it takes those that wait for other work, too, and then, as other workers
+    /// do, the next connection, where one is there and nothing has failed before.
     pub(crate) fn admit(
         &mut self,
         pass: &mut Pass<J, E>,
-        carries: bool,
+        work: Option<LongWork>,
     ) -> Admission<L::In, L::Out, G, H::Front>
         ensures admits { Admits (IsExpectedCall (try_halves_of L.In.TrySource L.Out.TrySink) J.opening.past)
             (IsWaiting L.In.TrySource L.Out.TrySink (conduct_by H.Host) (counting_of H.counted H.none H.plus)
             (terms_by J.Reception) J.opening.past H.Front.known) result pass.old pass.new }
-        ensures idle { carries ≡ false → IsNotLeft result }
+        ensures idle { is_some work ≡ false → IsNotLeft result }
     {
-        if !carries {
+        let Some(work) = work else {
             return self.accept(pass);
-        }
-        if let Some(waiting) = self.hand_on(pass) {
+        };
+        if let Some(waiting) = self.hand_on(pass, work) {
             return Admission::Left(waiting);
         }
         if self.workers > 0 {
             return Admission::NotNow;
         }
+        if let Some(waiting) = self.hand_on(pass, work.other()) {
+            return Admission::Left(waiting);
+        }
         self.accept(pass)
     }
 
-    /// Keeps the guest at a key for the one who does what takes long, where that one can be woken and there is memory.
+    /// Keeps the guest at a key for one who does what takes long, where that one can be woken and there is memory.
     pub(crate) fn keep(
         &mut self,
         pass: &mut Pass<J, E>,
@@ -266,15 +268,10 @@ impl<J: Reception, E: Ledger, H: HandsOver, L: Hall, G> Listening<J, E, H, L, G>
         ensures kept { result ≡ true → IsKept key guests.old guests.new pass.old pass.new }
         ensures same { result ≡ false → (guests.new ≡ guests.old) × (pass.new ≡ pass.old) }
     {
-        if self.waker.is_none() || self.waiting.reserve(1).is_err() {
+        if !self.left.keep(guests, key, front) {
             return false;
         }
-        let Some(guest) = guests.try_remove(key) else {
-            return false;
-        };
         pass.out.transfer(&mut self.held, 1);
-        self.waiting.push_back_reserved(Waiting::new(guest, front));
-        wake(&self.waker);
         true
     }
 
@@ -309,12 +306,12 @@ impl<J: Reception, E: Ledger, H: HandsOver, L: Hall, G> Listening<J, E, H, L, G>
         }
     }
 
-    /// What a worker closes its connections by, and what watches them, and the door but for the one who does what takes
+    /// What a worker closes its connections by, and what watches them, and the door but for one who does what takes
     /// long. Where it can't have that, the worker has ended.
     pub(crate) fn begin(
         &mut self,
         pass: &mut Pass<J, E>,
-        carries: bool,
+        work: Option<LongWork>,
     ) -> Result<(L::Closer, L::Watch), Failed>
         ensures closed { IfOk result (λ begun. IfSome J.opening.past (λ _. L.closed begun.0 ≡ Some [])) }
         ensures count { IfOk result (λ begun. L.closed_count begun.0 ≡ 0) }
@@ -322,13 +319,13 @@ impl<J: Reception, E: Ledger, H: HandsOver, L: Hall, G> Listening<J, E, H, L, G>
         ensures same { OnOk result (pass.new ≡ pass.old) }
         ensures ended { OnErr result (pass.new ≡ record pass.old { ended = pass.old.ended + 1 }) }
     {
-        match self.listen.watch(!carries) {
+        match self.listen.watch(work.is_none()) {
             Ok(watch) => {
-                keep_waker(&mut self.waker, &watch, carries);
+                self.left.attend(work, &watch);
                 Ok((self.listen.closer(), watch))
             }
             Err(Failed) => {
-                forget(&mut self.workers, &self.waker, carries);
+                forget(&mut self.workers, &self.left, work);
                 self.ended.add(&mut pass.ended, 1);
                 self.failed = true;
                 Err(Failed)
@@ -357,7 +354,7 @@ impl<J: Reception, E: Ledger, H: HandsOver, L: Hall, G> Listening<J, E, H, L, G>
         ensures worker { worker.new ≡ record worker.old { host = worker.new.host } }
         ensures none { H.counted worker.new.host ≡ H.none }
     {
-        forget(&mut self.workers, &self.waker, worker.carries);
+        forget(&mut self.workers, &self.left, worker.work);
         self.out.sub(&mut pass.out, tally.connections);
         self.calls = self.calls.saturating_add(tally.calls);
         worker.hand_over(&mut self.sum);
@@ -369,7 +366,7 @@ impl<J: Reception, E: Ledger, H: HandsOver, L: Hall, G> Listening<J, E, H, L, G>
     pub fn is_drained(&self) -> bool
         ensures { result ≡ true → self.now.waiting ≡ 0 }
     {
-        self.waiting.is_empty()
+        self.left.is_empty()
     }
 
     /// The listener, once all its workers have ended and been joined and no guest waits for one, with how many
@@ -397,10 +394,9 @@ impl<J: Reception, E: Ledger, H: HandsOver, L: Hall, G> Listening<J, E, H, L, G>
             mut out,
             mut ended,
             sum,
-            waiting: _,
+            left: _,
             held,
             workers: _,
-            waker: _,
         } = self;
         pass.out.merge(held);
         out.audit(&mut pass.out);
@@ -414,32 +410,15 @@ impl<J: Reception, E: Ledger, H: HandsOver, L: Hall, G> Listening<J, E, H, L, G>
     }
 }
 
-/// Wakes the one who does what takes long, where it can be woken.
-fn wake<W: Wake>(waker: &Option<W>) {
-    if let Some(waker) = waker {
-        waker.wake();
-    }
-}
-
-/// Wakes it again where some still wait, since it takes one at a time.
-fn wake_again<W: Wake, T>(waker: &Option<W>, waiting: &VecDeque<T>) {
-    if !waiting.is_empty() {
-        wake(waker);
-    }
-}
-
-/// Keeps what wakes a watch, where that is the one of who does what takes long.
-fn keep_waker<W: Watch>(waker: &mut Option<W::Waker>, watch: &W, carries: bool) {
-    if carries {
-        *waker = watch.waker();
-    }
-}
-
-/// A worker has ended. Where it was one that leaves guests, the one who does what takes long looks whether none does
-/// any more.
-fn forget<W: Wake>(workers: &mut u32, waker: &Option<W>, carries: bool) {
-    if !carries {
+/// A worker has ended. Where it was one that leaves guests, those who do what takes long look whether none does any
+/// more.
+fn forget<J: Reception, H: HandsOver, L: Hall, G>(
+    workers: &mut u32,
+    left: &LeftGuests<J, H, L, G>,
+    work: Option<LongWork>,
+) {
+    if work.is_none() {
         *workers = workers.saturating_sub(1);
-        wake(waker);
+        left.wake_all();
     }
 }

@@ -1,7 +1,7 @@
 //! A worker that serves the connections of a listener, which others share: all that it accepted at once, and it waits
 //! for none of them.
 
-ghost use Rattle.std.specs.Prelude.{◌≡◌, ◌≤◌, ◌<◌, ◌+◌, ℕ, true, false, length, IfSome, IfNone};
+ghost use Rattle.std.specs.Prelude.{◌≡◌, ◌≤◌, ◌<◌, ◌+◌, ℕ, true, false, length, IfSome, IfNone, is_some};
 ghost use Rattle.slab.specs.Slab.{HasRoomFor, get, slab_len};
 ghost use Rattle.yp_io.specs.Counts.{next_count};
 ghost use Rattle.yp_io.specs.Hall.{try_halves_of};
@@ -19,6 +19,7 @@ ghost use Rattle.yp_worker.specs.inside.Guests.{let_go_where, serving_of, came_t
 use crate::catch_up::HandsOver;
 use crate::gate::{Gate, Point};
 use crate::guest::Guest;
+use crate::left::LongWork;
 use crate::listening::{Admission, Listening, Pass, Reception};
 use crate::tally::Tally;
 use crate::waiting::Waiting;
@@ -85,8 +86,8 @@ impl<H: HandsOver, G: Gate + Copy + Drop> Worker<H, G> {
     /// what others showed. Where it can't have a watch it ends at once, and no more are accepted.
     ///
     /// One whose next deed takes long it leaves for good to the worker whose work that is, and where that can't be it
-    /// goes on with it itself. That one goes on with all that were left, and accepts nothing before all others have
-    /// ended.
+    /// goes on with it itself. That one goes on with all that were left to it, and accepts nothing before all who leave
+    /// guests have ended.
     pub fn run<J: Reception, E: Ledger, L: Hall, R: Wait>(
         &mut self,
         rt: &R,
@@ -146,11 +147,11 @@ impl<H: HandsOver, G: Gate + Copy + Drop> Worker<H, G> {
         ensures same { IfSome result (λ _. pass.new ≡ pass.old) }
         ensures ended { IfNone result (pass.new ≡ record pass.old { ended = pass.old.ended + 1 }) }
     {
-        let begun = listening.lock(rt).begin(pass, self.carries);
+        let begun = listening.lock(rt).begin(pass, self.work);
         let Ok((closer, watch)) = begun else {
             return None;
         };
-        if self.carries {
+        if self.work.is_some() {
             self.gate.at(Point::Begun);
         }
         Some(Shift {
@@ -234,7 +235,7 @@ impl<H: HandsOver, G: Gate + Copy + Drop> Worker<H, G> {
         if !shift.has_room() {
             return;
         }
-        match admitted(rt, listening, pass, self.carries) {
+        match admitted(rt, listening, pass, self.work) {
             Admission::Came { call, connection } => self.enter::<J, L>(shift, call, connection),
             Admission::Left(waiting) => self.take_over::<J, L>(shift, waiting),
             Admission::NotNow => {}
@@ -380,7 +381,7 @@ impl<H: HandsOver, G: Gate + Copy + Drop> Worker<H, G> {
         ensures comes { Comes pass.old pass.new (came_to shift.old.tally shift.old.guests)
             (came_to shift.new.tally shift.new.guests) shift.old.is_open shift.new.is_open }
     {
-        let carries = self.carries;
+        let carries = self.work.is_some();
         if !self.step::<J, L>(shift, place, carries) {
             return;
         }
@@ -439,7 +440,7 @@ impl<H: HandsOver, G: Gate + Copy + Drop> Worker<H, G> {
         }
     }
 
-    /// Leaves the guest of a place for good to the worker that does what takes long, and answers whether it could.
+    /// Leaves the guest of a place for good to a worker that does what takes long, and answers whether it could.
     fn leave<J: Reception, E: Ledger, L: Hall, R: Wait>(
         &self,
         rt: &R,
@@ -462,7 +463,7 @@ impl<H: HandsOver, G: Gate + Copy + Drop> Worker<H, G> {
         ensures comes { Comes pass.old pass.new (came_to shift.old.tally shift.old.guests)
             (came_to shift.new.tally shift.new.guests) shift.old.is_open shift.new.is_open }
     {
-        if self.carries {
+        if self.work.is_some() {
             return false;
         }
         let Ok(front) = self.host.front() else {
@@ -559,18 +560,18 @@ fn admitted<J: Reception, E: Ledger, H: HandsOver, L: Hall, G, R: Wait>(
     rt: &R,
     listening: &Mutex<Listening<J, E, H, L, G>>,
     pass: &mut Pass<J, E>,
-    carries: bool,
+    work: Option<LongWork>,
 ) -> Admission<L::In, L::Out, G, H::Front>
     ensures admits { Admits (IsExpectedCall (try_halves_of L.In.TrySource L.Out.TrySink) J.opening.past)
         (IsWaiting L.In.TrySource L.Out.TrySink (conduct_by H.Host) (counting_of H.counted H.none H.plus)
         (terms_by J.Reception) J.opening.past H.Front.known) result pass.old pass.new }
-    ensures idle { carries ≡ false → IsNotLeft result }
+    ensures idle { is_some work ≡ false → IsNotLeft result }
 {
     let mut kept = listening.lock(rt);
-    kept.admit(pass, carries)
+    kept.admit(pass, work)
 }
 
-/// Whether the guest of a place was kept for the worker that does what takes long.
+/// Whether the guest of a place was kept for a worker that does what takes long.
 fn kept_waiting<J: Reception, E: Ledger, H: HandsOver, L: Hall, G, R: Wait>(
     rt: &R,
     listening: &Mutex<Listening<J, E, H, L, G>>,

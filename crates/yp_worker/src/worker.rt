@@ -1,43 +1,51 @@
 //! A worker of connections.
 
-ghost use Rattle.std.specs.Prelude.{◌≡◌, ◌≤◌};
+ghost use Rattle.std.specs.Prelude.{◌≡◌, ◌≤◌, is_some};
 ghost use Rattle.yp_board.specs.Views.{IsFront};
 
 use crate::catch_up::HandsOver;
+use crate::left::LongWork;
 use std::marker::Model;
 use yp_answer::session::{Buffers, CALLS_MAX};
 
 /// A worker. It answers at most so many records of one connection. What takes long, the making and the fetching of
-/// maps, it does only where that is its work.
+/// maps, it does only where one of these is its work.
 #[derive(Drop)]
 pub struct Worker<H, G> {
     pub(crate) host: H,
     pub(crate) buffers: Buffers,
     pub(crate) gate: G,
     pub(crate) most: u64,
-    pub(crate) carries: bool,
+    pub(crate) work: Option<LongWork>,
 }
 
 impl<H, G> Model for Worker<H, G> {
+    ghost use Rattle.std.specs.Prelude.{is_some};
     ghost use Rattle.yp_worker.specs.Working.{Working};
 
     ghost Value = { Working H };
 
-    ghost view = { λ w. record { host = w.host; most = w.most; carries = w.carries } };
+    ghost view = { λ w. record { host = w.host; most = w.most; carries = is_some w.work } };
 }
 
 impl<H, G> Worker<H, G> {
     /// A worker with this host, and this memory for records and replies.
-    pub fn new(host: H, buffers: Buffers, gate: G, most: u64, carries: bool) -> Worker<H, G>
+    pub fn new(
+        host: H,
+        buffers: Buffers,
+        gate: G,
+        most: u64,
+        work: Option<LongWork>,
+    ) -> Worker<H, G>
         requires { most ≤ CALLS_MAX }
-        ensures { result ≡ record { host = host; most = most; carries = carries } }
+        ensures { result ≡ record { host = host; most = most; carries = is_some work } }
     {
         Worker {
             host,
             buffers,
             gate,
             most,
-            carries,
+            work,
         }
     }
 
@@ -52,7 +60,7 @@ impl<H, G> Worker<H, G> {
             buffers: _,
             gate: _,
             most: _,
-            carries: _,
+            work: _,
         } = self;
         host
     }

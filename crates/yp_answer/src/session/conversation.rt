@@ -5,7 +5,7 @@
 //! transfer is carried out, before the replies to all of them are out. What happens between two moments stands on
 //! [`Conversation::advance`], and what all of that comes to on the cuts that it speaks of.
 
-ghost use Rattle.std.specs.Prelude.{◌≡◌, ◌≢◌, [], true, false, None, Some, ℕ, length, take, IfSome};
+ghost use Rattle.std.specs.Prelude.{◌≡◌, ◌≢◌, [], true, false, None, Some, ℕ, length, take, IfSome, is_some};
 ghost use Rattle.yp_io.specs.declared.stream.Peer.{Peer};
 ghost use Rattle.yp_rpc.specs.Records.{IsUnfinished};
 ghost use Rattle.yp_rpc.specs.inside.Incoming.{BeginsWith};
@@ -154,6 +154,13 @@ impl<S, K> Conversation<S, K> {
         } else {
             Awaited::Rest
         }
+    }
+
+    /// Whether a transfer waits until what is owed before it is paid, or until it is carried out.
+    pub fn has_transfer(&self) -> bool
+        ensures { result ≡ is_some self.now.waiting }
+    {
+        self.errand.is_some()
     }
 
     /// Whether a record was read whole, or some of what is owed was taken, since this was asked last.

@@ -99,7 +99,7 @@ struct BoardStart {
     readers: u32,
 }
 
-/// What the board of a server begins with. Each worker has a reader: so many of connections, the one that does what
+/// What the board of a server begins with. Each worker has a reader: so many of connections, the two that do what
 /// takes long for them, one for each inbox, and the carrier of what datagrams ask for.
 fn starting<D: Disk>(
     alloc: Global,
@@ -112,7 +112,7 @@ fn starting<D: Disk>(
     ensures catalogue { IfOk result (λ starting. starting.catalog ≡ catalog.now) }
     ensures versions { IfOk result (λ starting.
         map (option_map arc_value) starting.versions.items ≡ versions loaded.now) }
-    ensures readers { IfOk result (λ starting. starting.readers ≡ workers + 2 + inboxes) }
+    ensures readers { IfOk result (λ starting. starting.readers ≡ workers + 3 + inboxes) }
     ensures few { OnOk result (inboxes < 2 ^ 32) }
 {
     let readers = readers_of(workers, inboxes).ok_or(NoMemory)?;
@@ -130,10 +130,10 @@ fn starting<D: Disk>(
 /// many.
 fn readers_of(workers: u32, inboxes: usize) -> Option<u32>
     requires { workers ≤ workers_max }
-    ensures readers { IfSome result (λ readers. readers ≡ workers + 2 + inboxes) }
+    ensures readers { IfSome result (λ readers. readers ≡ workers + 3 + inboxes) }
     ensures few { OnSome result (inboxes < 2 ^ 32) }
 {
-    u32::try_from(inboxes).ok()?.checked_add(workers + 2)
+    u32::try_from(inboxes).ok()?.checked_add(workers + 3)
 }
 
 /// A publisher of level maps, on a board that shows exactly them. From there on its log rises.
@@ -367,7 +367,7 @@ where
     requires moment { C.moment resources.desk.clock ≡ M.moment }
     requires copy { starting.catalog ≡ resources.catalog }
     requires start { map (option_map arc_value) starting.versions.items ≡ versions resources.loaded }
-    requires readers { starting.readers ≡ spec.now.workers + 2 + vec_len resources.inboxes }
+    requires readers { starting.readers ≡ spec.now.workers + 3 + vec_len resources.inboxes }
     requires few { vec_len resources.inboxes < 2 ^ 32 }
     requires count { length resources.loaded ≡ length resources.catalog.maps }
     requires level { All (λ standing. standing ≡ Level) (map (λ kept. kept.standing) resources.loaded) }

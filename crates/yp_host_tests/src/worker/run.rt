@@ -1,6 +1,6 @@
 //! A worker that serves the connections of a hall in memory.
 
-ghost use Rattle.std.specs.Prelude.{◌≡◌, ◌<◌, [], ◌+◌};
+ghost use Rattle.std.specs.Prelude.{◌≡◌, ◌<◌, [], ◌+◌, is_some};
 ghost use Rattle.yp_board.specs.Views.{IsFront};
 ghost use Rattle.yp_answer.specs.inside.session.Hosts.{conduct_by};
 ghost use Rattle.yp_worker.specs.Receptions.{opening_by};
@@ -25,8 +25,8 @@ use yp_io::Hall;
 use yp_memory::MemHall;
 use yp_version::Version;
 use yp_worker::{
-    Gate, HandsOver, ListenerBooks, Listening, OpenGate, Pass, Reception, Tally, Worker, laws,
-    run_beside,
+    Gate, HandsOver, ListenerBooks, Listening, LongWork, OpenGate, Pass, Reception, Tally, Worker,
+    laws, run_beside,
 };
 
 // NULL of YP (RFC 5531 section 9, yp.x), and its reply; MATCH of `alpha` in passwd.byname of `d`, and its replies with
@@ -94,7 +94,7 @@ where
     };
     let mut pass = Pass::new(share, mine);
     let none = none_of::<N, R>(&host.reader);
-    let mut worker = worker(rt, alloc, host, gate, true);
+    let mut worker = worker(rt, alloc, host, gate, Some(LongWork::Makes));
     let listening = Mutex::new(Listening::<J, E, ReaderHost<'r, N, R>, MemHall, G>::new(
         alloc, listen, books, none, 0,
     ));
@@ -140,11 +140,11 @@ where
         alloc, listen, books, none, 1,
     ));
     let first = (
-        worker(rt, alloc, hosts.0, OpenGate, false),
+        worker(rt, alloc, hosts.0, OpenGate, None),
         Pass::new(mine, my_ends),
     );
     let second = (
-        worker(rt, alloc, hosts.1, OpenGate, true),
+        worker(rt, alloc, hosts.1, OpenGate, Some(LongWork::Makes)),
         Pass::new(theirs, their_ends),
     );
     let ((mut pass, _), (other, _)) = run_beside(rt, &listening, first, second);
@@ -192,11 +192,17 @@ fn none_of<N: Naming, R: Wait>(reader: &Reader<N>) -> Handed<N>
 }
 
 // A worker with this host, which answers at most 12 records of a connection.
-fn worker<H, G>(rt: &impl Abort, alloc: Global, host: H, gate: G, carries: bool) -> Worker<H, G>
-    ensures { result ≡ record { host = host; most = 12; carries = carries } }
+fn worker<H, G>(
+    rt: &impl Abort,
+    alloc: Global,
+    host: H,
+    gate: G,
+    work: Option<LongWork>,
+) -> Worker<H, G>
+    ensures { result ≡ record { host = host; most = 12; carries = is_some work } }
 {
     let buffers = Buffers::new(alloc).expect(rt, "buffers");
-    Worker::new(host, buffers, gate, 12, carries)
+    Worker::new(host, buffers, gate, 12, work)
 }
 
 // Covers what each connection was answered on: it is a front of what is shown.

@@ -25,18 +25,51 @@ fn inbox_of(rt: &impl Abort, alloc: Global, mail: &[Mail]) -> MemInbox {
     MemInbox::new(alloc, mail_of(rt, alloc, mail), failing)
 }
 
-// A map that is to be made, a transfer, and a look-up behind them.
-static MAIL: [Mail; 3] = [
-    (OWN_HOST, 700, "MAKE", 0),
-    (OWN_HOST, 701, "XFR", 0),
-    (OWN_HOST, 701, "NULL", 0),
-];
+// The datagrams, whether a carrier attends before they come, what is answered in the turns, and what by the carrier.
+struct Row {
+    name: &'static str,
+    mail: &'static [Mail],
+    attends: bool,
+    turns: &'static str,
+    behind: &'static str,
+}
+
+const MAKE: Mail = (OWN_HOST, 700, "MAKE", 0);
+
+const TRANSFER: Mail = (OWN_HOST, 701, "XFR", 0);
+
+const LOOK_UP: Mail = (OWN_HOST, 701, "NULL", 0);
+
+static BESIDE_A_CARRIER: Row = Row {
+    name: "a make holds up no look-up",
+    mail: &[MAKE, TRANSFER, LOOK_UP],
+    attends: true,
+    turns: "TO_701 TAKEN TO_701 NULL_REPLY",
+    behind: "TO_700 NOT_MADE",
+};
+
+static BEFORE_A_CARRIER: Row = Row {
+    name: "a make where no carrier attends",
+    mail: &[MAKE, TRANSFER, LOOK_UP],
+    attends: false,
+    turns: "TO_700 NOT_MADE TO_701 TAKEN TO_701 NULL_REPLY",
+    behind: "",
+};
+
+static BEHIND_A_TRANSFER: Row = Row {
+    name: "a make that doesn't wait for a transfer",
+    mail: &[TRANSFER, MAKE, LOOK_UP],
+    attends: true,
+    turns: "TO_701 TAKEN TO_700 NOT_MADE TO_701 NULL_REPLY",
+    behind: "",
+};
 
 // Runs a server for all of these turns, and then a carrier, which attends already where that is said.
 fn run_both<'r, J: Site, N: Naming, R: Wait + Abort>(
     rt: &'r R,
     alloc: Global,
     hosts: (ReaderHost<'r, N, R>, ReaderHost<'r, N, R>),
+    mail: &[Mail],
     attends: bool,
 ) -> Came
     requires first { hosts.0.reader.catalogue ≡ J.catalogue }
@@ -54,7 +87,7 @@ fn run_both<'r, J: Site, N: Naming, R: Wait + Abort>(
         carrier.carry_all_that_come();
     }
     let mut server = MailServer::new(alloc, host, &pending, part, rt);
-    let mut inbox = inbox_of(rt, alloc, &MAIL);
+    let mut inbox = inbox_of(rt, alloc, mail);
     let mut room = Room::new(alloc).expect(rt, "memory for turns");
     let _ = serve_mail(&mut inbox, &mut server, &mut room, 3);
     let (host, part) = server.into_parts();
@@ -68,48 +101,34 @@ fn both<N: Naming, R: RandomSource + Wait + Abort>(
     rt: &R,
     alloc: Global,
     opened: Opened,
-    attends: bool,
+    row: &Row,
 ) -> Came
     requires { opened ≡ N.book }
 {
     let hosts = two_hosts::<N, R>(rt, alloc, opened, &[]);
-    run_both::<Brand, N, R>(rt, alloc, hosts, attends)
+    run_both::<Brand, N, R>(rt, alloc, hosts, row.mail, row.attends)
 }
 
-// What is answered in the turns, and what the carrier answers behind them.
-fn check<R: RandomSource + Wait + Abort>(
-    rt: &R,
-    alloc: Global,
-    attends: bool,
-    turns: &str,
-    behind: &str,
-) {
-    let (carried, own, inbox, outbox) = both::<Brand, R>(rt, alloc, Opened::new(), attends);
-    assert_same(rt, &(carried, own), &(1, 0), "who carries out");
-    let wanted = named(rt, alloc, NAMES, turns);
-    assert_same(
-        rt,
-        &sent(rt, alloc, inbox.letters()),
-        &wanted,
-        "in the turns",
-    );
-    let wanted = named(rt, alloc, NAMES, behind);
-    assert_same(
-        rt,
-        &sent(rt, alloc, outbox.letters()),
-        &wanted,
-        "behind them",
-    );
+fn try_row<R: RandomSource + Wait + Abort>(rt: &R, alloc: Global, row: &Row) {
+    let (carried, own, inbox, outbox) = both::<Brand, R>(rt, alloc, Opened::new(), row);
+    assert_same(rt, &(carried, own), &(1, 0), row.name);
+    let turns = named(rt, alloc, NAMES, row.turns);
+    assert_same(rt, &sent(rt, alloc, inbox.letters()), &turns, row.name);
+    let behind = named(rt, alloc, NAMES, row.behind);
+    assert_same(rt, &sent(rt, alloc, outbox.letters()), &behind, row.name);
 }
 
 #[test]
 fn a_make_holds_up_no_look_up(rt: HostRuntime) {
-    let turns = "TO_701 TAKEN TO_701 NULL_REPLY";
-    check(&rt, rt.alloc(), true, turns, "TO_700 NOT_MADE");
+    try_row(&rt, rt.alloc(), &BESIDE_A_CARRIER);
 }
 
 #[test]
 fn a_make_where_no_carrier_attends(rt: HostRuntime) {
-    let turns = "TO_700 NOT_MADE TO_701 TAKEN TO_701 NULL_REPLY";
-    check(&rt, rt.alloc(), false, turns, "");
+    try_row(&rt, rt.alloc(), &BEFORE_A_CARRIER);
+}
+
+#[test]
+fn a_make_waits_for_no_transfer(rt: HostRuntime) {
+    try_row(&rt, rt.alloc(), &BEHIND_A_TRANSFER);
 }

@@ -11,11 +11,14 @@ use Rattle.yp_board.specs.Logs.{Log}
 use Rattle.yp_board.specs.Views.{IsFront}
 use Rattle.yp_io.specs.declared.ready.TrySource as try_source
 use Rattle.yp_io.specs.declared.ready.TrySink as try_sink
+use Rattle.yp_answer.specs.Transfer.{Taken}
 use Rattle.yp_answer.specs.session.Hosts.{Conduct}
 use Rattle.yp_answer.specs.session.Wires.{Wire}
 use Rattle.yp_answer.specs.session.Cuts.{Deed, IsCut}
 use Rattle.yp_answer.specs.inside.session.Cuts.{SeesOn, cut_of, told_by}
 use Rattle.yp_answer.specs.inside.session.Errands.{IsDue}
+use Rattle.yp_worker.specs.declared.left.LongWork.{LongWork}
+use Rattle.yp_worker.specs.declared.left.LongWork.TheVariants.{Makes, Transfers}
 use Rattle.yp_worker.specs.declared.tally.Tally.{Tally}
 use Rattle.yp_worker.specs.Working.{Working, WorkerStep, Did, IsOwnStep, deeds_of, TakesSteps}
 use Rattle.yp_worker.specs.Receptions.{Terms, IsUnder, IsExpected}
@@ -171,6 +174,11 @@ module _ {H T S K : Type 0} (source : try_source.Ghosts S) (sink : try_sink.Ghos
 
 -- ---- a guest between two workers
 
+-- what takes long for a guest that can't go on before: the transfer that waits, and else a map that may be made
+abbrev pub long_work_in : Option Taken → LongWork
+long_work_in (Some taken) = Transfers
+long_work_in None = Makes
+
 module _ {H T S K F : Type 0} (source : try_source.Ghosts S) (sink : try_sink.Ghosts K) (conduct : Conduct H)
     (counting : Counting H T) (terms : Terms) (past : Option ListenerHistory) (kept : F → Log) where
   -- A guest waits behind the deeds of the worker that left it. What waits of it is a transfer of the maps.
@@ -182,12 +190,16 @@ module _ {H T S K F : Type 0} (source : try_source.Ghosts S) (sink : try_sink.Gh
     pub covered : IsFront known (kept waiting.front)
     pub due : IfSome waiting.guest.talk.waiting (IsDue (length terms.catalogue.maps))
 
--- The guest at a key left its worker, which holds one less that is out.
-pub record IsKept {S K : Type 0} (key : ℕ) (old new : Slab (GuestState S K)) (before after : Passed) : Type 0 where
+-- The guest at a key was taken out.
+pub record IsTakenOut {S K : Type 0} (key : ℕ) (old new : Slab (GuestState S K)) : Type 0 where
   pub guest : GuestState S K
   pub found : get old key ≡ Some guest
   pub updates : Updates old new key None
   pub count : slab_len new + 1 ≡ slab_len old
+
+-- The guest at a key left its worker, which holds one less that is out.
+pub record IsKept {S K : Type 0} (key : ℕ) (old new : Slab (GuestState S K)) (before after : Passed) : Type 0 where
+  pub taken_out : IsTakenOut key old new
   pub out : after.out + 1 ≡ before.out
   pub same : after ≡ record before { out = after.out }
 

@@ -2,12 +2,13 @@
 
 use std::sync::{Condvar, Mutex, Wait};
 
-/// How often something was told, how many servers may still leave something, and whether a carrier attends.
+/// How often something was told, how many servers may still leave something, and whether a carrier attends that has no
+/// transfer before it.
 #[derive(Drop)]
 struct Tellings {
     told: u64,
     servers: u64,
-    is_attended: bool,
+    is_free: bool,
 }
 
 /// Where servers tell that they left something or that they have ended, and where the carrier waits for that. No clause
@@ -25,7 +26,7 @@ impl Arrivals {
             tellings: Mutex::new(Tellings {
                 told: 0,
                 servers,
-                is_attended: false,
+                is_free: false,
             }),
             changed: Condvar::new(),
         }
@@ -45,14 +46,14 @@ impl Arrivals {
         self.changed.notify_all();
     }
 
-    /// Tells that a carrier attends from now on.
-    pub(crate) fn attend<R: Wait>(&self, rt: &R) {
-        self.tellings.lock(rt).is_attended = true;
+    /// Tells that a transfer comes, for which the source may hold the carrier for long.
+    pub(crate) fn engage<R: Wait>(&self, rt: &R) {
+        self.tellings.lock(rt).is_free = false;
     }
 
-    /// Whether a carrier attends.
-    pub(crate) fn is_attended<R: Wait>(&self, rt: &R) -> bool {
-        self.tellings.lock(rt).is_attended
+    /// Whether a carrier attends that has no transfer before it.
+    pub(crate) fn is_free<R: Wait>(&self, rt: &R) -> bool {
+        self.tellings.lock(rt).is_free
     }
 
     /// How often it was told that something came, for one who looks for it then.
@@ -61,13 +62,15 @@ impl Arrivals {
     }
 
     /// Waits until something came since it was told so often, or until all servers have ended, and answers whether
-    /// something came.
+    /// something came. Who waits is free.
     pub(crate) fn wait_past<R: Wait>(&self, rt: &R, seen: u64) -> bool {
-        let tellings = self
-            .changed
-            .wait_while(rt, self.tellings.lock(rt), |tellings| {
-                tellings.told == seen && tellings.servers > 0
-            });
+        let mut tellings = self.tellings.lock(rt);
+        if tellings.told == seen {
+            tellings.is_free = true;
+        }
+        let tellings = self.changed.wait_while(rt, tellings, |tellings| {
+            tellings.told == seen && tellings.servers > 0
+        });
         tellings.told != seen
     }
 }

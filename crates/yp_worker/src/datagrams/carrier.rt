@@ -153,7 +153,6 @@ impl<'a, I: Inbox, J: Site, F: Known, H: HandsOver<Front = F>, R: Wait> Carrier<
         ensures { CarriesOn (conduct_by H.Host) H.counted (box_by I.Inbox) I.faults self.old self.new }
     {
         let rt = self.rt;
-        self.pending.attend(rt);
         for _ in rt.forever() {
             let told = self.pending.told(rt);
             if !self.carry_oldest() && !self.pending.wait_past(rt, told) {

@@ -205,14 +205,15 @@ impl<J: Site, F: Known> DeferredQueue<J, F> {
         self.arrivals.end(rt);
     }
 
-    /// Tells that a carrier attends from now on.
-    pub(crate) fn attend<R: Wait>(&self, rt: &R) {
-        self.arrivals.attend(rt);
+    /// Tells that a transfer comes, for which the source may hold the carrier for long.
+    pub(crate) fn engage<R: Wait>(&self, rt: &R) {
+        self.arrivals.engage(rt);
     }
 
-    /// Whether a carrier attends. Where none does, what is left waits until all servers have ended.
-    pub(crate) fn is_attended<R: Wait>(&self, rt: &R) -> bool {
-        self.arrivals.is_attended(rt)
+    /// Whether a carrier attends that has no transfer before it. Where none does, what is left may wait for long, or
+    /// until all servers have ended.
+    pub(crate) fn is_free<R: Wait>(&self, rt: &R) -> bool {
+        self.arrivals.is_free(rt)
     }
 
     /// How often something was left, for one who looks for it then.

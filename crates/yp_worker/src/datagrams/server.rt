@@ -39,6 +39,7 @@ fn leave_or_carry_out<J: Site, H: HandsOver, R: Wait>(
     ensures left { pass.new ≡ held_behind pass.old (left_where result (Some transfer)) [] }
 {
     let (errand, peer) = transfer;
+    pending.engage(rt);
     match pending.leave(rt, pass, Deferred::of_transfer(errand, peer)) {
         Ok(()) => false,
         Err(back) => match back.into_work() {
@@ -56,7 +57,8 @@ fn leave_or_carry_out<J: Site, H: HandsOver, R: Wait>(
 /// out at once. What still waits where a datagram is heard is dropped.
 ///
 /// A call for which a map may have to be made is left in the queue in place of a reply, so that it holds up no other.
-/// Where there is no carrier, no room or no memory for that, it is answered as any other is.
+/// Where there is no carrier, or one that has a transfer before it, or no room or no memory for that, it is answered as
+/// any other is.
 ///
 /// It is seen as its host, the transfer that waits, and what it holds of the queue.
 #[derive(Drop)]
@@ -147,7 +149,7 @@ impl<'a, J: Site, F: Known, H: HandsOver<Front = F>, R: Wait> MailServer<'a, J, 
         if !may_make(&Path::Datagram, from, mail) {
             return false;
         }
-        if !self.pending.is_attended(self.rt) {
+        if !self.pending.is_free(self.rt) {
             return false;
         }
         let Ok(message) = mail.to_vec(self.alloc) else {

@@ -31,7 +31,7 @@ run_workers-listen-requires-clause-manned g c κs within =
     let count =
     AllZip-long (BeginsMail conduct count_told g.J.Site.catalogue g.J.Reception.starts c.args.self.now.pending.now turns) inboxes added.0 added.2 in (
       added.0,
-      manned added.0 before_work (length c.args.worker_resources.memory.all_buffers.items) g.J.Ledger.parts _ c.requires.some.0
+      manned added.0 before_work (length c.args.worker_resources.memory.all_buffers.items) g.J.Ledger.parts _ (let some = c.requires.some.0 in omega (arith, some))
           (sym parts.1 ∙ parts.2) added.1,
       omega (arith, count, room.1),
       omega (arith, count, room.2),
@@ -110,7 +110,7 @@ returns-clause-counted g c = λ log reached.
     (map box made.2.inboxes.items) (box i) (box made.2.outbox) (counted_by made.3))
     (ap (λ m. m.inbox) c.carrier-carrier.ensures)
     (c.run_workers-listen.ensures.counted inboxes added.0
-    (manned added.0 before_work (length c.args.worker_resources.memory.all_buffers.items) g.J.Ledger.parts _ c.requires.some.0
+    (manned added.0 before_work (length c.args.worker_resources.memory.all_buffers.items) g.J.Ledger.parts _ (let some = c.requires.some.0 in omega (arith, some))
     (sym parts.1 ∙ parts.2) added.1)
     turns begin log reached)
 
@@ -130,7 +130,7 @@ returns-clause-cause g c = λ fails.
     (map g.I.Inbox.faults (made.2.outbox ∷ made.2.inboxes.items)))
     (ap (λ m. m.inbox) c.carrier-carrier.ensures)
     (c.run_workers-listen.ensures.cause inboxes added.0
-    (manned added.0 before_work (length c.args.worker_resources.memory.all_buffers.items) g.J.Ledger.parts _ c.requires.some.0
+    (manned added.0 before_work (length c.args.worker_resources.memory.all_buffers.items) g.J.Ledger.parts _ (let some = c.requires.some.0 in omega (arith, some))
     (sym parts.1 ∙ parts.2) added.1)
     turns begin fails)
 

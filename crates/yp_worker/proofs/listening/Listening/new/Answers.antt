@@ -1,9 +1,6 @@
-use Rattle.std.proofs.Common.{sym, ◌∙◌}
-use Rattle.std.proofs.lemmas.List.Elements.{All-nil}
 use Rattle.yp_answer.specs.session.Hosts.{conduct_of}
 use Rattle.yp_worker.specs.Receptions.{terms_of}
 use Rattle.yp_worker.specs.Summing.{counting_of}
-use Rattle.yp_worker.specs.inside.Guests.{IsWaiting}
 use Rattle.yp_worker.proofs.Receiving.{kept_none}
 use Rattle.yp_worker.proofs.Summing.{sums_none}
 use Rattle.yp_worker.proofs.listening.Listening.new.Goals as goal
@@ -16,7 +13,6 @@ invariant_of-result g c =
       state = rw (c.requires.none_out, c.requires.none_ended, c.requires.opening) (kept_none g.J.Reception.opening);
       sums = rw (c.requires.none_counted, c.requires.opening) (sums_none conduct counting terms g.J.Reception.opening
           (g.H.HandsOver.reached c.args.sum));
-      waits = rw c.new.ensures.items (All-nil (IsWaiting g.L.In.TrySource g.L.Out.TrySink conduct counting terms g.J.Reception.opening.past g.H.Front.Known.known));
-      held = c.requires.held.1 ∙ sym c.new.ensures.len;
+      held = rw c.new.ensures c.requires.held.1;
       one_part = c.requires.held.0;
     }

@@ -32,7 +32,6 @@ invariant_of-self g c =
           (g.L.Hall.closed c.args.closer) (g.L.Hall.closed_count c.args.closer) (g.L.Watch.Watch.let_go c.args.watch)
           c.self.invariant.state.tells c.self.invariant.sums has past returned let_go c.hand_over.ensures.covered
           c.hand_over.ensures.kept);
-      waits = c.self.invariant.waits;
       held = c.self.invariant.held;
       one_part = c.self.invariant.one_part;
     }

@@ -1,4 +1,4 @@
-use Rattle.std.proofs.Common.{refl}
+use Rattle.std.proofs.Common.{is_some, refl}
 use Rattle.yp_answer.specs.session.Hosts.{conduct_of}
 use Rattle.yp_worker.specs.Receptions.{terms_of}
 use Rattle.yp_worker.specs.Summing.{counting_of}
@@ -73,4 +73,4 @@ returns-in-Left-clause-comes g c =
     (rw c.has_room.ensures.same at c.take_over.ensures.door)
 
 pub take_over-requires-clause-carries : goal.take_over-requires-clause-carries
-take_over-requires-clause-carries g c = rw (← c.self.view_is) (must_be c.self.inside.carries (λ no. c.in-Left.ensures.idle no))
+take_over-requires-clause-carries g c = rw (← c.self.view_is) (must_be (is_some c.self.inside.work) (λ no. c.in-Left.ensures.idle no))

@@ -1,4 +1,4 @@
-use Rattle.std.proofs.Common.{◌<◌, refl, arith}
+use Rattle.std.proofs.Common.{◌<◌, is_some, refl, sym, arith}
 use Rattle.yp_answer.specs.session.Hosts.{conduct_of}
 use Rattle.yp_worker.specs.Receptions.{terms_of}
 use Rattle.yp_worker.specs.Summing.{counting_of}
@@ -19,11 +19,11 @@ kept_waiting-requires-clause-waits g c =
     let terms = terms_of g.J.Site.catalogue g.J.Reception.starts g.J.Reception.most in
     if_there (λ guest. IsWaiting g.L.In.TrySource g.L.Out.TrySink conduct counting terms g.J.Reception.opening.past g.H.Front.Known.known (record { guest = guest; front = c.in-Ok.front })) _
     (λ guest there. may_leave g.L.In.TrySource g.L.Out.TrySink conduct counting terms g.J.Reception.opening.past g.H.Front.Known.known _
-    (record { host = c.self.inside.host; most = c.self.inside.most; carries = c.self.inside.carries }) c.args.place guest c.in-Ok.front
-    (rw (← c.self.view_is) at c.requires.served) c.if-self.false c.in-Ok.ensures there)
+    (record { host = c.self.inside.host; most = c.self.inside.most; carries = is_some c.self.inside.work }) c.args.place guest c.in-Ok.front
+    (rw (← c.self.view_is) at c.requires.served) (sym c.if-is_some.ensures) c.in-Ok.ensures there)
 
-pub returns-then-self-clause-comes : goal.returns-then-self-clause-comes
-returns-then-self-clause-comes g c =
+pub returns-then-is_some-clause-comes : goal.returns-then-is_some-clause-comes
+returns-then-is_some-clause-comes g c =
     comes_none _ _ _
 
 pub returns-in_default-clause-comes : goal.returns-in_default-clause-comes
@@ -45,10 +45,10 @@ returns-clause-served g c =
     let counting = counting_of g.H.CatchUp.counted g.H.HandsOver.none g.H.HandsOver.plus in
     let terms = terms_of g.J.Site.catalogue g.J.Reception.starts g.J.Reception.most in
     let kept = c.kept_waiting.ensures.kept c.if-not-kept_waiting.false in
-    rw c.leave.ensures.let_go (is_left g.L.In.TrySource g.L.Out.TrySink conduct counting terms g.J.Reception.opening.past _ _ c.args.self.now c.args.place kept.guest
-    c.requires.served (rw (← c.self.view_is) c.if-self.false) refl kept.found kept.updates kept.count)
+    rw c.leave.ensures.let_go (is_left g.L.In.TrySource g.L.Out.TrySink conduct counting terms g.J.Reception.opening.past _ _ c.args.self.now c.args.place kept.taken_out.guest
+    c.requires.served (rw (← c.self.view_is) (sym c.if-is_some.ensures)) refl kept.taken_out.found kept.taken_out.updates kept.taken_out.count)
 
 pub returns-clause-comes : goal.returns-clause-comes
 returns-clause-comes g c =
     let kept = c.kept_waiting.ensures.kept c.if-not-kept_waiting.false in
-    comes_less _ _ _ _ _ _ kept.same kept.out (omega (arith, kept.count)) refl
+    comes_less _ _ _ _ _ _ kept.same kept.out (omega (arith, kept.taken_out.count)) refl

@@ -1,4 +1,4 @@
-use Rattle.std.proofs.Common.{refl, arith}
+use Rattle.std.proofs.Common.{is_some, refl, arith}
 use Rattle.yp_answer.specs.session.Hosts.{conduct_of}
 use Rattle.yp_worker.specs.Receptions.{terms_of}
 use Rattle.yp_worker.specs.Summing.{counting_of}
@@ -21,7 +21,7 @@ admit-requires-in-Quiet-clause-under g c =
     let conduct = conduct_of g.H.View.seen g.H.Host.told g.H.Host.counts g.H.View.stepped g.H.Host.made g.H.Host.carried in
     let counting = counting_of g.H.CatchUp.counted g.H.HandsOver.none g.H.HandsOver.plus in
     let terms = terms_of g.J.Site.catalogue g.J.Reception.starts g.J.Reception.most in
-    told_under conduct g.H.CatchUp.counted terms (record { host = c.self.inside.host; most = c.self.inside.most; carries = c.self.inside.carries }) _
+    told_under conduct g.H.CatchUp.counted terms (record { host = c.self.inside.host; most = c.self.inside.most; carries = is_some c.self.inside.work }) _
     (rw (← c.self.view_is) at c.requires.under) (record { learned = c.catch_up.ensures.learned; counts = c.catch_up.ensures.counts; kept = c.catch_up.ensures.counted }) refl
 
 pub admit-requires-in-Quiet-clause-served : goal.admit-requires-in-Quiet-clause-served
@@ -29,7 +29,7 @@ admit-requires-in-Quiet-clause-served g c =
     let conduct = conduct_of g.H.View.seen g.H.Host.told g.H.Host.counts g.H.View.stepped g.H.Host.made g.H.Host.carried in
     let counting = counting_of g.H.CatchUp.counted g.H.HandsOver.none g.H.HandsOver.plus in
     let terms = terms_of g.J.Site.catalogue g.J.Reception.starts g.J.Reception.most in
-    rw c.in-Quiet.ensures.let_go (learns g.L.In.TrySource g.L.Out.TrySink conduct counting terms g.J.Reception.opening.past _ (record { host = c.self.inside.host; most = c.self.inside.most; carries = c.self.inside.carries }) _
+    rw c.in-Quiet.ensures.let_go (learns g.L.In.TrySource g.L.Out.TrySink conduct counting terms g.J.Reception.opening.past _ (record { host = c.self.inside.host; most = c.self.inside.most; carries = is_some c.self.inside.work }) _
     (record { learned = c.catch_up.ensures.learned; counts = c.catch_up.ensures.counts; kept = c.catch_up.ensures.counted }) refl (rw (← c.self.view_is) at c.requires.served))
 
 pub returns-in-Late-clause-grown : goal.returns-in-Late-clause-grown

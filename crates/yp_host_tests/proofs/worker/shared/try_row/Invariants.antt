@@ -1,4 +1,4 @@
-use Rattle.yp_host_tests.proofs.worker.shared.check.Given as goal
+use Rattle.yp_host_tests.proofs.worker.shared.try_row.Given as goal
 
 -- the book that was just opened
 abbrev pub ghosts-both : goal.ghosts-both
