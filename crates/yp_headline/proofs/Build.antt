@@ -1,5 +1,5 @@
 -- What `build` and `load` do is what the headline says.
-use Rattle.std.proofs.Common.{◌≡◌, ℕ, Bool, true, false, cond, List, [], Option, Some, None, Result, Ok, Err, refl, sym, ap, ◌∙◌, subst, inl, inr, ⊎_elim}
+use Rattle.std.proofs.Common.{◌≡◌, ℕ, Bool, true, false, cond, List, Option, Some, None, Result, Ok, Err, refl, sym, ap, ◌∙◌, subst, inl, inr, ⊎_elim}
 use Rattle.std.specs.Prelude.{IfSome, IsTrue, ◌==◌}
 use Rattle.yp_io.specs.Disk.{History, IsImage, LeftBetween, MayLeave, LeavesOnly}
 use Rattle.yp_version.specs.Versions.{MapVersion}
@@ -14,8 +14,8 @@ use Rattle.yp_command.specs.office.Seeing.{Seeing, output, history, moment}
 use Rattle.yp_command_maps.specs.Build.{Job, BuildInputs, build_inputs, Unplanned, IsSpent, IsLong, offered, with_generation, over, planned, IsBeforeOrPlanned, PlanIsStored, AtBuildInputs, Builds, tells_stored}
 use Rattle.yp_headline.specs.World.{World}
 use Rattle.yp_headline.specs.Publishing.{IsNew}
-use Rattle.yp_headline.specs.inside.Files.{file_world, file_log, file_log_with}
-use Rattle.yp_headline.specs.inside.Laws.{FileCrashes, JobHolds}
+use Rattle.yp_headline.specs.inside.Files.{FileRun, file_world, file_log, file_log_with}
+use Rattle.yp_headline.specs.inside.Laws.{build_run, FileCrashes, JobHolds}
 use Rattle.yp_headline.proofs.Built.{FromText, from_text}
 use Rattle.yp_headline.proofs.Single.{IsLeft, left_crashes, stored_crashes, shown_first}
 
@@ -57,8 +57,11 @@ module _ (job : Job) (text : List ℕ) (now : ℕ) (h h' : History) (held : Opti
   abbrev inputs : BuildInputs
   inputs = build_inputs text now h
 
+  abbrev run : FileRun
+  run = build_run job text h h'
+
   abbrev world : Bool → World
-  world told = file_world job.name job.store (λ name. Some text) (λ name. job.reading) [] told h h'
+  world told = file_world run told
 
   abbrev made_of : Result MapVersion Unplanned → Option MapVersion
   made_of (Ok version) = Some version
@@ -97,7 +100,7 @@ module _ (job : Job) (text : List ℕ) (now : ℕ) (h h' : History) (held : Opti
   module _ (old new : Option History) (was : old ≡ Some h) (is : new ≡ Some h')
       (leaves : LeavesOnly old new (IsBeforeOrPlanned job inputs old)) where
     each : (image : List ℕ) → LeftBetween (Some h) (Some h') image
-        → IsLeft job.name job.store (λ name. Some text) (λ name. job.reading) [] h h' held made image
+        → IsLeft run held made image
     each image left =
         let here = subst (λ (o : Option History). LeavesOnly (Some h) o (IsBeforeOrPlanned job inputs (Some h))) is
         (subst (λ (o : Option History). LeavesOnly o new (IsBeforeOrPlanned job inputs o)) was leaves) in
@@ -117,13 +120,13 @@ module _ (job : Job) (text : List ℕ) (now : ℕ) (h h' : History) (held : Opti
         → FileCrashes (world told) held
     by_told status before after false told builds stored = record {
       log = file_log held;
-      crashes = left_crashes job.name job.store (λ name. Some text) (λ name. job.reading) [] h h' held made stood_is (is_new false) each;
+      crashes = left_crashes run held made stood_is (is_new false) each;
     }
     by_told status before after true told builds stored =
         let plan = told_version job inputs status before after told builds in
         record {
           log = file_log_with held plan.0;
-          crashes = stored_crashes job.name job.store (λ name. Some text) (λ name. job.reading) [] h h' held made plan.0
+          crashes = stored_crashes run held made plan.0
               (stored_by plan.0 plan.1 (stored told)) (plan_made (planned job inputs) plan.0 plan.1) stood_is (is_new true) each;
         }
 

@@ -14,7 +14,6 @@ use Rattle.yp_messages.specs.declared.transfer.XfrStat.TheVariants as told
 use Rattle.yp_version.specs.Versions.{MapVersion}
 use Rattle.yp_board.specs.Logs.{Log}
 use Rattle.yp_board.specs.Views.{IsFront}
-use Rattle.yp_answer.specs.declared.procedure.Path.TheVariants.{Stream}
 use Rattle.yp_answer.specs.Numbers.{record_max}
 use Rattle.yp_headline.specs.inside.Tried.{somebody, version_with, order_reply, fetched_bytes, first_log, fetched_log, xfr_call, success_call, success_letter, transfer_world, IsWrongTransfer}
 use Rattle.yp_headline.specs.inside.Files.{streamed}
@@ -24,7 +23,7 @@ use Rattle.yp_headline.specs.Fetching.{Gives}
 use Rattle.yp_headline.specs.Publishing.{IsAmong, IsFetched}
 use Rattle.yp_headline.specs.Serving.{Exchange, BeginsWith}
 use Rattle.yp_headline.specs.Sources.{IsOfSource}
-use Rattle.yp_headline.specs.Calling.{IsCallBack}
+use Rattle.yp_headline.specs.Calling.{IsCallBack, answered_in_stream}
 use Rattle.yp_headline.specs.Headline.{Transfers}
 use Rattle.yp_headline.proofs.Runs.{none_among}
 use Rattle.yp_headline.proofs.Torn.{no_server}
@@ -60,7 +59,7 @@ called_without_call begun log transfers = let is = transfers.called_back (λ non
 
 -- what the one letter of a world shows
 shown_by : (world : World) (one : Exchange) (letter : Letter) (front next : Log)
-    (is : IsCallBack world Stream one letter front front next)
+    (is : IsCallBack world (answered_in_stream one front next) letter)
     → letter.bytes ≡ success_call
     → (version : MapVersion) × (before : Log) × IsFront front before × IsFront (before ++ (is.taken.map, version) ∷ []) next
     × (fetched : IsFetched world version) × IsOfSource world is.taken.map fetched.gives version

@@ -9,7 +9,6 @@ use Rattle.yp_board.specs.Logs.{shown}
 use Rattle.yp_publisher.specs.Standing.{stands_for}
 use Rattle.yp_texts.specs.Builds.{order_after}
 use Rattle.yp_texts.specs.After.{other_master, last_order}
-use Rattle.yp_texts.specs.Readings.{reading_of}
 use Rattle.yp_command.specs.declared.office.status.Status.{Status}
 use Rattle.yp_command.specs.declared.office.status.Status.TheVariants.{Done, WriteFault}
 use Rattle.yp_command.specs.office.Seeing.{Seeing, output, moment}
@@ -17,7 +16,7 @@ use Rattle.yp_command_maps.specs.Build.{tells_stored}
 use Rattle.yp_command_maps.specs.Revnet.{Job, job_of, RevnetInputs, revnet_inputs, ReverseIsPlanned, StandsForVersion, Reverses, AtFiles, AtRevnetInputs, IsBeforeOrMade, store_history, netgroup_history}
 use Rattle.yp_headline.specs.World.{World}
 use Rattle.yp_headline.specs.Publishing.{IsNew}
-use Rattle.yp_headline.specs.inside.Files.{file_world, file_log, file_log_with}
+use Rattle.yp_headline.specs.inside.Files.{FileRun, textless_run, file_world, file_log, file_log_with}
 use Rattle.yp_headline.specs.inside.Laws.{FileCrashes, RevnetHolds}
 use Rattle.yp_headline.proofs.Single.{IsLeft, left_crashes, stored_crashes, shown_first}
 
@@ -47,8 +46,11 @@ same_some a b is = cc
 module _ (name : List ℕ) (store : Name) (h h' n : History) (now : ℕ) (held made : Option MapVersion)
     (stood : stands h.state.reads ≡ stands_for held)
     (planned : IfSome made (ReverseIsPlanned (job_of name store) (revnet_inputs h n now))) where
+  abbrev run : FileRun
+  run = textless_run name store [] h h'
+
   abbrev world : Bool → World
-  world told = file_world name store (λ name. None) reading_of [] told h h'
+  world told = file_world run told
 
   is_new : (told : Bool) (version : MapVersion) → made ≡ Some version → IsNew (world told) 0 (file_log held) version
   is_new told version is =
@@ -65,7 +67,7 @@ module _ (name : List ℕ) (store : Name) (h h' n : History) (now : ℕ) (held m
 
   module _ (old new : Option History) (was : old ≡ Some h) (is : new ≡ Some h') (leaves : LeavesOnly old new (IsBeforeOrMade old made)) where
     each : (image : List ℕ) → LeftBetween (Some h) (Some h') image
-        → IsLeft name store (λ name. None) reading_of [] h h' held made image
+        → IsLeft run held made image
     each image left =
         let here = subst (λ (o : Option History). LeavesOnly (Some h) o (IsBeforeOrMade (Some h) made)) is
         (subst (λ (o : Option History). LeavesOnly o new (IsBeforeOrMade o made)) was leaves) in
@@ -84,13 +86,13 @@ module _ (name : List ℕ) (store : Name) (h h' n : History) (now : ℕ) (held m
         → FileCrashes (world told) held
     by_told status before after false told tells stored = record {
       log = file_log held;
-      crashes = left_crashes name store (λ name. None) reading_of [] h h' held made stood (is_new false) each;
+      crashes = left_crashes run held made stood (is_new false) each;
     }
     by_told status before after true told tells stored =
         let version = told_made (job_of name store) (revnet_inputs h n now) made status before after told tells in
         record {
           log = file_log_with held version.0;
-          crashes = stored_crashes name store (λ name. None) reading_of [] h h' held made version.0
+          crashes = stored_crashes run held made version.0
               (stored_by version.0 version.1 (stored told)) version.1 stood (is_new true) each;
         }
 

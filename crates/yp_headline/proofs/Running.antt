@@ -3,12 +3,9 @@ use Rattle.std.proofs.Common.{◌≡◌, ℕ, ◌-◌, suc, Bool, true, false, L
 use Rattle.yp_io.specs.Disk.{History, IsImage, LeftIn, LeftBetween, states, moment}
 use Rattle.yp_version.specs.Versions.{MapVersion}
 use Rattle.yp_map_file.specs.Stands.{stands}
-use Rattle.yp_board.specs.Catalogues.{Name}
 use Rattle.yp_publisher.specs.Standing.{stands_for}
 use Rattle.yp_texts.specs.declared.kind.Kind.{Kind}
-use Rattle.yp_texts.specs.declared.reading.Reading.{Reading}
 use Rattle.yp_texts.specs.declared.reading.Reading.TheVariants.{Text, Rows}
-use Rattle.yp_texts.specs.Readings.{reading_of}
 use Rattle.yp_command_serve.specs.Served.{Witnessed}
 use Rattle.yp_command_serve.specs.Session.{session_job_of}
 use Rattle.yp_command_serve.specs.serve.Hosting.{OutsideTells}
@@ -26,13 +23,12 @@ use Rattle.yp_command_maps.specs.Build.{Job, job_of, tells_stored, JobDoes}
 use Rattle.yp_command_maps.specs.Revnet.{store_history}
 use Rattle.yp_command_maps.specs.Xfr.{xfr_job_of}
 use Rattle.yp_program.specs.Commands.{AloneDoes, CommandDoes, in_office}
-use Rattle.yp_headline.specs.World.{Dialed}
 use Rattle.yp_headline.specs.Publishing.{IsAmong}
 use Rattle.yp_headline.specs.Headline.{Crashes}
-use Rattle.yp_headline.specs.inside.Files.{dialed_of, walked_of, file_world, file_log, done_where}
+use Rattle.yp_headline.specs.inside.Files.{dialed_of, walked_of, FileRun, textless_run, file_world, file_log, done_where}
 use Rattle.yp_headline.specs.inside.Worlds.{was_served}
 use Rattle.yp_headline.specs.inside.Server.{was_hosted}
-use Rattle.yp_headline.specs.inside.Laws.{BuildHolds}
+use Rattle.yp_headline.specs.inside.Laws.{build_run, BuildHolds}
 use Rattle.yp_headline.specs.inside.Running.{CommandHolds, RunHolds}
 use Rattle.yp_headline.proofs.Runs.{none_among}
 use Rattle.yp_headline.proofs.Once.{once_replies}
@@ -58,16 +54,16 @@ same_kind a b is = cc
 same_some : (a b : History) → Some a ≡ Some b → a ≡ b
 same_some a b is = cc
 
-module _ (own : List ℕ) (name : Name) (text : List ℕ → Option (List ℕ)) (reading : List ℕ → Reading) (wires : List Dialed)
-    (h : History) (held : Option MapVersion) (stood : stands h.state.reads ≡ stands_for held) where
-  quiet : Crashes (file_world own name text reading wires false h h) (file_log held) (file_log held)
-  quiet = left_crashes own name text reading wires h h held None stood (λ version made. absurd cc)
-      (λ image left. inl (at_once h image left))
+module _ (run : FileRun) (held : Option MapVersion) (stood : stands run.old.state.reads ≡ stands_for held) where
+  abbrev unchanged : FileRun
+  unchanged = record run { new = run.old }
 
-  untouched : (h' : History) (told : Bool) → h' ≡ h → told ≡ false
-      → Crashes (file_world own name text reading wires told h h') (file_log held) (file_log held)
-  untouched h' told same none = subst (λ (x : History). Crashes (file_world own name text reading wires told h x) (file_log held) (file_log held))
-      (sym same) (subst (λ (b : Bool). Crashes (file_world own name text reading wires b h h) (file_log held) (file_log held)) (sym none) quiet)
+  quiet : Crashes (file_world unchanged false) (file_log held) (file_log held)
+  quiet = left_crashes unchanged held None stood (λ version made. absurd cc) (λ image left. inl (at_once run.old image left))
+
+  untouched : (told : Bool) → run.new ≡ run.old → told ≡ false → Crashes (file_world run told) (file_log held) (file_log held)
+  untouched told same none = subst (λ (x : History). Crashes (file_world (record run { new = x }) told) (file_log held) (file_log held))
+      (sym same) (subst (λ (b : Bool). Crashes (file_world unchanged b) (file_log held) (file_log held)) (sym none) quiet)
 
 module _ {S K D C A I T : Type 0} (seen : Seeing S K D C A I T) (read : ReadIsBody) (shown : FetchedIsShown) (between : ShownBetween)
     (walked : WalkedIsShown) where
@@ -103,9 +99,9 @@ module _ {S K D C A I T : Type 0} (seen : Seeing S K D C A I T) (read : ReadIsBo
       λ h h' n now was is netgroups moment_is held stood.
       revnet_holds seen name store s old.reached.office new.reached.office does.0.0 h h' n now was is netgroups moment_is held stood
   commanded (Serve own port workers connections count stores hosts log) s old new logged does =
-      λ hosted closed inboxes out wires tell.
-      serve_holds seen read shown between (serve_job_of own connections count stores hosts log) s old.reached new.reached logged does.0 hosted closed
-      inboxes out wires tell
+      λ hosted events tell.
+      serve_holds seen read shown between (serve_job_of own connections count stores hosts log) s old.reached new.reached logged does.0 hosted events
+      tell
   commanded _ s old new logged does = tt
 
   unbuilt : (job : Job) (s : Status) (old new : Office S K D C A I T) → s ≡ status.NoMemory → new ≡ old
@@ -114,7 +110,7 @@ module _ {S K D C A I T : Type 0} (seen : Seeing S K D C A I T) (read : ReadIsBo
       let same : h' ≡ h = same_some h' h (sym is ∙ ap (history seen) stays ∙ was) in
       record {
         log = file_log held;
-        crashes = untouched job.name job.store (λ name. Some text) (λ name. job.reading) [] h held stood h' (tells_stored s) same (ap tells_stored none);
+        crashes = untouched (build_run job text h h') held stood (tells_stored s) same (ap tells_stored none);
       }
 
   -- one for which memory ran out before
@@ -130,7 +126,7 @@ module _ {S K D C A I T : Type 0} (seen : Seeing S K D C A I T) (read : ReadIsBo
       let told : tells_stored s ≡ false = ap tells_stored none in
       record {
         log = file_log held;
-        crashes = untouched name store (λ name. None) reading_of (map dialed_of wires) h held stood h' (tells_stored s) same told;
+        crashes = untouched (textless_run name store (map dialed_of wires) h h') held stood (tells_stored s) same told;
         transfers = record {
           done = λ number among. absurd (none_among number (subst (λ (b : Bool). IsAmong (done_where b) number) told among));
           called_back = λ some. absurd (some refl);
@@ -142,7 +138,7 @@ module _ {S K D C A I T : Type 0} (seen : Seeing S K D C A I T) (read : ReadIsBo
       let told : tells_stored s ≡ false = ap tells_stored none in
       record {
         log = file_log held;
-        crashes = untouched name store (λ name. None) reading_of (walked_of host.1 events ∷ []) h held stood h' (tells_stored s) same told;
+        crashes = untouched (textless_run name store (walked_of host.1 events ∷ []) h h') held stood (tells_stored s) same told;
         transfers = record {
           done = λ number among. absurd (none_among number (subst (λ (b : Bool). IsAmong (done_where b) number) told among));
           called_back = λ some. absurd (some refl);
@@ -154,10 +150,10 @@ module _ {S K D C A I T : Type 0} (seen : Seeing S K D C A I T) (read : ReadIsBo
       let same : h' ≡ h = same_some h' h (sym is ∙ ap (store_history seen) stays ∙ was) in
       record {
         log = file_log held;
-        crashes = untouched name store (λ name. None) reading_of [] h held stood h' (tells_stored s) same (ap tells_stored none);
+        crashes = untouched (textless_run name store [] h h') held stood (tells_stored s) same (ap tells_stored none);
       }
   forgone (Serve own port workers connections count stores hosts log) s old new none stays =
-      λ hosted closed inboxes out wires tell. absurd (let e : false ≡ true = sym (ap was_hosted none) ∙ hosted in cc)
+      λ hosted events tell. absurd (let e : false ≡ true = sym (ap was_hosted none) ∙ hosted in cc)
   forgone _ s old new none stays = tt
 
   pub run_holds : RunHolds seen

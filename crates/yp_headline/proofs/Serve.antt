@@ -47,7 +47,7 @@ use Rattle.yp_headline.specs.Publishing.{IsMarked, IsFetched, IsNew, IsPublished
 use Rattle.yp_headline.specs.Sources.{IsOfSource}
 use Rattle.yp_headline.specs.Headline.{Replies, Crashes, CallBacks}
 use Rattle.yp_headline.specs.inside.Files.{stores_between}
-use Rattle.yp_headline.specs.inside.Server.{IsToldClosed, Heard, closed_in, may_lose, was_hosted, AllTell, serve_world, ServeHolds}
+use Rattle.yp_headline.specs.inside.Server.{IsToldClosed, closed_in, may_lose, was_hosted, ServerEvents, AllTell, serve_world, ServeHolds}
 use Rattle.yp_headline.proofs.Runs.{none_among}
 use Rattle.yp_headline.proofs.Given.{fetched_gives, refetched}
 use Rattle.yp_headline.proofs.Sourced.{stream_throughout, marked_throughout}
@@ -125,8 +125,7 @@ module _ {D : Type 0} (history : D → Option History) (faults : D → ℕ) (P :
 
 module _ {S K D C A I T : Type 0} (seen : Seeing S K D C A I T) (job : Job) (s : Status) (old new : OutsideTells S K D C A I T)
     (logged : List ℕ) (does : ServeDoes seen job s old new logged)
-    (serves : ServesMaps seen job s old new logged) (closed : List ClosedConnection) (inboxes : List Heard)
-    (out : Heard) (wires : List Connected) (tell : AllTell seen old new closed inboxes out wires) where
+    (serves : ServesMaps seen job s old new logged) (events : ServerEvents) (tell : AllTell seen old new events) where
   abbrev olds : List D
   olds = disks_of old.office.disks.items
 
@@ -149,14 +148,14 @@ module _ {S K D C A I T : Type 0} (seen : Seeing S K D C A I T) (job : Job) (s :
   disks_are = serves.is_hosted.served.accounted.traced.traced.leaves.disks_are
 
   -- the connections that were closed
-  connections_served : ConnectionsAreServed (catalogue_of job) begun log closed
+  connections_served : ConnectionsAreServed (catalogue_of job) begun log events.closed
   connections_served =
       let sums = serves.is_hosted.served.accounted.counted.counted.of_connections in
       let ends = map (λ run. ends_of run.stays) sums.worker_runs in
       let ends_are : tell.more_closed ≡ ends = append_cancel_left tell.calls.closed tell.more_closed ends
       (sym tell.closes ∙ told_more old.doors.listen.past new.doors.listen.past tell.calls tell.calls_at_last ends tell.listens
       tell.listens_at_last sums.closed) in
-      let all : closed ≡ flat_map (λ run. ends_of run.stays) sums.worker_runs =
+      let all : events.closed ≡ flat_map (λ run. ends_of run.stays) sums.worker_runs =
       tell.closed_are ∙ ap closed_in ends_are ∙ joined_map sums.worker_runs in
       subst (λ (l : List ClosedConnection). ConnectionsAreServed (catalogue_of job) begun log l) (sym all)
       (all_served (conduct (setup seen job old.office)) count_told (terms_of (catalogue_of job) begun CALLS_MAX) old.doors.listen.past
@@ -178,17 +177,17 @@ module _ {S K D C A I T : Type 0} (seen : Seeing S K D C A I T) (job : Job) (s :
       counts.of_datagrams.each
 
   -- what the inboxes told
-  inboxes_served : MailsAreServed (catalogue_of job) begun log (may_lose s) its count_told taken inboxes out
+  inboxes_served : MailsAreServed (catalogue_of job) begun log (may_lose s) its count_told taken events.inboxes events.out
   inboxes_served =
       boxes_served (catalogue_of job) begun log (may_lose s) its count_told job.turns serves.hosted.inbox_fault
       ((place seen old).boxes) ((place seen new).boxes) ((place seen old).out) ((place seen new).out)
       counts.datagrams counts.deferred
       (may_have_lost serves.hosted s (output seen old.office) (output seen new.office) serves.tells) counts.of_datagrams
-      inboxes tell.hears tell.hears_at_last out tell.hears_out tell.hears_out_at_last
+      events.inboxes tell.hears tell.hears_at_last events.out tell.hears_out tell.hears_out_at_last
 
   module _ (connections : List Connection) (datagrams : List (List Datagram)) where
     abbrev world : World
-    world = serve_world seen job old.office new.office tell.calls.coming wires connections datagrams
+    world = serve_world job tell connections datagrams
 
     abbrev Is : Making
     Is = IsNewBehind (IsBuiltAsNamed (seen.texts.text old.office.texts) (catalogue_of job))
@@ -199,7 +198,7 @@ module _ {S K D C A I T : Type 0} (seen : Seeing S K D C A I T) (job : Job) (s :
       front : List Connected
       wire : Connected
       back : List Connected
-      parts : wires ≡ front ++ wire ∷ back
+      parts : events.wires ≡ front ++ wire ∷ back
       stream : List ℕ
       input : wire.input ≡ Some stream
       gave : BytesGive fetched stream
@@ -212,9 +211,9 @@ module _ {S K D C A I T : Type 0} (seen : Seeing S K D C A I T) (job : Job) (s :
         subst (λ (o : Option Wires). CoversBy P (Some tell.dialed) o 1) tell.dials_at_last
         (subst (λ (o : Option Wires). CoversBy P o (seen.dial.past new.office.dial) 1) tell.dials came) in
         let gains = covers tell.few in
-        let same : gains.gained ≡ wires =
-        append_cancel_left tell.dialed.came gains.gained wires (sym gains.came ∙ tell.wires_are) in
-        let one = one_of P wires (subst (λ (l : List Connected). AtLeast P 1 l) same gains.enough) in
+        let same : gains.gained ≡ events.wires =
+        append_cancel_left tell.dialed.came gains.gained events.wires (sym gains.came ∙ tell.wires_are) in
+        let one = one_of P events.wires (subst (λ (l : List Connected). AtLeast P 1 l) same gains.enough) in
         let input = tell.inputs one.wire (one.front, one.back, one.parts) in
         record {
           front = one.front;
@@ -231,7 +230,7 @@ module _ {S K D C A I T : Type 0} (seen : Seeing S K D C A I T) (job : Job) (s :
         → IsMarked fetched version → IsFetched world version
     given fetched version among marked =
         let one = gave_wire fetched (serves.is_hosted.served.accounted.traced.came fetched among) in
-        by_wire world wires one.front one.back one.wire refl one.parts one.stream one.input fetched version
+        by_wire world events.wires one.front one.back one.wire refl one.parts one.stream one.input fetched version
         (fetched_gives one.gave.wanted one.wire.peer one.stream fetched one.gave.fetched) marked
 
     -- one of a map of the catalogue, which its source showed
@@ -245,7 +244,7 @@ module _ {S K D C A I T : Type 0} (seen : Seeing S K D C A I T) (job : Job) (s :
         let bytes = unwrap_or one.wire.input [] in
         let same : bytes ≡ one.stream = told_input one.wire.input one.stream one.input in
         let got : IsFetched world stored =
-        by_wire world wires one.front one.back one.wire refl one.parts one.stream one.input fetched stored
+        by_wire world events.wires one.front one.back one.wire refl one.parts one.stream one.input fetched stored
         (fetched_gives one.gave.wanted one.wire.peer one.stream fetched one.gave.fetched) marked in (
           got,
           λ name there source.
@@ -339,10 +338,10 @@ served_maps seen job _ old new logged hosted serves = absurd cc
 
 pub serve_holds : {S K D C A I T : Type 0} (seen : Seeing S K D C A I T) → ReadIsBody → FetchedIsShown → ShownBetween
     → ServeHolds seen
-serve_holds seen read shown between job s old new logged does hosted closed inboxes out wires tell =
+serve_holds seen read shown between job s old new logged does hosted events tell =
     let serves = served_maps seen job s old new logged hosted does.serves in
-    let called = connections_served seen job s old new logged does serves closed inboxes out wires tell in
-    let heard = inboxes_served seen job s old new logged does serves closed inboxes out wires tell in
+    let called = connections_served seen job s old new logged does serves events tell in
+    let heard = inboxes_served seen job s old new logged does serves events tell in
     record {
       connections = called.connections;
       are_closed = called.are;
@@ -351,10 +350,10 @@ serve_holds seen read shown between job s old new logged does hosted closed inbo
       are_late = heard.late;
       begun = starts 0 (versions serves.is_hosted.maps);
       log = serves.is_hosted.served.log;
-      replies = replies seen job s old new logged does serves closed inboxes out wires tell called.connections
+      replies = replies seen job s old new logged does serves events tell called.connections
           heard.datagrams called.served heard.served;
-      crashes = crashes seen job s old new logged does serves closed inboxes out wires tell called.connections
+      crashes = crashes seen job s old new logged does serves events tell called.connections
           heard.datagrams;
-      called_back = called_back seen job s old new logged does serves closed inboxes out wires tell called.connections
+      called_back = called_back seen job s old new logged does serves events tell called.connections
           heard.datagrams read shown between heard.took;
     }

@@ -44,15 +44,15 @@ use Rattle.yp_command.specs.declared.office.status.Status.TheVariants as status
 use Rattle.yp_command.specs.office.Disks.{disks_of}
 use Rattle.yp_command.specs.office.Seeing.{Seeing}
 use Rattle.yp_command_serve.specs.Session.{Sessions, service, connection}
-use Rattle.yp_headline.specs.World.{World, Letter}
+use Rattle.yp_headline.specs.World.{World, Letter, Connection as WorldConnection}
 use Rattle.yp_headline.specs.Serving.{Exchange, IsServed}
 use Rattle.yp_headline.specs.Publishing.{IsAmong, IsMarked, IsFetched, IsNew, IsPublishedLog, OfFile, StandsBy}
 use Rattle.yp_headline.specs.Fetching.{Gives}
 use Rattle.yp_headline.specs.Sources.{Source, IsOfSource}
-use Rattle.yp_headline.specs.Calling.{IsCallBack, AreCallBacks, IsCalledBack}
+use Rattle.yp_headline.specs.Calling.{IsCallBack, answered_in_stream, AreCallBacks, IsCalledBack}
 use Rattle.yp_headline.specs.Headline.{Replies, Crashes, Transfers}
 use Rattle.yp_headline.specs.inside.Files.{is_cut, stores_between, streamed}
-use Rattle.yp_headline.specs.inside.Worlds.{cuts_short, was_served, session_world}
+use Rattle.yp_headline.specs.inside.Worlds.{connection_of, was_served, session_world}
 use Rattle.yp_headline.specs.inside.Laws.{WorldHolds, SessionHolds}
 use Rattle.yp_headline.proofs.Runs.{exchange_of, exchanges_of, turns_in, all_callers, chain_reads, front_self, none_among, run_served}
 use Rattle.yp_headline.proofs.Named.{open_is_named}
@@ -78,8 +78,11 @@ module _ {D B E : Type 0} (service : Service D B E) (end : End) (old new : Conne
     (inputs : (wire : Connected) → IsAmong dialed wire → (stream : List ℕ) × (wire.input ≡ Some stream))
     (input : old.wire.source.input ≡ Some came) (output : old.wire.sink.output ≡ Some before)
     (took : new.wire.sink.output ≡ Some (before ++ sent)) where
+  abbrev its_connection : WorldConnection
+  its_connection = record { peer = service.peer; came = came; sent = sent; cut = is_cut end }
+
   abbrev world : World
-  world = session_world service (is_cut end) old new came sent dialed
+  world = session_world service old new its_connection dialed
 
   abbrev log0 : Log
   log0 = log_of service serves.start
@@ -193,8 +196,8 @@ module _ {D B E : Type 0} (service : Service D B E) (end : End) (old new : Conne
       (stores_have service.keeping.history service.keeping.faults old.disks new.disks serves.start.published.maps
       serves.first.opened disks told told') serves.first.log grown
 
-  served_one : IsServed service.catalogue log0 log1 (record { peer = service.peer; came = came; sent = sent; cut = is_cut end })
-  served_one = subst (λ (c : Catalogue). IsServed c log0 log1 (record { peer = service.peer; came = came; sent = sent; cut = is_cut end }))
+  served_one : IsServed service.catalogue log0 log1 its_connection
+  served_one = subst (λ (c : Catalogue). IsServed c log0 log1 its_connection)
       start_catalogue
       (run_served (local_conduct service.keeping service.telling) service.peer CALLS_MAX
       (dialogue_at serves.start old.wire begun) (dialogue_at serves.finish new.wire serves.progress) wires came before sent input
@@ -278,8 +281,8 @@ module _ {D B E : Type 0} (service : Service D B E) (end : End) (old new : Conne
         (entered.stored, entered.before, entered.goes_on, entered.entry, given.fetched, given.of_source read shown between)
 
     call_back : (letter : Letter) (is : IsPosted service serves.start transitions letter)
-        → IsCallBack world Stream (exchange_of service.peer is.transition.turn) letter (log_of service is.middle)
-        (log_of service is.middle) (log_of service is.transition.after)
+        → IsCallBack world (answered_in_stream (exchange_of service.peer is.transition.turn) (log_of service is.middle)
+        (log_of service is.transition.after)) letter
     call_back letter is = record {
       reply = is.answer;
       taken = is.taken;
@@ -313,7 +316,7 @@ module _ {D B E : Type 0} (service : Service D B E) (end : End) (old new : Conne
         let reads = chain_reads (local_conduct service.keeping service.telling) service.peer serves.runs.answered
         (dialogue_at serves.start old.wire begun) serves.runs.last came before input output serves.runs.chain in
         record {
-          connection = record { peer = service.peer; came = came; sent = sent; cut = is_cut end };
+          connection = its_connection;
           among = ([], [], refl);
           exchanges = exchanges;
           callers = all_callers service.peer (turns_in serves.runs.answered);
@@ -339,7 +342,8 @@ module _ {D B E : Type 0} (service : Service D B E) (old new : Connection D E) (
     (input : old.wire.source.input ≡ Some came) (output : old.wire.sink.output ≡ Some before)
     (took : new.wire.sink.output ≡ Some (before ++ sent)) where
   held : ReadIsBody → FetchedIsShown → ShownBetween → (end : End) → ServesConnection service end old new wires
-      → WorldHolds (session_world service (is_cut end) old new came sent dialed)
+      → WorldHolds (session_world service old new
+      (record { peer = service.peer; came = came; sent = sent; cut = is_cut end }) dialed)
   held read shown between end serves = record {
     begun = log_of service serves.start;
     log = log_of service serves.finish;
@@ -352,7 +356,7 @@ module _ {D B E : Type 0} (service : Service D B E) (old new : Connection D E) (
   }
 
   pub by_status : ReadIsBody → FetchedIsShown → ShownBetween → (s : Status) → was_served s ≡ true → Sessions service s old new wires
-      → WorldHolds (session_world service (cuts_short s) old new came sent dialed)
+      → WorldHolds (session_world service old new (connection_of service.peer s came sent) dialed)
   by_status read shown between status.Done served did = held read shown between ends.Clean did
   by_status read shown between (status.Torn at) served did = held read shown between (ends.Torn at) did
   by_status read shown between (status.TooLong at) served did = held read shown between (ends.TooLong at) did

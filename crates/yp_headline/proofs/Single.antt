@@ -4,14 +4,12 @@ use Rattle.std.proofs.lemmas.List.{append-nil}
 use Rattle.yp_io.specs.Disk.{History, IsImage, LeftBetween, MayLeave, states, moment}
 use Rattle.yp_version.specs.Versions.{MapVersion}
 use Rattle.yp_map_file.specs.Stands.{Stored, stands}
-use Rattle.yp_board.specs.Catalogues.{Name}
 use Rattle.yp_board.specs.Logs.{Log, shown}
 use Rattle.yp_publisher.specs.Standing.{stands_for}
-use Rattle.yp_texts.specs.declared.reading.Reading.{Reading}
-use Rattle.yp_headline.specs.World.{World, Dialed}
+use Rattle.yp_headline.specs.World.{World}
 use Rattle.yp_headline.specs.Publishing.{IsAmong, IsNew, OfFile, StandsBy, AreLeft}
 use Rattle.yp_headline.specs.Headline.{Crashes}
-use Rattle.yp_headline.specs.inside.Files.{file_world, file_log, file_log_with}
+use Rattle.yp_headline.specs.inside.Files.{FileRun, file_world, file_log, file_log_with}
 use Rattle.yp_headline.specs.Storing.{stood_for}
 use Rattle.yp_headline.proofs.Stood.{stood as as_stood}
 use Rattle.yp_headline.proofs.Moments.{all_by_first}
@@ -28,10 +26,15 @@ no_item : (number : ℕ) → IsAmong [] number → ⊥
 no_item number ([], back, is) = cc
 no_item number (one ∷ front, back, is) = cc
 
-module _ (own : List ℕ) (name : Name) (text : List ℕ → Option (List ℕ)) (reading : List ℕ → Reading)
-    (wires : List Dialed) (old new : History) (held made : Option MapVersion) where
+module _ (run : FileRun) (held made : Option MapVersion) where
   abbrev world : Bool → World
-  world told = file_world own name text reading wires told old new
+  world told = file_world run told
+
+  abbrev old : History
+  old = run.old
+
+  abbrev new : History
+  new = run.new
 
   -- what a crash may leave, by what was made
   abbrev pub IsLeft : List ℕ → Type 0

@@ -28,7 +28,7 @@ use Rattle.yp_headline.specs.World.{Dialed}
 use Rattle.yp_headline.specs.Answering.{answer, map_call}
 use Rattle.yp_headline.specs.Publishing.{IsMarked}
 use Rattle.yp_headline.specs.Fetching.{SayRows, Hears, Gives}
-use Rattle.yp_headline.specs.Sources.{later_calls, Answers, Source}
+use Rattle.yp_headline.specs.Sources.{later_calls, Inquiry, Answers, Source}
 use Rattle.yp_headline.specs.inside.Files.{streamed, mailed}
 use Rattle.yp_headline.proofs.Runs.{front_self}
 use Rattle.yp_headline.proofs.Sound.{are_served}
@@ -53,6 +53,12 @@ module _ (catalogue : Catalogue) (caller : Peer) (wanted : Wanted) (log : Log) (
   abbrev its_name : Name
   its_name = (wanted.domain, wanted.map)
 
+  abbrev by_stream : Inquiry
+  by_stream = record { catalogue = catalogue; path = Stream; caller = caller }
+
+  abbrev by_mail : Inquiry
+  by_mail = record { catalogue = catalogue; path = Mail; caller = caller }
+
   -- ---- over a stream
 
   -- the version that was shown
@@ -65,7 +71,7 @@ module _ (catalogue : Catalogue) (caller : Peer) (wanted : Wanted) (log : Log) (
       → length wanted.map ≤ name_max → (first last : Log) → IsFront last log → (came order master : List ℕ) (number : ℕ) (rows : List Row)
       (others : List (List ℕ)) → SayRows Stream 3 number rows others → Hears Stream 1 came (order ∷ master ∷ others)
       → answer Stream (maps_on catalogue first) caller (map_call 10 its_name 1) ≡ Bytes order
-      → Answers catalogue Stream caller (later_calls Stream its_name rows) (master ∷ others) first last
+      → Answers by_stream (later_calls Stream its_name rows) (master ∷ others) first last
       → (version : MapVersion) → Fetched wanted (place_of 1 0 came) (Ok version) → Shown first last version
   shown_stream fetched between rises domain map first last to_log came order master number rows (all ∷ again ∷ []) says heard on_first
       others version is =
@@ -147,7 +153,7 @@ module _ (catalogue : Catalogue) (caller : Peer) (wanted : Wanted) (log : Log) (
     ends : last_front known mails ≡ last
 
   goes_by : (source : Peer) (calls replies : List (List ℕ)) (old : Walking) (known last : Log)
-      → Steps source wanted old replies calls → Answers catalogue Mail caller calls replies known last
+      → Steps source wanted old replies calls → Answers by_mail calls replies known last
       → Goes old (came_of old replies) known last
   goes_by source [] [] old known last steps answers = record { mails = []; goes = refl; ends = sym answers }
   goes_by source (call ∷ calls) (bytes ∷ replies) old known last steps answers =
@@ -173,7 +179,7 @@ module _ (catalogue : Catalogue) (caller : Peer) (wanted : Wanted) (log : Log) (
       → (source : Peer) (first last : Log) → IsFront last log → (order master : List ℕ) (rows : List Row) (others : List (List ℕ))
       → Steps source wanted (begun source wanted) (order ∷ master ∷ others) (map_call 10 its_name 1 ∷ later_calls Mail its_name rows)
       → answer Mail (maps_on catalogue first) caller (map_call 10 its_name 1) ≡ Bytes order
-      → Answers catalogue Mail caller (later_calls Mail its_name rows) (master ∷ others) first last
+      → Answers by_mail (later_calls Mail its_name rows) (master ∷ others) first last
       → (draft : Draft) → (came_of (begun source wanted) (order ∷ master ∷ others)).standing ≡ HasEnded (Ok draft)
       → Shown first last (unmarked draft.order draft.master (listed draft.rows))
   shown_mails walked rises domain map source first last to_log order master rows others steps on_first answers draft ended =

@@ -10,7 +10,6 @@ use Rattle.yp_board.specs.Catalogues.{Name}
 use Rattle.yp_board.specs.Logs.{Log}
 use Rattle.yp_publisher.specs.Standing.{stands_for}
 use Rattle.yp_publisher.specs.declared.install.Installed.{Installed}
-use Rattle.yp_texts.specs.Readings.{reading_of}
 use Rattle.yp_transfer.specs.declared.fault.XfrFault.{XfrFault}
 use Rattle.yp_transfer.specs.declared.fault.XfrFault.TheVariants as fault
 use Rattle.yp_transfer.specs.Fetching.{FetchOutcome}
@@ -23,7 +22,7 @@ use Rattle.yp_headline.specs.World.{World, Dialed}
 use Rattle.yp_headline.specs.Fetching.{Gives}
 use Rattle.yp_headline.specs.Publishing.{IsAmong, IsMarked, IsNew, IsFetched}
 use Rattle.yp_headline.specs.Sources.{Source, Succeeded}
-use Rattle.yp_headline.specs.inside.Files.{file_world, file_log, file_log_with}
+use Rattle.yp_headline.specs.inside.Files.{FileRun, textless_run, file_world, file_log, file_log_with}
 use Rattle.yp_headline.specs.inside.Laws.{FileHolds}
 use Rattle.yp_headline.proofs.Runs.{none_among}
 use Rattle.yp_headline.proofs.Single.{IsLeft, left_crashes, stored_crashes, shown_with}
@@ -87,8 +86,11 @@ mark_of version other secure is =
 
 module _ (job : Job) (h h' : History) (old new : Option History) (was : old ≡ Some h) (is : new ≡ Some h')
     (held : Option MapVersion) (stood : stands h.state.reads ≡ stands_for held) (dialed : List Dialed) where
+  abbrev run : FileRun
+  run = textless_run job.name job.store dialed h h'
+
   abbrev pub world : Bool → World
-  world told = file_world job.name job.store (λ name. None) reading_of dialed told h h'
+  world told = file_world run told
 
   -- a server gave the version that was fetched
   pub record Gave (version : MapVersion) : Type 0 where
@@ -118,7 +120,7 @@ module _ (job : Job) (h h' : History) (old new : Option History) (was : old ≡ 
     new_by told (Err why) same version made = absurd cc
 
     each : LeavesOnly old new (IsBeforeOrFetched job file outcome old) → (image : List ℕ) → LeftBetween (Some h) (Some h') image
-        → IsLeft job.name job.store (λ name. None) reading_of dialed h h' held (made_of job file outcome) image
+        → IsLeft run held (made_of job file outcome) image
     each leaves image left =
         let here = subst (λ (o : Option History). LeavesOnly (Some h) o (IsBeforeOrFetched job file outcome (Some h))) is
         (subst (λ (o : Option History). LeavesOnly o new (IsBeforeOrFetched job file outcome o)) was leaves) in
@@ -129,7 +131,7 @@ module _ (job : Job) (h h' : History) (old new : Option History) (was : old ≡ 
     left_holds : LeavesOnly old new (IsBeforeOrFetched job file outcome old) → FileHolds (world false) held
     left_holds leaves = record {
       log = file_log held;
-      crashes = left_crashes job.name job.store (λ name. None) reading_of dialed h h' held (made_of job file outcome) stood
+      crashes = left_crashes run held (made_of job file outcome) stood
           (new_by false outcome refl) (each leaves);
       transfers = record { done = λ number among. absurd (none_among number among); called_back = λ some. absurd (some refl) };
     }
@@ -165,7 +167,7 @@ module _ (job : Job) (h h' : History) (old new : Option History) (was : old ≡ 
     stored_holds : FileHolds (world true) held
     stored_holds = record {
       log = log;
-      crashes = stored_crashes job.name job.store (λ name. None) reading_of dialed h h' held (Some (marked job file version))
+      crashes = stored_crashes run held (Some (marked job file version))
           (marked job file version) (λ image may. all image (subst (λ (o : Option History). MayLeave o image) (sym is) may)) refl stood
           (new_by file file_is (Ok version) gave true (Ok version) refl) (each file file_is (Ok version) gave leaves);
       transfers = record {
@@ -201,7 +203,7 @@ module _ (job : Job) (h h' : History) (old new : Option History) (was : old ≡ 
   pub nothing_holds : LeavesOnly old new (MayLeave old) → FileHolds (world false) held
   nothing_holds leaves = record {
     log = file_log held;
-    crashes = left_crashes job.name job.store (λ name. None) reading_of dialed h h' held None stood (λ version made. absurd cc)
+    crashes = left_crashes run held None stood (λ version made. absurd cc)
         (λ image left. inl ((subst (λ (o : Option History). LeavesOnly (Some h) o (MayLeave (Some h))) is
         (subst (λ (o : Option History). LeavesOnly o new (MayLeave o)) was leaves)).each image left));
     transfers = record { done = λ number among. absurd (none_among number among); called_back = λ some. absurd (some refl) };

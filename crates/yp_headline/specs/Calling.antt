@@ -19,28 +19,42 @@ use Rattle.yp_headline.specs.Serving.{Exchange, BeginsWith}
 use Rattle.yp_headline.specs.Publishing.{IsAmong, IsFetched}
 use Rattle.yp_headline.specs.Sources.{IsOfSource}
 
--- A letter calls back the transfer (yp.x) that a call took on a front of the log. It goes to the host of the caller,
--- and to the port that the call names, or, where that is 0, to any. Where it says SUCC, a version of the map that a
--- server gave was entered behind what was known, and the next front has it.
-pub record IsCallBack (world : World) (path : Path) (one : Exchange) (letter : Letter) (front known next : Log)
-    : Type 0 where
+-- a call that was answered: the path by which it came, its exchange, the front of the log on which it was answered,
+-- what was known before the transfer that it took, and the next front
+pub record AnsweredCall : Type 0 where
+  pub path : Path
+  pub exchange : Exchange
+  pub front : Log
+  pub known : Log
+  pub next : Log
+
+-- A letter calls back the transfer (yp.x) that a call took. It goes to the host of the caller, and to the port that the
+-- call names, or, where that is 0, to any. Where it says SUCC, a version of the map that a server gave was entered
+-- behind what was known, and the next front has it.
+pub record IsCallBack (world : World) (call : AnsweredCall) (letter : Letter) : Type 0 where
   pub reply : List ℕ
   pub taken : Taken
-  pub takes : answer path (maps_on world.catalogue front) one.caller one.call ≡ Takes reply taken
-  pub host : letter.peer.addr ≡ one.caller.addr
+  pub takes : answer call.path (maps_on world.catalogue call.front) call.exchange.caller call.exchange.call
+      ≡ Takes reply taken
+  pub host : letter.peer.addr ≡ call.exchange.caller.addr
   pub port : taken.port ≢ 0 → letter.peer.port ≡ taken.port
   pub stat : XfrStat
   pub says : letter.bytes ≡ call_of resp_xfr taken.transid taken.prog 1 1 (taken.transid, xfr_number stat)
-  pub shows : stat ≡ Succ → (version : MapVersion) × (before : Log) × IsFront known before
-      × IsFront (before ++ (taken.map, version) ∷ []) next
+  pub shows : stat ≡ Succ → (version : MapVersion) × (before : Log) × IsFront call.known before
+      × IsFront (before ++ (taken.map, version) ∷ []) call.next
       × (fetched : IsFetched world version) × IsOfSource world taken.map fetched.gives version
+
+-- one that came in a stream, and was answered on a front of the log: that was known before its transfer
+abbrev pub answered_in_stream : Exchange → (front next : Log) → AnsweredCall
+answered_in_stream one front next =
+    record { path = Stream; exchange = one; front = front; known = front; next = next }
 
 -- Letters call back transfers, each that of an exchange of its own, in their order, on fronts that never go back.
 abbrev pub AreCallBacks : World → List Letter → List Exchange → (known log : Log) → Type 0
 AreCallBacks world [] exchanges known log = IsFront known log
 AreCallBacks world (letter ∷ letters) exchanges known log = (passed : List Exchange) × (one : Exchange)
     × (left : List Exchange) × (front : Log) × (next : Log) × (exchanges ≡ passed ++ one ∷ left) × IsFront known front
-    × IsFront front next × IsCallBack world Stream one letter front front next
+    × IsFront front next × IsCallBack world (answered_in_stream one front next) letter
     × AreCallBacks world letters left next log
 
 -- All that was posted calls back transfers that one connection asked for.
@@ -71,4 +85,10 @@ known_before Mail begun front = begun
 abbrev pub IsAskedFor : World → (begun log : Log) → Letter → Type 0
 IsAskedFor world begun log letter = (path : Path) × (one : Exchange) × CallCame world path one
     × (front : Log) × IsFront begun front × IsFront front log
-    × IsCallBack world path one letter front (known_before path begun front) log
+    × IsCallBack world (record {
+      path = path;
+      exchange = one;
+      front = front;
+      known = known_before path begun front;
+      next = log;
+    }) letter

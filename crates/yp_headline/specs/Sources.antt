@@ -40,13 +40,19 @@ pub record AreNamed (catalogue : Catalogue) : Type 0 where
   pub distinct : IsDistinct (λ a b. bytes_eq a.0 b.0 && bytes_eq a.1 b.1) catalogue.maps
   pub count : length catalogue.maps ≤ 64
 
--- Calls of a caller were answered so in turn, on fronts of a log that go from one up to another.
-abbrev pub Answers : Catalogue → Path → Peer → (calls replies : List (List ℕ)) → (known last : Log) → Type 0
-Answers catalogue path caller [] [] known last = last ≡ known
-Answers catalogue path caller (call ∷ calls) (reply ∷ replies) known last = (front : Log) × IsFront known front
-    × (answer path (maps_on catalogue front) caller call ≡ Bytes reply)
-    × Answers catalogue path caller calls replies front last
-Answers _ _ _ _ _ _ _ = ⊥
+-- the maps of a server, the path on which it is asked for them, and who asks
+pub record Inquiry : Type 0 where
+  pub catalogue : Catalogue
+  pub path : Path
+  pub caller : Peer
+
+-- Its calls were answered so in turn, on fronts of a log that go from one up to another.
+abbrev pub Answers : Inquiry → (calls replies : List (List ℕ)) → (known last : Log) → Type 0
+Answers inquiry [] [] known last = last ≡ known
+Answers inquiry (call ∷ calls) (reply ∷ replies) known last = (front : Log) × IsFront known front
+    × (answer inquiry.path (maps_on inquiry.catalogue front) inquiry.caller call ≡ Bytes reply)
+    × Answers inquiry calls replies front last
+Answers _ _ _ _ _ = ⊥
 
 -- a source of what a server gave: a log that rises, each of whose versions some file stands for, on whose fronts the
 -- calls, with names within their limits, were answered, from a first one to a last one, and these were the replies
@@ -63,8 +69,8 @@ pub record Source (name : Name) {server : Dialed} {version : MapVersion} (gives 
   pub last : Log
   pub to_log : IsFront last log
   pub on_first : answer server.path (maps_on catalogue first) caller (map_call 10 name 1) ≡ Bytes gives.order
-  pub others : Answers catalogue server.path caller (later_calls server.path name gives.rows)
-      (gives.master ∷ gives.others) first last
+  pub others : Answers (record { catalogue = catalogue; path = server.path; caller = caller })
+      (later_calls server.path name gives.rows) (gives.master ∷ gives.others) first last
 
 -- Where what a server gave for a map is of such a source, it showed the stored version throughout, from the first reply
 -- to the last, but for the mark.

@@ -10,6 +10,7 @@ use Rattle.yp_version.specs.Versions.{MapVersion, unmarked}
 use Rattle.yp_board.specs.Catalogues.{Name}
 use Rattle.yp_board.specs.Logs.{Log, starts}
 use Rattle.yp_texts.specs.declared.reading.Reading.{Reading}
+use Rattle.yp_texts.specs.Readings.{reading_of}
 use Rattle.yp_answer.specs.declared.procedure.Path.TheVariants.{Stream, Datagram as Mail}
 use Rattle.yp_answer.specs.declared.session.session.End.{End}
 use Rattle.yp_answer.specs.declared.session.session.End.TheVariants.{Clean, Torn, TooLong}
@@ -88,18 +89,40 @@ abbrev pub done_where : Bool → List ℕ
 done_where true = 0 ∷ []
 done_where false = []
 
--- a command over the file of one map, which it tells as stored or doesn't
-abbrev pub file_world : (own : List ℕ) → Name → (text : List ℕ → Option (List ℕ)) → (reading : List ℕ → Reading)
-    → List Dialed → (stored : Bool) → (old new : History) → World
-file_world own name text reading dialed stored old new = record {
-  catalogue = record { own = own; maps = name ∷ [] };
-  stores = filed (Some old) (Some new) ∷ [];
-  text = text;
-  reading = reading;
+-- a command over one file: the own name and that of the map, the texts by their names and how that of a map is read,
+-- the servers that were asked, and what the disk told at first and at last
+pub record FileRun : Type 0 where
+  pub own : List ℕ
+  pub name : Name
+  pub text : List ℕ → Option (List ℕ)
+  pub reading : List ℕ → Reading
+  pub dialed : List Dialed
+  pub old : History
+  pub new : History
+
+-- one that reads no text
+abbrev pub textless_run : (own : List ℕ) → Name → List Dialed → (old new : History) → FileRun
+textless_run own name dialed old new = record {
+  own = own;
+  name = name;
+  text = λ name. None;
+  reading = reading_of;
+  dialed = dialed;
+  old = old;
+  new = new;
+}
+
+-- its world, where it tells the map as stored or doesn't
+abbrev pub file_world : FileRun → (stored : Bool) → World
+file_world run stored = record {
+  catalogue = record { own = run.own; maps = run.name ∷ [] };
+  stores = filed (Some run.old) (Some run.new) ∷ [];
+  text = run.text;
+  reading = run.reading;
   coming = [];
   connections = [];
   datagrams = [];
-  dialed = dialed;
+  dialed = run.dialed;
   posted = [];
   done = done_where stored;
 }

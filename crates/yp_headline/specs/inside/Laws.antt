@@ -9,7 +9,6 @@ use Rattle.yp_map_file.specs.Stands.{stands}
 use Rattle.yp_board.specs.Catalogues.{Name}
 use Rattle.yp_board.specs.Logs.{Log}
 use Rattle.yp_publisher.specs.Standing.{stands_for}
-use Rattle.yp_texts.specs.Readings.{reading_of}
 use Rattle.yp_command.specs.declared.office.office.Office.{Office}
 use Rattle.yp_command.specs.declared.office.status.Status.{Status}
 use Rattle.yp_command.specs.declared.office.status.Status.TheVariants.{NoMemory}
@@ -30,8 +29,8 @@ use Rattle.yp_command_serve.specs.Session.{Job as SessionJob}
 use Rattle.yp_headline.specs.World.{World}
 use Rattle.yp_headline.specs.Publishing.{IsAmong}
 use Rattle.yp_headline.specs.Headline.{Replies, Crashes, Transfers}
-use Rattle.yp_headline.specs.inside.Files.{dialed_of, walked_of, file_world, file_log}
-use Rattle.yp_headline.specs.inside.Worlds.{once_world, session_world, was_served, cuts_short}
+use Rattle.yp_headline.specs.inside.Files.{dialed_of, walked_of, FileRun, textless_run, file_world, file_log}
+use Rattle.yp_headline.specs.inside.Worlds.{once_world, connection_of, session_world, was_served}
 
 -- An input that is told is a connection that `once` served, on the one version of its words.
 abbrev pub OnceReplies : {S K D C A I T : Type 0} → Seeing S K D C A I T → Type 0
@@ -60,8 +59,7 @@ XfrHolds {S} {K} {D} {C} {A} {I} {T} seen =
     → (dialing seen new).past ≡ Some last
     → length first.back ≤ length first.came → last.came ≡ first.came ++ wires
     → ((wire : Connected) → IsAmong wires wire → (stream : List ℕ) × (wire.input ≡ Some stream))
-    → FileHolds (file_world job.name job.store (λ name. None) reading_of (map dialed_of wires) (tells_stored status)
-    h h') held
+    → FileHolds (file_world (textless_run job.name job.store (map dialed_of wires) h h') (tells_stored status)) held
 
 -- What `walk` does to a file that isn't damaged, where its disk and its inbox tell.
 abbrev pub WalkHolds : {S K D C A I T : Type 0} → Seeing S K D C A I T → Type 0
@@ -71,8 +69,8 @@ WalkHolds {S} {K} {D} {C} {A} {I} {T} seen =
     → (h h' : History) → history seen old ≡ Some h → history seen new ≡ Some h'
     → (held : Option MapVersion) → stands h.state.reads ≡ stands_for held
     → (told events : List InboxEvent) → (box seen old).past ≡ Some told → (box seen new).past ≡ Some (told ++ events)
-    → FileHolds (file_world job.name job.store (λ name. None) reading_of (walked_of job.host.1 events ∷ [])
-    (tells_stored status) h h') held
+    → FileHolds (file_world (textless_run job.name job.store (walked_of job.host.1 events ∷ []) h h')
+    (tells_stored status)) held
 
 -- ---- session
 
@@ -97,8 +95,9 @@ SessionHolds {S} {K} {D} {C} {A} {I} {T} seen =
     → seen.dial.past new.reached.dial ≡ Some last
     → length first.back ≤ length first.came → last.came ≡ first.came ++ wires
     → ((wire : Connected) → IsAmong wires wire → (stream : List ℕ) × (wire.input ≡ Some stream))
-    → WorldHolds (session_world (service seen job.own job.peer job.stores) (cuts_short status)
-    (connection seen job.hosts old.reached) (connection seen job.hosts new.reached) came sent wires)
+    → WorldHolds (session_world (service seen job.own job.peer job.stores)
+    (connection seen job.hosts old.reached) (connection seen job.hosts new.reached)
+    (connection_of job.peer status came sent) wires)
 
 -- ---- build and load
 
@@ -107,6 +106,18 @@ pub record FileCrashes (world : World) (held : Option MapVersion) : Type 0 where
   pub log : Log
   pub crashes : Crashes world (file_log held) log
 
+-- a run of such a command, which reads this text
+abbrev pub build_run : BuildJob → (text : List ℕ) → (old new : History) → FileRun
+build_run job text old new = record {
+  own = job.name;
+  name = job.store;
+  text = λ name. Some text;
+  reading = λ name. job.reading;
+  dialed = [];
+  old = old;
+  new = new;
+}
+
 -- a text is read so, and its version stored
 abbrev pub BuildHolds : {S K D C A I T : Type 0} → Seeing S K D C A I T → BuildJob → Status
     → (old new : Office S K D C A I T) → Type 0
@@ -114,8 +125,7 @@ BuildHolds seen job status old new =
     (text : List ℕ) (h h' : History) (now : ℕ) → input seen old ≡ Some text → history seen old ≡ Some h
     → history seen new ≡ Some h' → moment seen old ≡ Some now
     → (held : Option MapVersion) → stands h.state.reads ≡ stands_for held
-    → FileCrashes (file_world job.name job.store (λ name. Some text) (λ name. job.reading) []
-    (tells_stored status) h h') held
+    → FileCrashes (file_world (build_run job text h h') (tells_stored status)) held
 
 -- What `build` and `load` do to a file that isn't damaged, where their input, their disk and their clock tell.
 abbrev pub JobHolds : {S K D C A I T : Type 0} → Seeing S K D C A I T → Type 0
@@ -133,4 +143,4 @@ RevnetHolds {S} {K} {D} {C} {A} {I} {T} seen =
     → (h h' n : History) (now : ℕ) → store_history seen old ≡ Some h → store_history seen new ≡ Some h'
     → netgroup_history seen old ≡ Some n → moment seen old ≡ Some now
     → (held : Option MapVersion) → stands h.state.reads ≡ stands_for held
-    → FileCrashes (file_world name store (λ name. None) reading_of [] (tells_stored status) h h') held
+    → FileCrashes (file_world (textless_run name store [] h h') (tells_stored status)) held

@@ -10,7 +10,6 @@ use Rattle.yp_publisher.specs.Grown.{AreTold}
 use Rattle.yp_texts.specs.Readings.{reading_of}
 use Rattle.yp_worker.specs.datagrams.Queues.{WeighTheSame}
 use Rattle.yp_worker.specs.datagrams.Serving.{reply_posts}
-use Rattle.yp_command.specs.declared.office.office.Office.{Office}
 use Rattle.yp_command.specs.declared.office.status.Status.{Status}
 use Rattle.yp_command.specs.declared.office.status.Status.TheVariants.{Done, WriteFault, ListenFault, InboxFault}
 use Rattle.yp_command.specs.office.Disks.{disks_of}
@@ -88,11 +87,19 @@ may_lose status = false
 
 -- ---- the whole
 
--- what is told of a server: of its disks all that they were at each moment, the streams that were to come, of each
--- connection that was closed its bytes, what its inboxes told, and the one from which is replied late, and the wires
--- that came of its dial, with their bytes
+-- what happened at a server: the connections that were closed, what its inboxes told, and the one from which is replied
+-- late, and the wires that came of its dial
+pub record ServerEvents : Type 0 where
+  pub closed : List ClosedConnection
+  pub inboxes : List Heard
+  pub out : Heard
+  pub wires : List Connected
+
+-- what is told of a server at which this happened: of its disks all that they were at each moment, the streams that
+-- were to come, of each connection that was closed its bytes, what its inboxes told, and the wires of its dial with
+-- their bytes
 pub record AllTell {S K D C A I T : Type 0} (seen : Seeing S K D C A I T) (old new : OutsideTells S K D C A I T)
-    (closed : List ClosedConnection) (inboxes : List Heard) (out : Heard) (wires : List Connected) : Type 0 where
+    (events : ServerEvents) : Type 0 where
   pub disks : AreTold seen.disk.history (disks_of old.office.disks.items)
   pub disks_at_last : AreTold seen.disk.history (disks_of new.office.disks.items)
   pub calls : ListenerHistory
@@ -102,47 +109,46 @@ pub record AllTell {S K D C A I T : Type 0} (seen : Seeing S K D C A I T) (old n
   pub listens : old.doors.listen.past ≡ Some calls
   pub listens_at_last : new.doors.listen.past ≡ Some calls_at_last
   pub closes : calls_at_last.closed ≡ calls.closed ++ more_closed
-  pub closed_are : closed ≡ closed_in more_closed
-  pub told_closed : AllByRecursion IsToldClosed closed
-  pub hears : map (λ box. box.past) ((place seen old).boxes) ≡ map (λ one. Some one.before) inboxes
+  pub closed_are : events.closed ≡ closed_in more_closed
+  pub told_closed : AllByRecursion IsToldClosed events.closed
+  pub hears : map (λ box. box.past) ((place seen old).boxes) ≡ map (λ one. Some one.before) events.inboxes
   pub hears_at_last : map (λ box. box.past) ((place seen new).boxes)
-      ≡ map (λ one. Some (one.before ++ one.more)) inboxes
-  pub hears_out : old.doors.out.box.past ≡ Some out.before
-  pub hears_out_at_last : new.doors.out.box.past ≡ Some (out.before ++ out.more)
+      ≡ map (λ one. Some (one.before ++ one.more)) events.inboxes
+  pub hears_out : old.doors.out.box.past ≡ Some events.out.before
+  pub hears_out_at_last : new.doors.out.box.past ≡ Some (events.out.before ++ events.out.more)
   pub dialed : Wires
   pub dialed_at_last : Wires
   pub dials : seen.dial.past old.office.dial ≡ Some dialed
   pub dials_at_last : seen.dial.past new.office.dial ≡ Some dialed_at_last
   pub few : length dialed.back ≤ length dialed.came
-  pub wires_are : dialed_at_last.came ≡ dialed.came ++ wires
-  pub inputs : (wire : Connected) → IsAmong wires wire → (stream : List ℕ) × (wire.input ≡ Some stream)
+  pub wires_are : dialed_at_last.came ≡ dialed.came ++ events.wires
+  pub inputs : (wire : Connected) → IsAmong events.wires wire → (stream : List ℕ) × (wire.input ≡ Some stream)
 
--- a server of stored maps, to which these streams were to come, and which served these connections and these datagrams,
--- while these wires came of its dial
-abbrev pub serve_world : {S K D C A I T : Type 0} → Seeing S K D C A I T → Job → (old new : Office S K D C A I T)
-    → (coming wires : List Connected) → List Connection → List (List Datagram) → World
-serve_world seen job old new coming wires connections datagrams = record {
+-- a server of stored maps, of which all is told, and which served these connections and these datagrams
+abbrev pub serve_world : {S K D C A I T : Type 0} {seen : Seeing S K D C A I T} {old new : OutsideTells S K D C A I T}
+    {events : ServerEvents} → Job → AllTell seen old new events → List Connection → List (List Datagram) → World
+serve_world {S} {K} {D} {C} {A} {I} {T} {seen} {old} {new} {events} job tell connections datagrams = record {
   catalogue = catalogue_of job;
-  stores = stores_between seen.disk.history (disks_of old.disks.items) (disks_of new.disks.items);
-  text = seen.texts.text old.texts;
+  stores = stores_between seen.disk.history (disks_of old.office.disks.items) (disks_of new.office.disks.items);
+  text = seen.texts.text old.office.texts;
   reading = reading_of;
-  coming = map incoming_of coming;
+  coming = map incoming_of tell.calls.coming;
   connections = connections;
   datagrams = datagrams;
-  dialed = map dialed_of wires;
-  posted = posted_between (seen.dial.letters old.dial) (seen.dial.letters new.dial);
+  dialed = map dialed_of events.wires;
+  posted = posted_between (seen.dial.letters old.office.dial) (seen.dial.letters new.office.dial);
   done = [];
 }
 
 -- The connections that were closed, and the datagrams that inboxes told, are those of a world, and on one log of it the
 -- headline holds of replies, of crashes and of call backs.
-pub record ServerHolds (world : List Connection → List (List Datagram) → World) (loses : Bool)
-    (closed : List ClosedConnection) (inboxes : List Heard) (out : Heard) : Type 0 where
+pub record ServerHolds (world : List Connection → List (List Datagram) → World) (loses : Bool) (events : ServerEvents)
+    : Type 0 where
   pub connections : List Connection
-  pub are_closed : AllZip IsOfClosed closed connections
+  pub are_closed : AllZip IsOfClosed events.closed connections
   pub datagrams : List (List Datagram)
-  pub are_heard : AllZip (AreOfInbox loses) inboxes datagrams
-  pub are_late : AreLate out datagrams
+  pub are_heard : AllZip (AreOfInbox loses) events.inboxes datagrams
+  pub are_late : AreLate events.out datagrams
   pub begun : Log
   pub log : Log
   pub replies : Replies (world connections datagrams) begun log
@@ -162,7 +168,5 @@ abbrev pub ServeHolds : {S K D C A I T : Type 0} → Seeing S K D C A I T → Ty
 ServeHolds {S} {K} {D} {C} {A} {I} {T} seen =
     (job : Job) (status : Status) (old new : OutsideTells S K D C A I T) (logged : List ℕ)
     → ServeDoes seen job status old new logged → was_hosted status ≡ true
-    → (closed : List ClosedConnection) (inboxes : List Heard) (out : Heard) (wires : List Connected)
-    → (tell : AllTell seen old new closed inboxes out wires)
-    → ServerHolds (serve_world seen job old.office new.office tell.calls.coming wires) (may_lose status) closed inboxes
-    out
+    → (events : ServerEvents) (tell : AllTell seen old new events)
+    → ServerHolds (serve_world job tell) (may_lose status) events

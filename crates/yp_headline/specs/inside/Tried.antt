@@ -417,8 +417,8 @@ pub record HoldsOfRows : Type 0 where
   pub mail_transfer : CallBacks mailed_transfer first_log fetched_log
   pub two_inboxes : Replies (mails_world
       ((matched_mail 118 ∷ matched_mail 119 ∷ []) ∷ (matched_mail 118 ∷ []) ∷ [])) first_log made_log
-  pub late_make : Replies (mails_world ((matched_mail 118 ∷ late_make (Some (make_reply 7 Succ)) ∷ matched_mail 118 ∷ [])
-      ∷ [])) first_log made_log
+  pub late_make : Replies (mails_world
+      ((matched_mail 118 ∷ late_make (Some (make_reply 7 Succ)) ∷ matched_mail 118 ∷ []) ∷ [])) first_log made_log
   pub three_installs : Crashes installing first_log all_log
   pub skewed_source : (came : List ℕ) → Crashes (skewed_world came) first_log first_log
       × Transfers (skewed_world came) first_log first_log

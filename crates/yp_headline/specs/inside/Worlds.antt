@@ -43,16 +43,15 @@ once_world store rows status came sent = record {
 -- ---- session
 
 -- a connection over stored maps that was served to an end, while these wires came of its dial
-abbrev pub session_world : {D B E : Type 0} → Service D B E → (cut : Bool) → (old new : Served D E)
-    → (came sent : List ℕ)
-    → List Connected → World
-session_world service cut old new came sent wires = record {
+abbrev pub session_world : {D B E : Type 0} → Service D B E → (old new : Served D E) → Connection → List Connected
+    → World
+session_world service old new connection wires = record {
   catalogue = service.catalogue;
   stores = stores_between service.keeping.history old.disks new.disks;
   text = (service.telling.told old.desk).text;
   reading = reading_of;
-  coming = record { peer = service.peer; came = came } ∷ [];
-  connections = record { peer = service.peer; came = came; sent = sent; cut = cut } ∷ [];
+  coming = record { peer = connection.peer; came = connection.came } ∷ [];
+  connections = connection ∷ [];
   datagrams = [];
   dialed = map dialed_of wires;
   posted = posted_between (service.telling.dial old.desk).letters (service.telling.dial new.desk).letters;
