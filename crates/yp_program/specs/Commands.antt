@@ -51,7 +51,8 @@ OfficeDoes seen (Portmap port turns) status old new = PortmapDoes seen turns sta
 OfficeDoes seen (CallMapper port turns peer call) status old new =
     MapperDoes seen turns (begun peer call) status old new
 OfficeDoes seen (Ask peer question) status old new = AskDoes seen peer question status old new
-OfficeDoes seen (Orders first others domain) status old new = OrdersDoes seen first others domain status old new
+OfficeDoes seen (Orders first others domain) status old new =
+    OrdersDoes seen (record { first = first; others = others; domain = domain }) status old new
 OfficeDoes seen _ status old new = ⊥
 
 -- what a command that serves no listener does to an office, and what a witness then has seen: no more than before,

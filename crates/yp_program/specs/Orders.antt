@@ -17,23 +17,29 @@ compared_status (Ok true) = Done
 compared_status (Ok false) = No
 compared_status (Err fault) = status_of (Err fault)
 
+-- whom is asked for the orders of a domain: the first server, which names the maps, and the others
+pub record Comparison : Type 0 where
+  pub first : Peer
+  pub others : List Peer
+  pub domain : List ℕ
+
 -- The servers were compared, and what that came to is told by this status. The wires that came fix the result, unless
 -- memory ran out.
-pub record ComparesAs (first : Peer) (others : List Peer) (domain : List ℕ) (status : Status) (old new : QueryTells)
-    : Type 0 where
+pub record ComparesAs (comparison : Comparison) (status : Status) (old new : QueryTells) : Type 0 where
   pub result : Result Bool QueryFault
-  pub compares : Compares first others domain result old new
+  pub compares : Compares comparison.first comparison.others comparison.domain result old new
   pub told : status ≡ compared_status result
 
 -- What `orders` does: it asks each server, on a connection of its own, and prints a line for each map that the first
 -- one names, or tells the first refusal. Where the wires give whole replies that answer its calls, and nothing fails,
 -- it is answered.
-pub record OrdersDoes {S K D C A I T : Type 0} (seen : Seeing S K D C A I T) (first : Peer) (others : List Peer)
-    (domain : List ℕ) (status : Status) (old new : Office S K D C A I T) : Type 0 where
-  pub compares : ComparesAs first others domain status (scene seen old) (scene seen new)
+pub record OrdersDoes {S K D C A I T : Type 0} (seen : Seeing S K D C A I T) (comparison : Comparison) (status : Status)
+    (old new : Office S K D C A I T) : Type 0 where
+  pub compares : ComparesAs comparison status (scene seen old) (scene seen new)
   pub complete : (maps : List (List ℕ)) (stream : List ℕ) (streams : List (List ℕ)) → HasSurvey maps stream
       → EachHasOrders maps streams
-      → HaveCome (first ∷ others) (stream ∷ streams) (seen.dial.past old.dial) (seen.dial.past new.dial)
+      → HaveCome (comparison.first ∷ comparison.others) (stream ∷ streams) (seen.dial.past old.dial)
+      (seen.dial.past new.dial)
       → ¬ DialFails seen old new → ¬ WriteFails seen old new → IsClientAnswer status
   pub read_fault : status ≡ ReadFault → DialFails seen old new
   pub write_fault : status ≡ WriteFault → WriteFails seen old new ⊎ DialFails seen old new

@@ -39,7 +39,7 @@ pub fn compare<S: Source, K: Sink, D: Disk, C: Clock, A: Dial, I: Inbox, T: Text
 ) -> Status
     requires { length domain.now ≤ name_max }
     ensures does { OrdersDoes (seeing S.Source K.Sink D.Disk C.Clock A.Dial I.Inbox T.Texts)
-        first others.now domain.now result office.old office.new }
+        (record { first = first; others = others.now; domain = domain.now }) result office.old office.new }
     ensures may_end { IsTrue (ask_may_end result) }
     ensures passed_on { IsPassedOn (seeing S.Source K.Sink D.Disk C.Clock A.Dial I.Inbox T.Texts)
         result office.old office.new }

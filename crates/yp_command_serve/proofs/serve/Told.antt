@@ -5,6 +5,7 @@ use Rattle.std.specs.List.{AllZip}
 use Rattle.std.proofs.lemmas.List.{same_from_push}
 use Rattle.yp_io.specs.Counts.{HasRisen, capped}
 use Rattle.yp_io.specs.Disk.{History}
+use Rattle.yp_io.specs.declared.disk.Disk as disk
 use Rattle.yp_map_file.specs.declared.fault.SlotFault.{SlotFault}
 use Rattle.yp_map_file.specs.declared.fault.SlotFault.TheVariants as fault
 use Rattle.yp_board.specs.Catalogues.{Name}
@@ -12,6 +13,7 @@ use Rattle.yp_board.specs.declared.catalog.MapName.{MapName}
 use Rattle.yp_publisher.specs.Begins.{IsUnwritten}
 use Rattle.yp_publisher.specs.Opens.{IsOpened, OpeningStopped}
 use Rattle.yp_publisher.specs.Standing.{StoredMap}
+use Rattle.yp_publisher.specs.sharing.Failures as publisher
 use Rattle.yp_worker.specs.Receptions.{ListenTells, IsListenerState}
 use Rattle.yp_command.specs.declared.office.office.Office.{Office}
 use Rattle.yp_command.specs.declared.office.status.Status.{Status}
@@ -26,7 +28,7 @@ use Rattle.yp_command_serve.specs.declared.serve.resources.HostResources.{HostRe
 use Rattle.yp_command_serve.specs.declared.serve.resources.NotHosted.TheVariants as unhosted
 use Rattle.yp_command_serve.specs.declared.serve.tally.Hosted.{Hosted}
 use Rattle.yp_command_serve.specs.serve.Hosting.{ServeSetup, ServerTells, DoorTells, OutsideTells, outside_tells}
-use Rattle.yp_command_serve.specs.serve.Hosting.{IsServed, IsHosted}
+use Rattle.yp_command_serve.specs.serve.Hosting.{IsServed, IsHosted, first_of}
 use Rattle.yp_command_serve.specs.inside.serve.Hosting.{IsUnhosted}
 use Rattle.yp_command_serve.specs.serve.Serve.{Job, setup, place, SomeInboxFails, IsToAccept, ServesMaps, IsShut}
 use Rattle.yp_command_serve.specs.serve.Serve.{ServesOrRefuses, TellsServed, HasServeCauses, ServeDoes}
@@ -50,8 +52,8 @@ all_came old now connections wanted failed kept ready fine =
 module _ {S K D C A I T : Type 0} (seen : Seeing S K D C A I T) (job : Job) (status : Status)
     (old new : OutsideTells S K D C A I T) (logged : List ℕ) where
   -- what was served is told by its status
-  pub served_told : (hosted : Hosted) → IsHosted seen.disk.history seen.disk.faults (setup seen job old.office) hosted
-      (place seen old) (place seen new) (disks_of old.office.disks.items) (disks_of new.office.disks.items)
+  pub served_told : (hosted : Hosted) → IsHosted seen.disk (setup seen job old.office) hosted
+      (place seen old) (place seen new)
       → (hosted.inbox_fault ≡ true → SomeInboxFails seen old new)
       → IsLog job.log job.stores (Some hosted.totals) logged
       → TellsServed hosted status (output seen old.office) (output seen new.office)
@@ -167,8 +169,7 @@ module _ {S K D C A I T : Type 0} (seen : Seeing S K D C A I T) (job : Job) (sta
     (old new : OutsideTells S K D C A I T) (logged : List ℕ) where
   -- what was served, or why nobody was, is told by its status
   pub end_told : (hosted : Result Hosted NotHosted)
-      → IfOk hosted (λ h. IsHosted seen.disk.history seen.disk.faults (setup seen job old.office) h (place seen old)
-      (place seen new) (disks_of old.office.disks.items) (disks_of new.office.disks.items))
+      → IfOk hosted (λ h. IsHosted seen.disk (setup seen job old.office) h (place seen old) (place seen new))
       → IfErr hosted (λ why. IsUnhosted seen.disk.history seen.disk.faults why
       (disks_of old.office.disks.items) (disks_of new.office.disks.items))
       → OnErr hosted (IsShut job old new logged)
@@ -185,8 +186,7 @@ module _ {S K D C A I T : Type 0} (seen : Seeing S K D C A I T) (job : Job) (sta
 
   -- a failed accept is told where the listener's count rose
   pub listen_risen : (hosted : Result Hosted NotHosted)
-      → IfOk hosted (λ h. IsHosted seen.disk.history seen.disk.faults (setup seen job old.office) h (place seen old)
-      (place seen new) (disks_of old.office.disks.items) (disks_of new.office.disks.items))
+      → IfOk hosted (λ h. IsHosted seen.disk (setup seen job old.office) h (place seen old) (place seen new))
       → TellsServeEnd hosted job.stores status (output seen old.office) (output seen new.office) → status ≡ ListenFault
       → HasRisen old.doors.listen.faults new.doors.listen.faults
   listen_risen (Ok h) is tells e =
@@ -258,26 +258,20 @@ unhosted_of history faults (Err why) old opened new each is same =
     (opened_written history faults old opened new each same)
 
 -- maps that were loaded, and then served
-pub hosted_of : {D : Type 0} (history : D → Option History) (faults : D → ℕ) (setup : ServeSetup)
-    (hosted : Result Hosted NotHosted) (loaded : List (StoredMap D)) (was now : ServerTells) (old new : List D)
-    → AllZip (IsOpened history faults) old loaded
-    → IfOk hosted (λ h. IsServed history faults setup loaded h was now new)
-    → IfOk hosted (λ h. IsHosted history faults setup h was now old new)
-hosted_of history faults setup (Ok h) loaded was now old new opened served = record {
-  maps = loaded;
-  opened = opened;
-  served = served;
-}
-hosted_of history faults setup (Err why) loaded was now old new opened served = tt
+pub hosted_of : {D : Type 0} (seen : disk.Ghosts D) (setup : ServeSetup) (hosted : Result Hosted NotHosted)
+    (loaded : List (StoredMap D)) (was now : ServerTells D) → AllZip (IsOpened seen.history seen.faults) was.disks loaded
+    → IfOk hosted (λ h. IsServed seen setup (first_of loaded) h (record was { disks = publisher.disks_of loaded }) now)
+    → IfOk hosted (λ h. IsHosted seen setup h was now)
+hosted_of seen setup (Ok h) loaded was now opened served = record { maps = loaded; opened = opened; served = served }
+hosted_of seen setup (Err why) loaded was now opened served = tt
 
 -- the same, of what is told in other words
-pub hosted_at : {D : Type 0} (history : D → Option History) (faults : D → ℕ) (setup : ServeSetup)
-    (hosted : Result Hosted NotHosted) (was now old new : ServerTells) → was ≡ old → now ≡ new → (before after : List D)
-    → IfOk hosted (λ h. IsHosted history faults setup h was now before after)
-    → IfOk hosted (λ h. IsHosted history faults setup h old new before after)
-hosted_at history faults setup hosted was now old new a b before after is =
-    subst (λ (n : ServerTells). IfOk hosted (λ h. IsHosted history faults setup h old n before after)) b
-    (subst (λ (o : ServerTells). IfOk hosted (λ h. IsHosted history faults setup h o now before after)) a is)
+pub hosted_at : {D : Type 0} (seen : disk.Ghosts D) (setup : ServeSetup) (hosted : Result Hosted NotHosted)
+    (was now old new : ServerTells D) → was ≡ old → now ≡ new → IfOk hosted (λ h. IsHosted seen setup h was now)
+    → IfOk hosted (λ h. IsHosted seen setup h old new)
+hosted_at {D} seen setup hosted was now old new a b is =
+    subst (λ (n : ServerTells D). IfOk hosted (λ h. IsHosted seen setup h old n)) b
+    (subst (λ (o : ServerTells D). IfOk hosted (λ h. IsHosted seen setup h o now)) a is)
 
 -- the map whose file wasn't loaded is one of as many as there are disks
 pub number_within : {D : Type 0} (history : D → Option History) (faults : D → ℕ)
@@ -337,8 +331,7 @@ pub all_done : {S K D C A I T : Type 0} (seen : Seeing S K D C A I T) (job : Job
     (old new : OutsideTells S K D C A I T) (logged : List ℕ) (hosted : Result Hosted NotHosted)
     (apart back : List D)
     → apart ≡ disks_of old.office.disks.items → back ≡ disks_of new.office.disks.items
-    → IfOk hosted (λ h. IsHosted seen.disk.history seen.disk.faults (setup seen job old.office) h (place seen old)
-    (place seen new) apart back)
+    → IfOk hosted (λ h. IsHosted seen.disk (setup seen job old.office) h (place seen old) (place seen new))
     → IfErr hosted (λ why. IsUnhosted seen.disk.history seen.disk.faults why apart back)
     → OnErr hosted (IsShut job old new logged)
     → IsLog job.log job.stores (totals_told hosted) logged
@@ -350,17 +343,14 @@ pub all_done : {S K D C A I T : Type 0} (seen : Seeing S K D C A I T) (job : Job
     → new.office.wire.source ≡ old.office.wire.source → ServeDoes seen job status old new logged
 all_done {D = D} seen job status old new logged hosted apart back a b is un shut log tells inbox write names
     told texts source =
-    let Is : List D → List D → Type 0 = λ l m. IfOk hosted (λ h. IsHosted seen.disk.history seen.disk.faults
-    (setup seen job old.office) h (place seen old) (place seen new) l m) in
     let Un : List D → List D → Type 0 = λ l m. IfErr hosted (λ why. IsUnhosted seen.disk.history seen.disk.faults
     why l m) in
     let was = disks_of old.office.disks.items in
     let now = disks_of new.office.disks.items in
-    let is' : Is was now = subst (λ (m : List D). Is was m) b (subst (λ (l : List D). Is l back) a is) in
     let un' : Un was now = subst (λ (m : List D). Un was m) b (subst (λ (l : List D). Un l back) a un) in
-    let serves = end_told seen job status old new logged hosted is' un' shut inbox log tells in
+    let serves = end_told seen job status old new logged hosted is un' shut inbox log tells in
     let causes : HasServeCauses seen status old new = record {
-      listen_fault = λ e. listen_risen seen job status old new logged hosted is' tells e;
+      listen_fault = λ e. listen_risen seen job status old new logged hosted is tells e;
       inbox_fault = λ e. inbox_risen seen job status old new logged hosted inbox tells e;
       write_fault = write;
       disk_fault = λ map e. disk_risen seen job status old new logged hosted map un' tells e;

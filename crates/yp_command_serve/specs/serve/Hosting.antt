@@ -1,8 +1,8 @@
 -- Stored maps that are served to many callers at once.
 use Rattle.std.specs.Prelude.{ℕ, List, map, Option}
 use Rattle.std.specs.List.{AllZip}
-use Rattle.yp_io.specs.Disk.{History}
 use Rattle.yp_io.specs.Dials.{DialTells}
+use Rattle.yp_io.specs.declared.disk.Disk as disk
 use Rattle.yp_io.specs.declared.hall.Hall as hall
 use Rattle.yp_io.specs.declared.inbox.Inbox as inbox
 use Rattle.yp_board.specs.Catalogues.{Catalogue}
@@ -49,15 +49,17 @@ abbrev pub supply_of : ℕ → DialTells → Supply
 supply_of texts dial = record { texts = texts; dial = dial }
 
 -- what is told at a moment by the listener and by the inboxes, by the one from which what they left is replied to, and
--- by the texts and the dial
-pub record ServerTells : Type 0 where
+-- by the texts and the dial, and the disks of the maps
+pub record ServerTells (D : Type 0) : Type 0 where
   pub listen : ListenTells
   pub boxes : List InboxTells
   pub out : InboxTells
   pub supply : Supply
+  pub disks : List D
 
-abbrev pub server_tells : ListenTells → List InboxTells → InboxTells → Supply → ServerTells
-server_tells listen boxes out supply = record { listen = listen; boxes = boxes; out = out; supply = supply }
+abbrev pub server_tells : {D : Type 0} → ListenTells → List InboxTells → InboxTells → Supply → List D → ServerTells D
+server_tells listen boxes out supply disks =
+    record { listen = listen; boxes = boxes; out = out; supply = supply; disks = disks }
 
 -- what an inbox tells that is one of several of a port: of its turns, and how often it has failed
 pub record EndTells : Type 0 where
@@ -102,6 +104,11 @@ conduct setup = conduct_at (λ reader. reader) Refreshes setup.text setup.hosts
 abbrev pub first_of : {D : Type 0} → List (StoredMap D) → PublisherState
 first_of maps = record { log = starts 0 (versions maps); standings = map (λ kept. kept.standing) maps }
 
+-- what had been shown of maps before the first caller came, and how they stood then, and what was shown at the end
+pub record LogGrowth : Type 0 where
+  pub first : PublisherState
+  pub log : Log
+
 -- Workers served connections, each many at once and step by step: the conversation of each connection was cut where the
 -- connection was closed, and over unless that was let go. They served datagrams, too. What each knew is a front of the
 -- log. So many records of the connections were read, and this is what all workers counted of makes and transfers,
@@ -114,42 +121,40 @@ first_of maps = record { log = starts 0 (versions maps); standings = map (λ kep
 -- each moment a crash leaves of each map what it might have left once it was loaded, or bytes that stand for what was
 -- shown of it or for a version that was new. The dial was used for transfers of the maps alone: to fetch one from a
 -- host of the table, and to tell a caller what a host left it.
-pub record IsAccounted {D : Type 0} (history : D → Option History) (faults : D → ℕ) (setup : ServeSetup)
-    (first : PublisherState)
-    (maps : List (StoredMap D)) (most : ℕ) (hosted : Hosted) (old new : ServerTells) (log : Log)
-    (disks : List D) : Type 0 where
-  pub counted : CountsAndTells (conduct setup) (terms_of setup.catalogue first.log most)
-      old.listen new.listen hosted.tally.calls log setup.turns hosted.inbox_fault old.boxes new.boxes old.out new.out
-      hosted.totals setup.hosts old.supply.dial new.supply.dial
-  pub files : FilesAreCovered history faults old.supply.texts new.supply.texts (disks_of maps) disks hosted.totals
+pub record IsAccounted {D : Type 0} (seen : disk.Ghosts D) (setup : ServeSetup) (growth : LogGrowth) (hosted : Hosted)
+    (old new : ServerTells D) : Type 0 where
+  pub counted : CountsAndTells (conduct setup) (terms_of setup.catalogue growth.first.log CALLS_MAX)
+      old.listen new.listen hosted.tally.calls growth.log setup.turns hosted.inbox_fault old.boxes new.boxes old.out
+      new.out hosted.totals setup.hosts old.supply.dial new.supply.dial
+  pub files : FilesAreCovered seen.history seen.faults old.supply.texts new.supply.texts old.disks new.disks
+      hosted.totals
   pub orders : CoversOrders old.supply.dial.past new.supply.dial.past hosted.totals.outcomes.reached
   pub sources : CoversSources old.supply.dial.past new.supply.dial.past old.supply.dial.faults new.supply.dial.faults
       hosted.totals.outcomes.source
-  pub origins : AreTold history disks → ComesFrom history (IsBuiltAsNamed setup.text setup.catalogue) first
-      setup.catalogue log disks hosted.totals.made old.supply.dial.past new.supply.dial.past
-  pub traced : EachComesFrom history (IsBuiltAsNamed setup.text setup.catalogue) setup.catalogue first.log log
-      (map history (disks_of maps)) disks old.supply.dial.past new.supply.dial.past
+  pub origins : AreTold seen.history new.disks → ComesFrom seen.history (IsBuiltAsNamed setup.text setup.catalogue)
+      growth.first setup.catalogue growth.log new.disks hosted.totals.made old.supply.dial.past new.supply.dial.past
+  pub traced : EachComesFrom seen.history (IsBuiltAsNamed setup.text setup.catalogue) setup.catalogue growth.first.log
+      growth.log (map seen.history old.disks) new.disks old.supply.dial.past new.supply.dial.past
 
 -- Maps that were loaded were served, and what their files stood for was shown before the first caller came. What was
 -- shown since stands behind that in one log. So many connections came, and all were closed. Each datagram had its turn,
 -- and what was done in the turns and in the connections is accounted for. Whatever a crash may leave of a disk now
 -- stands for what the log shows of its map, or, where that is behind, for that or for the version whose install failed.
 -- The orders of each map rise in the log, where all disks tell what a crash may leave of them.
-pub record IsServed {D : Type 0} (history : D → Option History) (faults : D → ℕ) (setup : ServeSetup)
-    (maps : List (StoredMap D))
-    (hosted : Hosted) (old new : ServerTells) (disks : List D) : Type 0 where
+pub record IsServed {D : Type 0} (seen : disk.Ghosts D) (setup : ServeSetup) (first : PublisherState) (hosted : Hosted)
+    (old new : ServerTells D) : Type 0 where
   pub log : Log
-  pub grown : IsFront (starts 0 (versions maps)) log
+  pub grown : IsFront first.log log
   pub connections : IsListenerState old.listen new.listen hosted.tally.connections hosted.tally.listen_fault 0 1
-  pub datagrams : ServesInboxes (mail_service (conduct setup) count_told setup.catalogue (starts 0 (versions maps)) log
-      setup.turns) hosted.inbox_fault old.boxes new.boxes old.out new.out
-  pub leaves : DisksStand history setup.catalogue log disks
-  pub rises : AreTold history disks → IsRisingLog log
-  pub accounted : IsAccounted history faults setup (first_of maps) maps CALLS_MAX hosted old new log disks
+  pub datagrams : ServesInboxes (mail_service (conduct setup) count_told setup.catalogue first.log log setup.turns)
+      hosted.inbox_fault old.boxes new.boxes old.out new.out
+  pub leaves : DisksStand seen.history setup.catalogue log new.disks
+  pub rises : AreTold seen.history new.disks → IsRisingLog log
+  pub accounted : IsAccounted seen setup (record { first = first; log = log }) hosted old new
 
 -- Maps were loaded, each by the version that its file stood for, and served.
-pub record IsHosted {D : Type 0} (history : D → Option History) (faults : D → ℕ) (setup : ServeSetup) (hosted : Hosted)
-    (old new : ServerTells) (before after : List D) : Type 0 where
+pub record IsHosted {D : Type 0} (seen : disk.Ghosts D) (setup : ServeSetup) (hosted : Hosted) (old new : ServerTells D)
+    : Type 0 where
   pub maps : List (StoredMap D)
-  pub opened : AllZip (IsOpened history faults) before maps
-  pub served : IsServed history faults setup maps hosted old new after
+  pub opened : AllZip (IsOpened seen.history seen.faults) old.disks maps
+  pub served : IsServed seen setup (first_of maps) hosted (record old { disks = disks_of maps }) new

@@ -85,12 +85,12 @@ supply seen office =
     (dial_tells seen.dial.past seen.dial.letters seen.dial.faults office.dial)
 
 -- what is told by a listener, by further inboxes and behind them that of an office, by the one from which is replied to
--- what those leave, and by the texts and the dial of the office
-abbrev pub place : {S K D C A I T : Type 0} → Seeing S K D C A I T → OutsideTells S K D C A I T → ServerTells
+-- what those leave, and by the texts and the dial of the office, and the disks of the office
+abbrev pub place : {S K D C A I T : Type 0} → Seeing S K D C A I T → OutsideTells S K D C A I T → ServerTells D
 place seen outside =
     server_tells outside.doors.listen (map (λ end. end.box) outside.doors.more
     ++ inbox_tells seen.inbox.past seen.inbox.turns seen.inbox.quiets outside.office.inbox ∷ [])
-    outside.doors.out.box (supply seen outside.office)
+    outside.doors.out.box (supply seen outside.office) (disks_of outside.office.disks.items)
 
 -- the count of an inbox's faults rose, of that of an office or of one at the doors
 abbrev pub SomeInboxFails : {S K D C A I T : Type 0} → Seeing S K D C A I T → (old new : OutsideTells S K D C A I T)
@@ -111,8 +111,7 @@ pub record IsToAccept (connections : ℕ) (listen : ListenTells) : Type 0 where
 pub record ServesMaps {S K D C A I T : Type 0} (seen : Seeing S K D C A I T) (job : Job) (status : Status)
     (old new : OutsideTells S K D C A I T) (logged : List ℕ) : Type 0 where
   pub hosted : Hosted
-  pub is_hosted : IsHosted seen.disk.history seen.disk.faults (setup seen job old.office) hosted (place seen old)
-      (place seen new) (disks_of old.office.disks.items) (disks_of new.office.disks.items)
+  pub is_hosted : IsHosted seen.disk (setup seen job old.office) hosted (place seen old) (place seen new)
   pub all : IsToAccept job.connections old.doors.listen → hosted.tally.listen_fault ≡ false
       → hosted.tally.connections ≡ capped 0 job.connections
   pub inbox : hosted.inbox_fault ≡ true → SomeInboxFails seen old new

@@ -10,13 +10,10 @@ ghost use Rattle.yp_publisher.specs.Standing.{Level, versions};
 ghost use Rattle.yp_publisher.specs.Rising.{publisher_state};
 ghost use Rattle.yp_publisher.specs.inside.Rising.{IsStart};
 ghost use Rattle.yp_answer.specs.declared.session.session.TheConstants.{CALLS_MAX};
-ghost use Rattle.yp_rpc.specs.inside.Turns.{box_by};
-ghost use Rattle.yp_worker.specs.Receptions.{opening_by};
 ghost use Rattle.yp_publisher.specs.sharing.Failures.{disks_of};
-ghost use Rattle.yp_transfer.specs.inside.Dials.{dial_by};
 ghost use Rattle.yp_server.specs.Serving.{SomeHasRisen};
-ghost use Rattle.yp_command_serve.specs.serve.Hosting.{setup_of, server_tells, supply_of, IsServed, IsHosted};
-ghost use Rattle.yp_command_serve.specs.inside.serve.Hosting.{IsUnhosted};
+ghost use Rattle.yp_command_serve.specs.serve.Hosting.{setup_of, first_of, IsServed, IsHosted};
+ghost use Rattle.yp_command_serve.specs.inside.serve.Hosting.{tells_by, loaded_tells_by, IsUnhosted};
 
 use crate::serve::clock::{ClockMoment, SharedClock};
 use crate::serve::tally::Hosted;
@@ -219,15 +216,9 @@ where
     requires inboxes { 1 ≤ vec_len resources.inboxes }
     requires workers { (1 ≤ spec.now.workers) × (spec.now.workers ≤ workers_max) }
     requires most { spec.now.most ≡ CALLS_MAX }
-    ensures hosted { IfOk result.0 (λ hosted. IsHosted D.history D.faults
+    ensures hosted { IfOk result.0 (λ hosted. IsHosted D.Disk
         (setup_of catalog (T.text resources.desk.texts) resources.desk.hosts spec.now.turns) hosted
-        (server_tells (opening_by L.Hall resources.listen) (map (box_by I.Inbox) resources.inboxes.items)
-        (box_by I.Inbox resources.outbox)
-        (supply_of (T.faults resources.desk.texts) (dial_by A.Dial resources.desk.dial)))
-        (server_tells (opening_by L.Hall result.1.listen) (map (box_by I.Inbox) result.1.inboxes.items)
-        (box_by I.Inbox result.1.outbox)
-        (supply_of (T.faults result.1.desk.texts) (dial_by A.Dial result.1.desk.dial)))
-        resources.disks.items result.1.disks.items) }
+        (tells_by L.Hall I.Inbox T.Texts A.Dial resources) (tells_by L.Hall I.Inbox T.Texts A.Dial result.1)) }
     ensures unhosted { IfErr result.0 (λ why.
         IsUnhosted D.history D.faults why resources.disks.items result.1.disks.items) }
     ensures untouched { OnErr result.0 (result.1 ≡ record resources { disks = result.1.disks }) }
@@ -301,16 +292,10 @@ where
     requires inboxes { 1 ≤ vec_len resources.inboxes }
     requires workers { (1 ≤ spec.now.workers) × (spec.now.workers ≤ workers_max) }
     requires most { spec.now.most ≡ CALLS_MAX }
-    ensures hosted { IfOk result.0 (λ hosted. IsServed D.history D.faults
+    ensures hosted { IfOk result.0 (λ hosted. IsServed D.Disk
         (setup_of resources.catalog (T.text resources.desk.texts) resources.desk.hosts spec.now.turns)
-        resources.loaded hosted
-        (server_tells (opening_by L.Hall resources.listen) (map (box_by I.Inbox) resources.inboxes.items)
-        (box_by I.Inbox resources.outbox)
-        (supply_of (T.faults resources.desk.texts) (dial_by A.Dial resources.desk.dial)))
-        (server_tells (opening_by L.Hall result.1.listen) (map (box_by I.Inbox) result.1.inboxes.items)
-        (box_by I.Inbox result.1.outbox)
-        (supply_of (T.faults result.1.desk.texts) (dial_by A.Dial result.1.desk.dial)))
-        result.1.disks.items) }
+        (first_of resources.loaded) hosted (loaded_tells_by L.Hall I.Inbox T.Texts A.Dial resources)
+        (tells_by L.Hall I.Inbox T.Texts A.Dial result.1)) }
     ensures unhosted { IfErr result.0 (λ why. why ≡ NotHosted.NoMemory) }
     ensures disks { OnErr result.0 (result.1.disks.items ≡ disks_of resources.loaded) }
     ensures untouched { OnErr result.0 ((result.1.desk ≡ resources.desk) × (result.1.listen ≡ resources.listen)
@@ -374,16 +359,10 @@ where
     requires inboxes { 1 ≤ vec_len resources.inboxes }
     requires workers { (1 ≤ spec.now.workers) × (spec.now.workers ≤ workers_max) }
     requires most { spec.now.most ≡ CALLS_MAX }
-    ensures hosted { IfOk result.0 (λ hosted. IsServed D.history D.faults
+    ensures hosted { IfOk result.0 (λ hosted. IsServed D.Disk
         (setup_of resources.catalog (T.text resources.desk.texts) resources.desk.hosts spec.now.turns)
-        resources.loaded hosted
-        (server_tells (opening_by L.Hall resources.listen) (map (box_by I.Inbox) resources.inboxes.items)
-        (box_by I.Inbox resources.outbox)
-        (supply_of (T.faults resources.desk.texts) (dial_by A.Dial resources.desk.dial)))
-        (server_tells (opening_by L.Hall result.1.listen) (map (box_by I.Inbox) result.1.inboxes.items)
-        (box_by I.Inbox result.1.outbox)
-        (supply_of (T.faults result.1.desk.texts) (dial_by A.Dial result.1.desk.dial)))
-        result.1.disks.items) }
+        (first_of resources.loaded) hosted (loaded_tells_by L.Hall I.Inbox T.Texts A.Dial resources)
+        (tells_by L.Hall I.Inbox T.Texts A.Dial result.1)) }
     ensures unhosted { IfErr result.0 (λ why. why ≡ NotHosted.NoMemory) }
     ensures disks { OnErr result.0 (result.1.disks.items ≡ disks_of resources.loaded) }
     ensures untouched { OnErr result.0 ((result.1.desk ≡ resources.desk) × (result.1.listen ≡ resources.listen)

@@ -6,14 +6,11 @@ ghost use Rattle.yp_io.specs.Counts.{HasRisen, CountsFaults};
 ghost use Rattle.yp_board.specs.Catalogues.{name_view};
 ghost use Rattle.yp_board.specs.readers.Boards.{workers_max};
 ghost use Rattle.yp_answer.specs.declared.session.session.TheConstants.{CALLS_MAX};
-ghost use Rattle.yp_rpc.specs.inside.Turns.{box_by};
-ghost use Rattle.yp_worker.specs.Receptions.{opening_by};
-ghost use Rattle.yp_transfer.specs.inside.Dials.{dial_by};
 ghost use Rattle.yp_server.specs.Serving.{SomeHasRisen};
 ghost use Rattle.yp_command.specs.inside.Words.{IsNamed};
-ghost use Rattle.yp_command_serve.specs.serve.Hosting.{setup_of, server_tells, supply_of, IsHosted};
+ghost use Rattle.yp_command_serve.specs.serve.Hosting.{setup_of, IsHosted};
 ghost use Rattle.yp_command_serve.specs.serve.Log.{IsLog};
-ghost use Rattle.yp_command_serve.specs.inside.serve.Hosting.{IsUnhosted};
+ghost use Rattle.yp_command_serve.specs.inside.serve.Hosting.{tells_by, IsUnhosted};
 ghost use Rattle.yp_command_serve.specs.inside.serve.Log.{WritesLines, totals_told};
 
 use crate::serve::log::{end_log, keep_log};
@@ -74,15 +71,9 @@ where
     requires workers { (1 ≤ spec.serve.workers) × (spec.serve.workers ≤ workers_max) }
     requires most { spec.serve.most ≡ CALLS_MAX }
     requires named { All IsNamed (map name_view names.now) }
-    ensures hosted { IfOk result.0 (λ hosted. IsHosted D.history D.faults
+    ensures hosted { IfOk result.0 (λ hosted. IsHosted D.Disk
         (setup_of spec.catalog (T.text resources.desk.texts) resources.desk.hosts spec.serve.turns) hosted
-        (server_tells (opening_by L.Hall resources.listen) (map (box_by I.Inbox) resources.inboxes.items)
-        (box_by I.Inbox resources.outbox)
-        (supply_of (T.faults resources.desk.texts) (dial_by A.Dial resources.desk.dial)))
-        (server_tells (opening_by L.Hall result.1.listen) (map (box_by I.Inbox) result.1.inboxes.items)
-        (box_by I.Inbox result.1.outbox)
-        (supply_of (T.faults result.1.desk.texts) (dial_by A.Dial result.1.desk.dial)))
-        resources.disks.items result.1.disks.items) }
+        (tells_by L.Hall I.Inbox T.Texts A.Dial resources) (tells_by L.Hall I.Inbox T.Texts A.Dial result.1)) }
     ensures unhosted { IfErr result.0 (λ why.
         IsUnhosted D.history D.faults why resources.disks.items result.1.disks.items) }
     ensures untouched { OnErr result.0 (result.1 ≡ record resources { disks = result.1.disks }) }
@@ -123,15 +114,9 @@ where
             requires inboxes { 1 ≤ vec_len resources.inboxes }
             requires workers { (1 ≤ spec.now.workers) × (spec.now.workers ≤ workers_max) }
             requires most { spec.now.most ≡ CALLS_MAX }
-            ensures hosted { IfOk result.0 (λ hosted. IsHosted D.history D.faults
+            ensures hosted { IfOk result.0 (λ hosted. IsHosted D.Disk
                 (setup_of catalog (T.text resources.desk.texts) resources.desk.hosts spec.entry.now.turns) hosted
-                (server_tells (opening_by L.Hall resources.listen) (map (box_by I.Inbox) resources.inboxes.items)
-                (box_by I.Inbox resources.outbox)
-                (supply_of (T.faults resources.desk.texts) (dial_by A.Dial resources.desk.dial)))
-                (server_tells (opening_by L.Hall result.1.listen) (map (box_by I.Inbox) result.1.inboxes.items)
-                (box_by I.Inbox result.1.outbox)
-                (supply_of (T.faults result.1.desk.texts) (dial_by A.Dial result.1.desk.dial)))
-                resources.disks.items result.1.disks.items) }
+                (tells_by L.Hall I.Inbox T.Texts A.Dial resources) (tells_by L.Hall I.Inbox T.Texts A.Dial result.1)) }
             ensures unhosted { IfErr result.0 (λ why.
                 IsUnhosted D.history D.faults why resources.disks.items result.1.disks.items) }
             ensures untouched { OnErr result.0 (result.1 ≡ record resources { disks = result.1.disks }) }

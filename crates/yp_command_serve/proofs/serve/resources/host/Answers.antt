@@ -1,4 +1,5 @@
 use Rattle.std.proofs.Common.{◌∙◌}
+use Rattle.yp_command_serve.specs.inside.serve.Hosting.{tells_by}
 use Rattle.yp_command_serve.proofs.serve.Disks.{all_opened, stopped_count}
 use Rattle.yp_command_serve.proofs.serve.Starts.{levels}
 use Rattle.yp_command_serve.proofs.serve.Told.{hosted_of, unhosted_of}
@@ -25,8 +26,9 @@ returns-in-Err-clause-count g c =
 
 pub returns-in-Ok-clause-hosted : goal.returns-in-Ok-clause-hosted
 returns-in-Ok-clause-hosted g c =
-    hosted_of g.D.Disk.history g.D.Disk.faults _ c.host_loaded.result.0 c.in-Ok.loaded _ _ c.args.resources.disks.items
-    c.host_loaded.result.1.disks.items c.in-Ok.ensures.loaded c.host_loaded.ensures.hosted
+    hosted_of g.D.Disk _ c.host_loaded.result.0 c.in-Ok.loaded
+    (tells_by g.L.Hall g.I.Inbox g.T.Texts g.A.Dial c.args.resources) _ c.in-Ok.ensures.loaded
+    c.host_loaded.ensures.hosted
 
 pub returns-in-Ok-clause-unhosted : goal.returns-in-Ok-clause-unhosted
 returns-in-Ok-clause-unhosted g c =

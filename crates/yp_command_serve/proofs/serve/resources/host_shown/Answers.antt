@@ -13,10 +13,7 @@ use Rattle.yp_publisher.specs.sharing.Failures.{disks_of}
 use Rattle.yp_transfer.specs.inside.Dials.{dial_by}
 use Rattle.yp_rpc.specs.inside.Turns.{box_by}
 use Rattle.yp_worker.specs.Receptions.{opening_by}
-use Rattle.yp_server.specs.Counting.{FilesAreCovered}
-use Rattle.yp_server.specs.Origins.{EachComesFrom}
-use Rattle.yp_host.specs.workers.Makings.{IsBuiltAsNamed}
-use Rattle.yp_command_serve.specs.serve.Hosting.{server_tells, supply_of}
+use Rattle.yp_command_serve.specs.serve.Hosting.{ServerTells, server_tells, supply_of}
 use Rattle.yp_command_serve.proofs.serve.Boxes.{served_long}
 use Rattle.yp_command_serve.proofs.serve.Served.{served_as, leaves_count}
 use Rattle.yp_command_serve.proofs.serve.Starts.{at_start, first_as}
@@ -49,51 +46,39 @@ returns-in-Ok-serve-clause-texts g c = λ file.
 
 pub returns-in-Ok-serve-clause-hosted : goal.returns-in-Ok-serve-clause-hosted
 returns-in-Ok-serve-clause-hosted g c =
+    let served = c.in-Ok-serve.served in
     let did = c.in-Ok-serve.ensures in
     let made = c.publisher_of-publisher.ensures in
-    let here = opening_by g.L.Hall in
-    let box = box_by g.I.Inbox in
-    let letters = map box in
-    let tells = dial_by g.A.Dial in
-    let given = supply_of (g.T.Texts.faults c.shared-desk.result.texts) (tells c.shared-desk.result.dial) in
-    let left = supply_of (g.T.Texts.faults c.in-Ok-serve.served.desk.texts) (tells c.in-Ok-serve.served.desk.dial) in
-    served_as g.D.Disk.history g.D.Disk.faults c.args.resources.loaded _ _ _
-    (server_tells (here c.args.resources.listen) (letters c.args.resources.inboxes.items) (box c.args.resources.outbox) given)
-    (server_tells (here c.in-Ok-serve.served.listen) (letters c.in-Ok-serve.served.inboxes.items) (box c.in-Ok-serve.served.outbox) left)
-    c.in-Ok-serve.served.disks.items c.in-Ok-serve.served.writer.log
-    c.args.spec.now.turns c.args.resources.catalog c.publisher_of-publisher.result.catalogue _ _ _ _
-    (publisher_state (λ (w : Written). w.log) c.publisher_of-publisher.result) c.args.spec.now.most
-    (ap (λ (d : Desk g.row.A.Denot g.row.T.Denot g.row.C.Denot). server_tells (here c.args.resources.listen) (letters c.args.resources.inboxes.items)
-    (box c.args.resources.outbox) (supply_of (g.T.Texts.faults d.texts) (tells d.dial))) c.shared-desk.ensures)
-    (ap (λ (d : Desk g.row.A.Denot g.row.T.Denot g.row.C.Denot). server_tells (here c.in-Ok-serve.served.listen)
-    (letters c.in-Ok-serve.served.inboxes.items) (box c.in-Ok-serve.served.outbox)
-    (supply_of (g.T.Texts.faults d.texts) (tells d.dial))) (sym c.unshared.ensures.desk))
+    let given : Desk g.row.A.Denot g.row.T.Denot g.row.C.Denot → List (StoredMap g.row.D.Denot) → ServerTells g.row.D.Denot =
+    λ d maps. server_tells (opening_by g.L.Hall c.args.resources.listen) (map (box_by g.I.Inbox) c.args.resources.inboxes.items)
+    (box_by g.I.Inbox c.args.resources.outbox) (supply_of (g.T.Texts.faults d.texts) (dial_by g.A.Dial d.dial)) (disks_of maps) in
+    let left : Desk g.row.A.Denot g.row.T.Denot g.row.C.Denot → ServerTells g.row.D.Denot =
+    λ d. server_tells (opening_by g.L.Hall served.listen) (map (box_by g.I.Inbox) served.inboxes.items)
+    (box_by g.I.Inbox served.outbox) (supply_of (g.T.Texts.faults d.texts) (dial_by g.A.Dial d.dial)) served.disks.items in
+    served_as g.D.Disk c.args.resources.loaded _ _ _
+    (given c.shared-desk.result c.publisher_of-publisher.result.maps) (left served.desk)
+    served.writer.log c.args.spec.now.turns c.args.resources.catalog c.publisher_of-publisher.result.catalogue _ _ _ _
+    (publisher_state (λ (w : Written). w.log) c.publisher_of-publisher.result)
+    (ap (λ (p : Published g.row.D.Denot Written). given c.shared-desk.result p.maps) made.publisher
+    ∙ ap (λ (d : Desk g.row.A.Denot g.row.T.Denot g.row.C.Denot). given d c.args.resources.loaded) c.shared-desk.ensures)
+    (ap left (sym c.unshared.ensures.desk))
     (ap (λ (p : Published g.row.D.Denot Written). p.catalogue) made.publisher)
     (ap (λ (d : Desk g.row.A.Denot g.row.T.Denot g.row.C.Denot). g.T.Texts.text d.texts) c.shared-desk.ensures)
     (ap (λ (d : Desk g.row.A.Denot g.row.T.Denot g.row.C.Denot). d.hosts) c.shared-desk.ensures)
     (first_as c.publisher_of-publisher.result c.args.resources.catalog c.args.resources.loaded c.in-Ok.writer made.publisher
     (ap (λ (w : Written). w.log) c.in-Ok.ensures.writer
-    ∙ ap (λ (l : List (Option MapVersion)). starts 0 l) c.requires.start))
-    c.requires.most (
+    ∙ ap (λ (l : List (Option MapVersion)). starts 0 l) c.requires.start)) (
       did.grown,
       did.gone,
       did.datagrams,
       did.maps,
       record {
-        counted = did.counted;
-        files = subst (λ (m : List (StoredMap g.row.D.Denot)). FilesAreCovered g.D.Disk.history g.D.Disk.faults
-            (g.T.Texts.faults c.shared-desk.result.texts) (g.T.Texts.faults c.in-Ok-serve.served.desk.texts) (disks_of m)
-            c.in-Ok-serve.served.disks.items c.in-Ok-serve.served.totals)
-            (ap (λ (p : Published g.row.D.Denot Written). p.maps) made.publisher) did.files;
+        counted = rw (← c.requires.most) did.counted;
+        files = did.files;
         orders = did.orders;
         sources = did.sources;
         origins = did.origins made.start;
-        traced = subst (λ (m : List (StoredMap g.row.D.Denot)). EachComesFrom g.D.Disk.history
-            (IsBuiltAsNamed (g.T.Texts.text c.shared-desk.result.texts) c.publisher_of-publisher.result.catalogue)
-            c.publisher_of-publisher.result.catalogue c.publisher_of-publisher.result.board.log
-            c.in-Ok-serve.served.writer.log (map g.D.Disk.history (disks_of m)) c.in-Ok-serve.served.disks.items
-            (tells c.shared-desk.result.dial).past (tells c.in-Ok-serve.served.desk.dial).past)
-            (ap (λ (p : Published g.row.D.Denot Written). p.maps) made.publisher) (did.traced made.start);
+        traced = did.traced made.start;
       },
     )
     (did.rises made.start)

@@ -4,14 +4,18 @@ use Rattle.std.specs.Prelude.{All}
 use Rattle.yp_board.specs.Catalogues.{Name, name_view}
 use Rattle.yp_board.specs.declared.catalog.MapName.{MapName}
 use Rattle.yp_worker.specs.Receptions.{opening_by}
+use Rattle.yp_rpc.specs.Turns.{InboxTells}
 use Rattle.yp_rpc.specs.inside.Turns.{box_by}
+use Rattle.yp_transfer.specs.inside.Dials.{dial_by}
 use Rattle.yp_command.specs.inside.Words.{IsNamed}
 use Rattle.yp_command.specs.declared.office.office.Office.{Office}
 use Rattle.yp_command.specs.office.Seeing.{Seeing, seeing, output}
 use Rattle.yp_command_serve.specs.declared.serve.resources.HostResources.{HostResources}
-use Rattle.yp_command_serve.specs.serve.Hosting.{DoorTells, OutsideTells, outside_tells, end_by, doors_by, server_tells}
-use Rattle.yp_command_serve.specs.serve.Serve.{serve_job_of, setup, supply, place}
+use Rattle.yp_command_serve.specs.serve.Hosting.{DoorTells, OutsideTells, ServerTells, outside_tells, end_by, doors_by}
+use Rattle.yp_command_serve.specs.serve.Hosting.{server_tells, supply_of}
+use Rattle.yp_command_serve.specs.serve.Serve.{serve_job_of, setup, place}
 use Rattle.yp_command_serve.specs.serve.Log.{IsLog}
+use Rattle.yp_command_serve.specs.inside.serve.Hosting.{tells_by}
 use Rattle.yp_command_serve.specs.inside.serve.Serve.{TellsServeEnd}
 use Rattle.yp_command_serve.specs.inside.serve.Log.{totals_told}
 use Rattle.yp_command_serve.proofs.serve.Disks.{same_count}
@@ -108,13 +112,18 @@ returns-clause-does g c =
           subst (λ (l : List Name). IsLog c.args.spec.log l (totals_told did.result.0) logged.0) names logged.1 in
           let shut = shut_of job old new resources back inbox more door door' tells logged.0 did.result.0 log refl refl refl lent rest came
           refl refl refl did.ensures.untouched told.ensures.untold in
-          let hosted = hosted_at g.D.Disk.history g.D.Disk.faults (setup seen job old) did.result.0
-          (server_tells (opening_by g.L.Hall c.args.outside.doors.listen) (map (box_by g.I.Inbox) resources.inboxes.items) (box_by g.I.Inbox resources.outbox) (supply seen old))
-          (server_tells (opening_by g.L.Hall back.listen) (map (box_by g.I.Inbox) back.inboxes.items) (box_by g.I.Inbox back.outbox) (supply seen new))
+          let tells_as : HostResources g.row.D.Denot g.row.A.Denot g.row.T.Denot g.row.C.Denot g.row.L.Denot g.row.I.Denot
+          → List InboxTells → List g.row.D.Denot → ServerTells g.row.D.Denot = λ lent l disks.
+          server_tells (opening_by g.L.Hall lent.listen) l (box_by g.I.Inbox lent.outbox)
+          (supply_of (g.T.Texts.faults lent.desk.texts) (dial_by g.A.Dial lent.desk.dial)) disks in
+          let hosted = hosted_at g.D.Disk (setup seen job old) did.result.0
+          (tells_by g.L.Hall g.I.Inbox g.T.Texts g.A.Dial resources) (tells_by g.L.Hall g.I.Inbox g.T.Texts g.A.Dial back)
           (place seen was) (place seen now)
-          (ap (λ l. server_tells door.listen l door.out.box (supply seen old)) (boxes_are g.I.Inbox resources.inboxes.items more old.inbox lent))
-          (ap (λ l. server_tells door'.listen l door'.out.box (supply seen new)) (boxes_are g.I.Inbox back.inboxes.items rest inbox came))
-          apart.disks.items back.disks.items did.ensures.hosted in
+          (ap (λ l. tells_as resources l apart.disks.items) (boxes_are g.I.Inbox resources.inboxes.items more old.inbox lent)
+          ∙ ap (λ disks. tells_as resources (place seen was).boxes disks) c.in-Ok.ensures.disks)
+          (ap (λ l. tells_as back l back.disks.items) (boxes_are g.I.Inbox back.inboxes.items rest inbox came)
+          ∙ ap (λ disks. tells_as back (place seen now).boxes disks) (sym c.put_together.ensures.disks))
+          did.ensures.hosted in
           let fails = some_fails seen was now did.result.0 resources.inboxes.items back.inboxes.items more rest
           resources.outbox back.outbox lent came did.ensures.inboxes refl refl refl refl did.ensures.inbox_fault in
           all_done seen job told.result was now logged.0 did.result.0 apart.disks.items
