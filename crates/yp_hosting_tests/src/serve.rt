@@ -49,7 +49,7 @@ fn two_connections(rt: HostRuntime) {
     try_rows_after(&rt, rt.alloc(), &TWO, &[]);
 }
 
-static LISTENS: [Row; 6] = [
+static LISTENS: [Row; 7] = [
     Row {
         name: "there is no watch",
         accepts: 0,
@@ -69,14 +69,20 @@ static LISTENS: [Row; 6] = [
         ..UNACCEPTED
     },
     Row {
-        name: "the accept fails that would tell the other worker",
+        name: "the accept fails that would tell another worker",
         accepts: 4,
         takes: &[REPLY, REPLY],
         ..UNACCEPTED
     },
     Row {
-        name: "no fifth accept",
+        name: "the accept fails that would tell the third worker",
         accepts: 5,
+        takes: &[REPLY, REPLY],
+        ..UNACCEPTED
+    },
+    Row {
+        name: "no sixth accept",
+        accepts: 6,
         ..TWO_CONNECTIONS
     },
 ];
