@@ -23,7 +23,8 @@ puts_none parts first at old within = record {
 
 -- one part more
 pub puts_more : (parts : List (List ℕ)) (part : List ℕ) (first next at end last : ℕ) (old mid new : List ℕ)
-    → PutsParts parts (filled_buffer first at old) (filled_buffer next end mid) → slice_get parts next ≡ Some part → 0 < length part
+    → PutsParts parts (filled_buffer first at old) (filled_buffer next end mid)
+    → slice_get parts next ≡ Some part → 0 < length part
     → end + length part ≤ length mid → length new ≡ length mid → Sets part end last mid new
     → PutsParts parts (filled_buffer first at old) (filled_buffer (next + 1) last new)
 puts_more parts part first next at end last old mid new so_far there some room len set =
