@@ -107,10 +107,19 @@ pub record DiskTellsFaults {D : Type 0} (history : D → Option History) (faults
   pub counts : faults disk < last_count
   pub unspent : HasGeneration (history disk) generation_max → ⊥
 
+-- what is told of files: how often the texts have failed, and the disks of the maps
+pub record FileTells (D : Type 0) : Type 0 where
+  pub texts : ℕ
+  pub disks : List D
+
+abbrev pub file_tells : {D : Type 0} → ℕ → List D → FileTells D
+file_tells texts disks = record { texts = texts; disks = disks }
+
 -- The makes and transfers that ended in FILE are together at most what the counts of the texts and of the disks rose
 -- by, where no count stands at its last value, and all disks are well.
-abbrev pub FilesAreCovered : {D : Type 0} → (D → Option History) → (D → ℕ) → (texts texts' : ℕ) → List D → List D
-    → Totals → Type 0
-FilesAreCovered history faults texts texts' disks disks' totals =
-    texts' < last_count → All (DiskTellsFaults history faults) disks'
-    → totals.files + totals.outcomes.file + (texts + faults_over faults disks) ≤ texts' + faults_over faults disks'
+abbrev pub FilesAreCovered : {D : Type 0} → (D → Option History) → (D → ℕ) → FileTells D → FileTells D → Totals
+    → Type 0
+FilesAreCovered history faults old new totals =
+    new.texts < last_count → All (DiskTellsFaults history faults) new.disks
+    → totals.files + totals.outcomes.file + (old.texts + faults_over faults old.disks)
+    ≤ new.texts + faults_over faults new.disks

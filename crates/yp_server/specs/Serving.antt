@@ -105,7 +105,8 @@ pub record CarriesBeside {H T : Type 0} (service : MailService H T) (fault : Boo
   pub fresh : service.conduct.counts old ≡ no_counts
   pub steps : List CarrierStep
   pub unsent : List CarrierStep
-  pub delivers : Delivers service.conduct service.counting.counted steps unsent fault old new before after
+  pub delivers : Delivers service.conduct service.counting.counted (record { sent = steps; unsent = unsent }) fault
+      (record { host = old; inbox = before }) (record { host = new; inbox = after })
   pub took_is : took ≡ map left_for (steps ++ unsent)
   pub shown : IsFront (service.conduct.seen new).known service.log
 

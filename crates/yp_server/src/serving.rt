@@ -23,7 +23,7 @@ ghost use Rattle.yp_host.specs.inside.workers.Makings.{SiteBuilds};
 ghost use Rattle.yp_host.specs.workers.Wires.{CoversOrders, CoversSources};
 ghost use Rattle.yp_transfer.specs.inside.Dials.{dial_by};
 ghost use Rattle.yp_host.specs.inside.workers.Uses.{dial_told};
-ghost use Rattle.yp_server.specs.Counting.{CountsAndTells, FilesAreCovered, count_told};
+ghost use Rattle.yp_server.specs.Counting.{CountsAndTells, FilesAreCovered, file_tells, count_told};
 ghost use Rattle.yp_server.specs.Origins.{ComesFrom, EachComesFrom};
 
 use crate::datagrams::CarrierResources;
@@ -136,8 +136,8 @@ where
     // were reached as the wires that begin with one, and failed sources as the faults of the dial and the wires that
     // give no version.
     ensures files { IfOk result (λ served. FilesAreCovered D.history D.faults
-        (T.faults resources.desk.texts) (T.faults served.desk.texts)
-        (disks_of resources.publisher.maps) served.disks.items served.totals) }
+        (file_tells (T.faults resources.desk.texts) (disks_of resources.publisher.maps))
+        (file_tells (T.faults served.desk.texts) served.disks.items) served.totals) }
     ensures orders { IfOk result (λ served. CoversOrders (A.past resources.desk.dial) (A.past served.desk.dial)
         served.totals.outcomes.reached) }
     ensures sources { IfOk result (λ served. CoversSources (A.past resources.desk.dial) (A.past served.desk.dial)
@@ -279,8 +279,8 @@ where
         (box_by I.Inbox resources.outbox) (box_by I.Inbox served.outbox) served.totals
         J.hosts (dial_told J.wires J.letters J.dial_faults) (dial_by A.Dial served.desk.dial)) }
     ensures files { IfOk result (λ served. FilesAreCovered D.history D.faults
-        (T.faults resources.desk.texts) (T.faults served.desk.texts)
-        (disks_of resources.publisher.maps) served.disks.items served.totals) }
+        (file_tells (T.faults resources.desk.texts) (disks_of resources.publisher.maps))
+        (file_tells (T.faults served.desk.texts) served.disks.items) served.totals) }
     ensures orders { IfOk result (λ served. CoversOrders J.wires (A.past served.desk.dial)
         served.totals.outcomes.reached) }
     ensures sources { IfOk result (λ served. CoversSources J.wires (A.past served.desk.dial)
@@ -393,8 +393,8 @@ where
         (box_by I.Inbox resources.outbox) (box_by I.Inbox served.outbox) served.totals
         J.hosts (dial_told J.wires J.letters J.dial_faults) (dial_by A.Dial served.desk.dial)) }
     ensures files { IfOk result (λ served. FilesAreCovered D.history D.faults
-        (T.faults resources.desk.texts) (T.faults served.desk.texts)
-        (disks_of resources.publisher.maps) served.disks.items served.totals) }
+        (file_tells (T.faults resources.desk.texts) (disks_of resources.publisher.maps))
+        (file_tells (T.faults served.desk.texts) served.disks.items) served.totals) }
     ensures orders { IfOk result (λ served. CoversOrders J.wires (A.past served.desk.dial)
         served.totals.outcomes.reached) }
     ensures sources { IfOk result (λ served. CoversSources J.wires (A.past served.desk.dial)

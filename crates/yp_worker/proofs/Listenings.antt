@@ -3,11 +3,10 @@ use Rattle.std.proofs.Common.{◌≡◌, ◌⊎◌, inl, ℕ, ◌<◌, ◌≤◌
 use Rattle.std.specs.Prelude.{IfSome, OnOk}
 use Rattle.yp_io.specs.Counts.{HasRisen}
 use Rattle.yp_io.specs.Calls.{ListenerHistory, ClosedConnection, Accepting, none_closed}
-use Rattle.yp_board.specs.Logs.{Log}
 use Rattle.yp_answer.specs.session.Hosts.{Conduct}
 use Rattle.yp_worker.specs.Receptions.{Terms, GainsWhereTold, ListenTells, AcceptsNoMore, IsListenerState}
 use Rattle.yp_worker.specs.Summing.{Counting}
-use Rattle.yp_worker.specs.inside.Listenings.{IsListening}
+use Rattle.yp_worker.specs.inside.Listenings.{ListeningTells, IsListening}
 use Rattle.yp_worker.proofs.Receiving.{told, kept_none_more, over_same}
 use Rattle.yp_worker.proofs.Summing.{sums_same}
 
@@ -36,37 +35,38 @@ kept_over old now connections failed out ended nobody some kept =
       over = λ one. kept.over some;
     })
 
-module _ {H T : Type 0} (conduct : Conduct H) (counting : Counting H T) (terms : Terms) (old now : ListenTells)
-    {connections calls : ℕ} {failed : Bool} {out ended : ℕ} {sum : T} {reached : Log} {waiting amount parts : ℕ}
-    (is : IsListening conduct counting terms old now connections calls failed out ended sum reached waiting amount parts) where
+module _ {H T : Type 0} (conduct : Conduct H) (counting : Counting H T) (terms : Terms) (old : ListenTells)
+    {now : ListeningTells T} (is : IsListening conduct counting terms old now) where
   -- none came, and the listener tells what it told
-  pub none_more : (new : ListenTells) (after : Bool) (more : ℕ) → told new ≡ told now → new.returned ≡ now.returned
-      → new.let_go ≡ now.let_go → now.faults ≤ new.faults
-      → (after ≡ true → (failed ≡ true) ⊎ HasRisen now.faults new.faults) → (0 < more → AcceptsNoMore after new)
-      → IsListening conduct counting terms old new connections calls after out more sum reached waiting amount parts
+  pub none_more : (new : ListenTells) (after : Bool) (more : ℕ) → told new ≡ told now.listen
+      → new.returned ≡ now.listen.returned → new.let_go ≡ now.listen.let_go → now.listen.faults ≤ new.faults
+      → (after ≡ true → (now.failed ≡ true) ⊎ HasRisen now.listen.faults new.faults)
+      → (0 < more → AcceptsNoMore after new)
+      → IsListening conduct counting terms old (record now { listen = new; failed = after; ended = more })
   none_more new after more same returned let_go falls fault over = record {
-    state = kept_none_more old now new connections failed out ended is.state after more same returned falls fault over;
-    sums = sums_same conduct counting terms old now new calls sum reached (ap (λ (a : Accepting). a.past) same) returned
-        let_go is.sums;
+    state = kept_none_more old now.listen new now.connections now.failed now.out now.ended is.state after more same
+        returned falls fault over;
+    sums = sums_same conduct counting terms old now.listen new now.calls now.sum now.reached
+        (ap (λ (a : Accepting). a.past) same) returned let_go is.sums;
     held = is.held;
     one_part = is.one_part;
   }
 
   -- nor has a worker ended
-  pub stays : (new : ListenTells) → told new ≡ told now → new.returned ≡ now.returned → new.let_go ≡ now.let_go
-      → now.faults ≤ new.faults
-      → IsListening conduct counting terms old new connections calls failed out ended sum reached waiting amount parts
+  pub stays : (new : ListenTells) → told new ≡ told now.listen → new.returned ≡ now.listen.returned
+      → new.let_go ≡ now.listen.let_go → now.listen.faults ≤ new.faults
+      → IsListening conduct counting terms old (record now { listen = new })
   stays new same returned let_go falls =
-      none_more new failed ended same returned let_go falls (λ was. inl was)
-      (λ some. over_same old now new connections failed out ended is.state (ap (λ (a : Accepting). a.accepted) same)
-      (ap (λ (a : Accepting). a.most) same) (is.state.over some))
+      none_more new now.failed now.ended same returned let_go falls (λ was. inl was)
+      (λ some. over_same old now.listen new now.connections now.failed now.out now.ended is.state
+      (ap (λ (a : Accepting). a.accepted) same) (ap (λ (a : Accepting). a.most) same) (is.state.over some))
 
   -- another number waits, and is held
-  pub wait_so : (waiting' amount' parts' : ℕ) → amount' ≡ waiting' → parts' ≡ parts
-      → IsListening conduct counting terms old now connections calls failed out ended sum reached waiting' amount' parts'
-  wait_so waiting' amount' parts' held same = record {
+  pub wait_so : (waiting held parts : ℕ) → held ≡ waiting → parts ≡ now.held_parts
+      → IsListening conduct counting terms old (record now { waiting = waiting; held = held; held_parts = parts })
+  wait_so waiting held parts held_is same = record {
     state = is.state;
     sums = is.sums;
-    held = held;
+    held = held_is;
     one_part = same ∙ is.one_part;
   }

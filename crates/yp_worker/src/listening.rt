@@ -164,9 +164,19 @@ impl<J: Reception, E: Ledger, H: HandsOver, L: Hall, G> Model for Listening<J, E
     } };
 
     ghost invariant = { λ l. IsListening (conduct_of H.seen H.told H.counts H.stepped H.made H.carried)
-        (counting_of H.counted H.none H.plus) (terms_of J.catalogue J.starts J.most) J.opening
-        (opening_by L.Hall l.listen) l.connections l.calls l.failed l.out.total l.ended.total (H.summed l.sum)
-        (H.reached l.sum) l.left l.held.amount l.held.parts };
+        (counting_of H.counted H.none H.plus) (terms_of J.catalogue J.starts J.most) J.opening (record {
+          listen = opening_by L.Hall l.listen;
+          connections = l.connections;
+          calls = l.calls;
+          failed = l.failed;
+          out = l.out.total;
+          ended = l.ended.total;
+          sum = H.summed l.sum;
+          reached = H.reached l.sum;
+          waiting = l.left;
+          held = l.held.amount;
+          held_parts = l.held.parts;
+        }) };
 }
 
 impl<J: Reception, E: Ledger, H: HandsOver, L: Hall, G> Listening<J, E, H, L, G> {

@@ -22,7 +22,7 @@ use Rattle.yp_host.specs.workers.Makings.{IsBuiltAsNamed}
 use Rattle.yp_host.specs.workers.Wires.{CoversOrders, CoversSources}
 use Rattle.yp_worker.specs.Receptions.{ListenTells, IsListenerState, opening_by, terms_of}
 use Rattle.yp_server.specs.Serving.{conduct_at, mail_service, ServesInboxes, DisksStand}
-use Rattle.yp_server.specs.Counting.{CountsAndTells, FilesAreCovered, count_told}
+use Rattle.yp_server.specs.Counting.{CountsAndTells, FilesAreCovered, file_tells, count_told}
 use Rattle.yp_server.specs.Origins.{ComesFrom, EachComesFrom}
 use Rattle.yp_command.specs.declared.office.office.Office.{Office}
 use Rattle.yp_command_serve.specs.declared.serve.serve.Doors.{Doors}
@@ -126,8 +126,8 @@ pub record IsAccounted {D : Type 0} (seen : disk.Ghosts D) (setup : ServeSetup) 
   pub counted : CountsAndTells (conduct setup) (terms_of setup.catalogue growth.first.log CALLS_MAX)
       old.listen new.listen hosted.tally.calls growth.log setup.turns hosted.inbox_fault old.boxes new.boxes old.out
       new.out hosted.totals setup.hosts old.supply.dial new.supply.dial
-  pub files : FilesAreCovered seen.history seen.faults old.supply.texts new.supply.texts old.disks new.disks
-      hosted.totals
+  pub files : FilesAreCovered seen.history seen.faults (file_tells old.supply.texts old.disks)
+      (file_tells new.supply.texts new.disks) hosted.totals
   pub orders : CoversOrders old.supply.dial.past new.supply.dial.past hosted.totals.outcomes.reached
   pub sources : CoversSources old.supply.dial.past new.supply.dial.past old.supply.dial.faults new.supply.dial.faults
       hosted.totals.outcomes.source

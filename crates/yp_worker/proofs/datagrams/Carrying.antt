@@ -23,7 +23,7 @@ use Rattle.yp_worker.specs.datagrams.Carrying.{CarrierStep, Carried, Replied, An
 use Rattle.yp_worker.proofs.datagrams.Answering.{Later, later_then, same}
 use Rattle.yp_worker.proofs.datagrams.Sending.{sends_none, sends_one, sends_then}
 use Rattle.yp_worker.specs.inside.Queues.{Dealt, all_parts, Balances}
-use Rattle.yp_worker.specs.inside.Mailing.{Carrying, FaultsRise, DoesLeft, CarriesOn, CarriesRest, sent_unless}
+use Rattle.yp_worker.specs.inside.Mailing.{Carrying, carrier_told, FaultsRise, DoesLeft, CarriesOn, CarriesRest, sent_unless}
 
 pub behind_twice : (holding : Holding) (a t b u : List Deferred)
     → held_behind (held_behind holding a t) b u ≡ held_behind holding (a ++ b) (t ++ u)
@@ -329,8 +329,8 @@ module _ {I H T : Type 0} (conduct : Conduct H) (counted : H → T) (box : I →
       on_then a b (record c { holding = held_behind b.holding [] (map left_for (second.steps ++ second.unsent)) }) first (record {
         steps = second.steps;
         unsent = second.unsent;
-        delivers = subst (λ (m : Carrying I H). Delivers conduct counted second.steps second.unsent c.fault m.host c.host (box m.inbox) (box c.inbox)) is
-            second.delivers;
+        delivers = subst (λ (m : Carrying I H). Delivers conduct counted (record { sent = second.steps; unsent = second.unsent })
+            c.fault (carrier_told box m) (carrier_told box c)) is second.delivers;
         ended = λ some. second.ended (ap (λ (m : Carrying I H). m.fault) is ∙ some);
         cause = subst (λ (m : Carrying I H). FaultsRise faults m.fault c.fault m.inbox c.inbox) is second.cause;
         holding = refl;

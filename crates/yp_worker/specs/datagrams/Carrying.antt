@@ -32,6 +32,16 @@ abbrev pub sent_over : List CarrierStep → List InboxEvent
 sent_over [] = []
 sent_over (step ∷ steps) = sent_in step ++ sent_over steps
 
+-- the steps of a carrier, in their order: those whose replies were sent, and then the others
+pub record CarrierRun : Type 0 where
+  pub sent : List CarrierStep
+  pub unsent : List CarrierStep
+
+-- what is told of a carrier: its host, and the inbox that it sends replies from
+pub record CarrierTells (H : Type 0) : Type 0 where
+  pub host : H
+  pub inbox : InboxTells
+
 -- These letters were sent from an inbox, which took no turn.
 pub record Sends (letters : List InboxEvent) (old new : InboxTells) : Type 0 where
   pub past : GainsAll letters old.past new.past
@@ -62,8 +72,7 @@ module _ {H T : Type 0} (conduct : Conduct H) (counted : H → T) where
 
   -- A host took these steps. The replies of the first ones were sent from an inbox, each behind its step. Where that
   -- hasn't failed there are no others; where it has, no reply of the others was sent.
-  pub record Delivers (steps unsent : List CarrierStep) (fault : Bool) (old new : H) (before after : InboxTells)
-      : Type 0 where
-    pub takes : TakesCarrierSteps (steps ++ unsent) old new
-    pub sends : Sends (sent_over steps) before after
-    pub whole : fault ≡ false → unsent ≡ []
+  pub record Delivers (run : CarrierRun) (fault : Bool) (old new : CarrierTells H) : Type 0 where
+    pub takes : TakesCarrierSteps (run.sent ++ run.unsent) old.host new.host
+    pub sends : Sends (sent_over run.sent) old.inbox new.inbox
+    pub whole : fault ≡ false → run.unsent ≡ []

@@ -6,7 +6,8 @@ use Rattle.yp_answer.specs.session.Hosts.{Conduct}
 use Rattle.yp_rpc.specs.Turns.{InboxTells}
 use Rattle.yp_worker.specs.datagrams.Mailing.{Deferred, Holding, held_behind}
 use Rattle.yp_worker.specs.datagrams.Queues.{WeighTheSame}
-use Rattle.yp_worker.specs.datagrams.Carrying.{CarrierStep, TakesCarrierStep, Sends, Delivers, left_for, sent_in}
+use Rattle.yp_worker.specs.datagrams.Carrying.{CarrierStep, CarrierTells, TakesCarrierStep, Sends, Delivers}
+use Rattle.yp_worker.specs.datagrams.Carrying.{left_for, sent_in}
 use Rattle.yp_worker.specs.inside.Queues.{all_parts}
 
 -- a carrier: its host, what it holds of the queue, the inbox that it sends replies from, and whether that has failed
@@ -19,6 +20,10 @@ pub record Carrying (I H : Type 0) : Type 0 where
 -- a carrier before its first step
 abbrev pub carrier_of : {I H : Type 0} → H → Holding → I → Carrying I H
 carrier_of host holding inbox = record { host = host; holding = holding; inbox = inbox; fault = false }
+
+-- what is told of it
+abbrev pub carrier_told : {I H : Type 0} → (I → InboxTells) → Carrying I H → CarrierTells H
+carrier_told box carrier = record { host = carrier.host; inbox = box carrier.inbox }
 
 -- A count of faults never falls, and a fault of an inbox is found only where it rises.
 pub record FaultsRise {I : Type 0} (faults : I → ℕ) (before after : Bool) (old new : I) : Type 0 where
@@ -45,7 +50,8 @@ pub record CarriesOn {I H T : Type 0} (conduct : Conduct H) (counted : H → T) 
     (old new : Carrying I H) : Type 0 where
   pub steps : List CarrierStep
   pub unsent : List CarrierStep
-  pub delivers : Delivers conduct counted steps unsent new.fault old.host new.host (box old.inbox) (box new.inbox)
+  pub delivers : Delivers conduct counted (record { sent = steps; unsent = unsent }) new.fault (carrier_told box old)
+      (carrier_told box new)
   pub ended : old.fault ≡ true → (steps ≡ []) × (new.fault ≡ true)
   pub cause : FaultsRise faults old.fault new.fault old.inbox new.inbox
   pub holding : new.holding ≡ held_behind old.holding [] (map left_for (steps ++ unsent))

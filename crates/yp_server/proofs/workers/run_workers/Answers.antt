@@ -289,9 +289,11 @@ returns-clause-counted g c = λ inboxes datagram_workers was turns begins log re
             steps = both.steps;
             unsent = both.unsent;
             delivers =
-                subst (λ (b : Bool). Delivers conduct g.H.CatchUp.counted both.steps both.unsent b carrier.host rest.ended.host (box carrier.inbox) (box last.result.0.inbox))
+                subst (λ (b : Bool). Delivers conduct g.H.CatchUp.counted (record { sent = both.steps; unsent = both.unsent }) b
+                (record { host = carrier.host; inbox = box carrier.inbox }) (record { host = rest.ended.host; inbox = box last.result.0.inbox }))
                 (sym rest.fault_is)
-                (subst (λ (i : g.row.I.Denot). Delivers conduct g.H.CatchUp.counted both.steps both.unsent rest.ended.fault carrier.host rest.ended.host (box carrier.inbox) (box i))
+                (subst (λ (i : g.row.I.Denot). Delivers conduct g.H.CatchUp.counted (record { sent = both.steps; unsent = both.unsent })
+                rest.ended.fault (record { host = carrier.host; inbox = box carrier.inbox }) (record { host = rest.ended.host; inbox = box i }))
                 (sym rest.inbox_is) both.delivers);
             took_is = refl;
             shown = front_then (g.H.View.seen rest.ended.host).known reached log rest.covered reaches;

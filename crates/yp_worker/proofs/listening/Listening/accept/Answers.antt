@@ -30,7 +30,7 @@ invariant_of-self-in-Err g c =
     let conduct = conduct_of g.H.View.seen g.H.Host.told g.H.Host.counts g.H.View.stepped g.H.Host.made g.H.Host.carried in
     let counting = counting_of g.H.CatchUp.counted g.H.HandsOver.none g.H.HandsOver.plus in
     let terms = terms_of g.J.Site.catalogue g.J.Reception.starts g.J.Reception.most in
-    none_more conduct counting terms g.J.Reception.opening (opening_by g.L.Hall c.self.inside.listen) c.self.invariant
+    none_more conduct counting terms g.J.Reception.opening c.self.invariant
     (opening_by g.L.Hall c.try_accept.new.self) true _
     c.in-Err.ensures.none c.in-Err.ensures.returned c.in-Err.ensures.let_go c.in-Err.ensures.cause.never_falls
     (λ was. inr c.in-Err.ensures.cause.risen) (λ some. inl refl)
@@ -54,7 +54,7 @@ invariant_of-self g c =
     let conduct = conduct_of g.H.View.seen g.H.Host.told g.H.Host.counts g.H.View.stepped g.H.Host.made g.H.Host.carried in
     let counting = counting_of g.H.CatchUp.counted g.H.HandsOver.none g.H.HandsOver.plus in
     let terms = terms_of g.J.Site.catalogue g.J.Reception.starts g.J.Reception.most in
-    none_more conduct counting terms g.J.Reception.opening (opening_by g.L.Hall c.self.inside.listen) c.self.invariant
+    none_more conduct counting terms g.J.Reception.opening c.self.invariant
     (opening_by g.L.Hall c.self.inside.listen) _ _
     refl refl refl (omega arith) (λ was. inl was) (λ some. inl c.if-self.true)
 
@@ -64,7 +64,7 @@ invariant_of-self-in-Ok-NotNow g c =
     let counting = counting_of g.H.CatchUp.counted g.H.HandsOver.none g.H.HandsOver.plus in
     let terms = terms_of g.J.Site.catalogue g.J.Reception.starts g.J.Reception.most in
     let not_now = rw c.in-Ok-NotNow.field-0-is at c.in-Ok-NotNow.ensures.not_now in
-    stays conduct counting terms g.J.Reception.opening (opening_by g.L.Hall c.self.inside.listen) c.self.invariant
+    stays conduct counting terms g.J.Reception.opening c.self.invariant
     (opening_by g.L.Hall c.try_accept.new.self)
     not_now.same c.in-Ok-NotNow.ensures.returned c.in-Ok-NotNow.ensures.let_go c.in-Ok-NotNow.ensures.cause.never_falls
 
@@ -74,7 +74,7 @@ invariant_of-self-in-Ok-Closed g c =
     let counting = counting_of g.H.CatchUp.counted g.H.HandsOver.none g.H.HandsOver.plus in
     let terms = terms_of g.J.Site.catalogue g.J.Reception.starts g.J.Reception.most in
     let closed = rw c.in-Ok-Closed.field-0-is at c.in-Ok-Closed.ensures.closed in
-    none_more conduct counting terms g.J.Reception.opening (opening_by g.L.Hall c.self.inside.listen) c.self.invariant
+    none_more conduct counting terms g.J.Reception.opening c.self.invariant
     (opening_by g.L.Hall c.try_accept.new.self) _ _
     closed.same c.in-Ok-Closed.ensures.returned c.in-Ok-Closed.ensures.let_go c.in-Ok-Closed.ensures.cause.never_falls
     (λ was. inl was)

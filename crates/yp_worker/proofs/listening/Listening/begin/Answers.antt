@@ -11,7 +11,7 @@ invariant_of-self g c =
     let conduct = conduct_of g.H.View.seen g.H.Host.told g.H.Host.counts g.H.View.stepped g.H.Host.made g.H.Host.carried in
     let counting = counting_of g.H.CatchUp.counted g.H.HandsOver.none g.H.HandsOver.plus in
     let terms = terms_of g.J.Site.catalogue g.J.Reception.starts g.J.Reception.most in
-    rw c.attend.ensures (stays conduct counting terms g.J.Reception.opening (opening_by g.L.Hall c.self.inside.listen) c.self.invariant
+    rw c.attend.ensures (stays conduct counting terms g.J.Reception.opening c.self.invariant
     (opening_by g.L.Hall c.watch.new.self) c.in-Ok.ensures.same c.in-Ok.ensures.returned c.in-Ok.ensures.let_go c.in-Ok.ensures.cause.never_falls)
 
 pub invariant_of-self-in-Err : goal.invariant_of-self-in-Err
@@ -19,7 +19,7 @@ invariant_of-self-in-Err g c =
     let conduct = conduct_of g.H.View.seen g.H.Host.told g.H.Host.counts g.H.View.stepped g.H.Host.made g.H.Host.carried in
     let counting = counting_of g.H.CatchUp.counted g.H.HandsOver.none g.H.HandsOver.plus in
     let terms = terms_of g.J.Site.catalogue g.J.Reception.starts g.J.Reception.most in
-    none_more conduct counting terms g.J.Reception.opening (opening_by g.L.Hall c.self.inside.listen) c.self.invariant
+    none_more conduct counting terms g.J.Reception.opening c.self.invariant
     (opening_by g.L.Hall c.watch.new.self) true _ c.in-Err.ensures.same c.in-Err.ensures.returned c.in-Err.ensures.let_go c.in-Err.ensures.cause.never_falls
     (λ was. inr c.in-Err.ensures.cause.risen) (λ some. inl refl)
 

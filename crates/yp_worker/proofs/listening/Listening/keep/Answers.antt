@@ -1,6 +1,6 @@
 use Rattle.std.proofs.Common.{ℕ, ◌<◌, ap, arith}
 use Rattle.yp_answer.specs.session.Hosts.{conduct_of}
-use Rattle.yp_worker.specs.Receptions.{opening_by, terms_of}
+use Rattle.yp_worker.specs.Receptions.{terms_of}
 use Rattle.yp_worker.specs.Summing.{counting_of}
 use Rattle.yp_worker.proofs.Attending.{if_found}
 use Rattle.yp_worker.proofs.Listenings.{wait_so}
@@ -19,7 +19,7 @@ invariant_of-self-2 g c =
     let terms = terms_of g.J.Site.catalogue g.J.Reception.starts g.J.Reception.most in
     let held = c.self.invariant.held in
     let kept = c.keep.ensures.kept c.if-not-keep.false in
-    wait_so conduct counting terms g.J.Reception.opening (opening_by g.L.Hall c.self.inside.listen) c.self.invariant _ _ _
+    wait_so conduct counting terms g.J.Reception.opening c.self.invariant _ _ _
     (omega (arith, held, kept.1, c.transfer.ensures.amount_given)) c.transfer.ensures.parts_given
 
 pub returns-clause-kept : goal.returns-clause-kept
