@@ -117,11 +117,15 @@ module _ {S K D C A I T : Type 0} (seen : Seeing S K D C A I T) (job : Job) (sta
     pub of_run : (caller : Peer) (rest : List ℕ) → RunIsFetched
         → length job.store.0 ≤ 64 → length job.store.1 ≤ 64 → XfrDoes seen job status old new
         → AnswersFetch catalogue caller job.store.0 job.store.1 run
-        → HasCome job.host.1 (sent_all (replies_of run.turns) ++ rest) (seen.dial.past old.dial) (seen.dial.past new.dial)
+        → HasCome job.host.1 (sent_all (replies_of run.turns) ++ rest) (seen.dial.past old.dial)
+        (seen.dial.past new.dial)
         → IsTrue (tells_stored status)
-        → TransferIsStored (λ asked version. IsOfSource catalogue asked run.logs version) job (history seen old) (history seen new)
+        → TransferIsStored (λ asked version. IsOfSource catalogue asked run.logs version) job (history seen old)
+        (history seen new)
     of_run caller rest law domain map does answers came told =
-        ⊎_elim (λ did. stored_of (λ asked version. IsOfSource catalogue asked run.logs version) did.did.held did.did.outcome did.result _ (λ version is.
+        ⊎_elim
+        (λ did. stored_of (λ asked version. IsOfSource catalogue asked run.logs version) did.did.held did.did.outcome
+        did.result _ (λ version is.
         law catalogue job.host.1 caller (job.host ∷ []) job.host.0 (wanted job did.did.held) run rest version
         (dialing seen old) (dialing seen new) domain map answers came
         (subst (λ (o : FetchOutcome). FetchesFrom (job.host ∷ []) job.host.0 (wanted job did.did.held) o

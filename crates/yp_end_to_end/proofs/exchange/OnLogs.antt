@@ -100,10 +100,12 @@ run_is_on_logs catalogue peer (turn ∷ turns) (log ∷ logs) before after serve
     let inquiry = inquiry_of catalogue peer in
     let later = later_on inquiry (records_of turns) (replies_of turns) logs one.log run.0 after one.goes_on rest in
     let got = gets_bytes catalogue (reply Stream maps peer turn.message) has.0 turn.answer one.log run.0 has.1 one.gets in
-    let here : RepliesOn inquiry (turn.message ∷ records_of turns) (has.0 ∷ replies_of turns) (one.log ∷ logs) before after =
+    let calls = turn.message ∷ records_of turns in
+    let here : RepliesOn inquiry calls (has.0 ∷ replies_of turns) (one.log ∷ logs) before after =
     (one.begins, has.1, later) in
-    subst (λ (l : Log). RepliesOn inquiry (turn.message ∷ records_of turns) (cons_option turn.answer (replies_of turns)) (l ∷ logs) before after) run.2
-    (subst (λ (answer : Option (List ℕ)). RepliesOn inquiry (turn.message ∷ records_of turns) (cons_option answer (replies_of turns)) (one.log ∷ logs) before after)
+    subst (λ (l : Log). RepliesOn inquiry calls (cons_option turn.answer (replies_of turns)) (l ∷ logs) before after) run.2
+    (subst
+    (λ (answer : Option (List ℕ)). RepliesOn inquiry calls (cons_option answer (replies_of turns)) (one.log ∷ logs) before after)
     (sym got) here)
 
 -- ---- the calls of a question

@@ -131,8 +131,8 @@ module _ (laws : Replied) (peer : Peer) where
       (All-cons (IsRepliedTo peer) (order_call domain map 4) [] (order 4 (omega arith)) (All-nil (IsRepliedTo peer)))))
 
 pub run_is_fetched : Replied → RunIsOnLogs → TurnsGiveFetch → FetchedIsShown → WireIsFetched → RunIsFetched
-run_is_fetched replied on_logs turns_give shown by_wire catalogue server caller hosts name wanted run rest version old new
-    d m answers came fetches =
+run_is_fetched replied on_logs turns_give shown by_wire catalogue server caller hosts name wanted run rest version old
+    new d m answers came fetches =
     let replies = replies_of run.turns in
     let stream = sent_all replies ++ rest in
     let each = subst (λ (records : List (List ℕ)). All (IsRepliedTo caller) records) (sym answers.calls)

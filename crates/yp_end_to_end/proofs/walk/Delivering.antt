@@ -113,8 +113,8 @@ delivered_is_whole in_turn walked is_delivered catalogue walk version answers wa
     let many : length heard.0 ≡ length version.rows + 4 =
     sym (length-map heard.0 (λ (made : SourceMail). made.mail)) ∙ ap length heard.1 ∙ count in
     ap (λ (w : Walking). w.standing) (sym heard.4)
-    ∙ walked catalogue walk.caller walk.source walk.wanted answers.log answers.last.front heard.0 answers.last.walk version
-    answers.is_source heard.2 heard.3 walkable shown many
+    ∙ walked catalogue walk.caller walk.source walk.wanted answers.log answers.last.front heard.0 answers.last.walk
+    version answers.is_source heard.2 heard.3 walkable shown many
 
 pub delivered_skews : HeardIsInTurn → SkewIsShown → HappenedIsDelivered → DeliveredSkews
 unfolding by_mails heard_of_source
