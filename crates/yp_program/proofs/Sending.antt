@@ -15,7 +15,7 @@ use Rattle.yp_answer.specs.session.LogRuns.{LogRun}
 use Rattle.yp_answer.specs.session.Runs.{Dialogue, Chain, Ends, Runs, sent_reply, unsent}
 use Rattle.yp_host.specs.Connections.{Service, Connection, ServesConnection, log_of}
 use Rattle.yp_client.specs.Questions.{ByteQuestion}
-use Rattle.yp_end_to_end.specs.exchange.Runs.{calls_made, sent_all}
+use Rattle.yp_end_to_end.specs.exchange.Runs.{calls_made, query_of, sent_all}
 use Rattle.yp_end_to_end.specs.exchange.LogRuns.{records_of, replies_of, AnswersCalls}
 use Rattle.yp_command.specs.office.Seeing.{Seeing}
 use Rattle.yp_command_serve.specs.Served.{fixed_conduct}
@@ -66,7 +66,8 @@ module _ {H : Type 0} (conduct : Conduct H) (peer : Peer) where
 -- the run of a connection over the calls of a question is one that answers them
 answers_calls : {D B E : Type 0} (service : Service D B E) (end : End) (old new : Connection D E) (wires : List Wire) (serves : ServesConnection service end old new wires) (question : ByteQuestion)
     → records_of serves.runs.turns ≡ calls_made question (replies_of serves.runs.turns)
-    → AnswersCalls service.catalogue service.peer question serves.runs.turns (log_of service serves.start) (log_of service serves.finish)
+    → AnswersCalls (query_of service.catalogue service.peer question) serves.runs.turns (log_of service serves.start)
+    (log_of service serves.finish)
 answers_calls service end old new wires serves question calls = record {
   served = serves.served;
   run = subst (λ (k : Catalogue). LogRun k Stream service.peer serves.runs.turns (log_of service serves.start) (log_of service serves.finish)) serves.first.catalogue serves.runs.on_logs;

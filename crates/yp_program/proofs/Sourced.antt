@@ -11,14 +11,12 @@ use Rattle.yp_map_file.specs.Loads.{Loads}
 use Rattle.yp_map_file.specs.Stands.{stands}
 use Rattle.yp_map_file.specs.Stands as stood
 use Rattle.yp_board.specs.Catalogues.{Catalogue, Name}
-use Rattle.yp_board.specs.Logs.{Log}
 use Rattle.yp_publisher.specs.declared.install.Installed.{Installed}
 use Rattle.yp_publisher.specs.Installs.{Refusal}
 use Rattle.yp_publisher.specs.Standing.{stands_for}
-use Rattle.yp_answer.specs.session.Hosts.{Turn}
 use Rattle.yp_client.specs.query.Complete.{HasCome}
 use Rattle.yp_end_to_end.specs.exchange.Runs.{sent_all}
-use Rattle.yp_end_to_end.specs.exchange.LogRuns.{replies_of}
+use Rattle.yp_end_to_end.specs.exchange.LogRuns.{replies_of, ServerRun}
 use Rattle.yp_transfer.specs.declared.fault.XfrFault.{XfrFault}
 use Rattle.yp_transfer.specs.declared.fault.XfrFault.TheVariants as fault
 use Rattle.yp_transfer.specs.Fetching.{Wanted, FetchOutcome}
@@ -115,17 +113,21 @@ module _ {S K D C A I T : Type 0} (seen : Seeing S K D C A I T) (job : Job) (sta
   stored_of P held outcome (Err why) Failed of_source is comes stored tells told =
       absurd (not_told job.store why status _ _ tells told)
 
-  module _ (catalogue : Catalogue) (logs : List Log) where
-    pub of_run : (caller : Peer) (turns : List Turn) (rest : List ℕ) (before after : Log) → RunIsFetched
+  module _ (catalogue : Catalogue) (run : ServerRun) where
+    pub of_run : (caller : Peer) (rest : List ℕ) → RunIsFetched
         → length job.store.0 ≤ 64 → length job.store.1 ≤ 64 → XfrDoes seen job status old new
-        → AnswersFetch catalogue caller job.store.0 job.store.1 turns logs before after
-        → HasCome job.host.1 (sent_all (replies_of turns) ++ rest) (seen.dial.past old.dial) (seen.dial.past new.dial)
+        → AnswersFetch catalogue caller job.store.0 job.store.1 run
+        → HasCome job.host.1 (sent_all (replies_of run.turns) ++ rest) (seen.dial.past old.dial)
+        (seen.dial.past new.dial)
         → IsTrue (tells_stored status)
-        → TransferIsStored (λ asked version. IsOfSource catalogue asked logs version) job (history seen old) (history seen new)
-    of_run caller turns rest before after law domain map does answers came told =
-        ⊎_elim (λ did. stored_of (λ asked version. IsOfSource catalogue asked logs version) did.did.held did.did.outcome did.result _ (λ version is.
-        law catalogue job.host.1 caller (job.host ∷ []) job.host.0 (wanted job did.did.held) turns logs rest before
-        after version (dialing seen old) (dialing seen new) domain map answers came
+        → TransferIsStored (λ asked version. IsOfSource catalogue asked run.logs version) job (history seen old)
+        (history seen new)
+    of_run caller rest law domain map does answers came told =
+        ⊎_elim
+        (λ did. stored_of (λ asked version. IsOfSource catalogue asked run.logs version) did.did.held did.did.outcome
+        did.result _ (λ version is.
+        law catalogue job.host.1 caller (job.host ∷ []) job.host.0 (wanted job did.did.held) run rest version
+        (dialing seen old) (dialing seen new) domain map answers came
         (subst (λ (o : FetchOutcome). FetchesFrom (job.host ∷ []) job.host.0 (wanted job did.did.held) o
         (dialing seen old) (dialing seen new)) is did.did.fetches))
         did.did.stores.is_held did.did.stores.comes did.did.stores.stored did.tells told)

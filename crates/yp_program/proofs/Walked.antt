@@ -36,7 +36,7 @@ use Rattle.yp_command_maps.specs.declared.walk.walker.Came.TheVariants.{Outcome 
 use Rattle.yp_command_maps.specs.walk.Turns.{heard_of, IsCame, WalksTo}
 use Rattle.yp_command_maps.specs.walk.Walk.{WalkDoes, Walks, WalksForNothing, IsVain}
 use Rattle.yp_program.specs.Transferring.{TransferIsStored, IsToldHeld}
-use Rattle.yp_program.specs.Walking.{Happened}
+use Rattle.yp_program.specs.Walking.{Happened, walk_of}
 use Rattle.yp_program.proofs.Sourced.{held_same, not_loaded, stored_of, by_outcome, unloaded}
 
 -- ---- how a walk ended
@@ -164,13 +164,13 @@ module _ {S K D C A I T : Type 0} (seen : Seeing S K D C A I T) (job : Job) (tur
       (λ out. inr out) walks.stands
 
   pub of_walk : (catalogue : Catalogue) (caller : Peer) → DeliveredIsOfSource → WalkDoes seen job turns status old new
-      → (answers : AnswersWalk catalogue caller job.host.1 (wanted job held) (heard_of events))
+      → (answers : AnswersWalk catalogue (walk_of caller job (wanted job held) events))
       → IsTrue (tells_stored status)
-      → TransferIsStored (λ asked version. IsWalkedOf catalogue caller job.host.1 asked (heard_of events) answers.log
+      → TransferIsStored (λ asked version. IsWalkedOf catalogue (walk_of caller job asked events) answers.log
       answers.last.front version) job (history seen old) (history seen new)
   of_walk catalogue caller law does answers tells =
-      let Of : Wanted → MapVersion → Type 0 = λ asked version. IsWalkedOf catalogue caller job.host.1 asked
-      (heard_of events) answers.log answers.last.front version in
+      let Of : Wanted → MapVersion → Type 0 = λ asked version. IsWalkedOf catalogue (walk_of caller job asked events)
+      answers.log answers.last.front version in
       ⊎_elim
       (λ (did : Walks seen job turns status old new).
       let same = held_same (history seen old) did.did.held held did.did.stores.is_held told in
@@ -183,7 +183,7 @@ module _ {S K D C A I T : Type 0} (seen : Seeing S K D C A I T) (job : Job) (tur
       ⊎_elim (λ at. ap (λ walk. walk.standing) (sym at) ∙ ended.1)
       (λ out. absurd (let wrong : refusal fault.NoMemory ≡ HasEnded (Ok ended.0) = sym out ∙ ended.1 in cc))
       (stood did.did.held (HasOutcome did.did.outcome) same walks) in
-      let one = law catalogue caller job.host.1 (wanted job held) (heard_of events) ended.0 answers here in
+      let one = law catalogue (walk_of caller job (wanted job held) events) ended.0 answers here in
       subst (λ (h : FileVersion). Of (wanted job h) version) (sym same)
       (subst (λ (v : MapVersion). Of (wanted job held) v) (sym ended.2) one))
       did.did.stores.is_held did.did.stores.comes did.did.stores.stored did.tells tells)
@@ -194,10 +194,9 @@ module _ {S K D C A I T : Type 0} (seen : Seeing S K D C A I T) (job : Job) (tur
 
   pub of_skew : (catalogue : Catalogue) (caller : Peer) (first second : ℕ) → DeliveredSkews
       → WalkDoes seen job turns status old new
-      → (answers : AnswersWalk catalogue caller job.host.1 (wanted job held) (heard_of events))
+      → (answers : AnswersWalk catalogue (walk_of caller job (wanted job held) events))
       → status ≡ Xfr (fault.Skew first second)
-      → IsSkewOf catalogue caller job.host.1 (wanted job held) (heard_of events) answers.log answers.last.front
-      first second
+      → IsSkewOf catalogue (walk_of caller job (wanted job held) events) answers.log answers.last.front first second
   of_skew catalogue caller first second law does answers is =
       ⊎_elim
       (λ (did : Walks seen job turns status old new).
@@ -214,7 +213,7 @@ module _ {S K D C A I T : Type 0} (seen : Seeing S K D C A I T) (job : Job) (tur
       ⊎_elim (λ at. ap (λ walk. walk.standing) (sym at) ∙ ended)
       (λ out. absurd (let wrong : refusal fault.NoMemory ≡ HasEnded (Err (fault.Skew first second)) = sym out ∙ ended in cc))
       (stood did.did.held (HasOutcome did.did.outcome) same walks) in
-      law catalogue caller job.host.1 (wanted job held) (heard_of events) first second answers here)
+      law catalogue (walk_of caller job (wanted job held) events) first second answers here)
       (λ others. ⊎_elim
       (λ (vain : WalksForNothing seen job turns status old new).
       absurd (vain_skew turns vain.came status (fault.Skew first second) vain.tells is))

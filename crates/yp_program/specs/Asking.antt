@@ -10,7 +10,7 @@ use Rattle.yp_client.specs.declared.query.fault.QueryFault.TheVariants as fault
 use Rattle.yp_client.specs.Questions.{ByteQuestion}
 use Rattle.yp_client.specs.query.Scenes.{QueryTells, Asks, query_tells}
 use Rattle.yp_client.specs.query.Complete.{HasAnswer, HasCome}
-use Rattle.yp_end_to_end.specs.exchange.Runs.{sent_all, PrintsOnLogs}
+use Rattle.yp_end_to_end.specs.exchange.Runs.{sent_all, query_of, PrintsOnLogs}
 use Rattle.yp_end_to_end.specs.exchange.LogRuns.{replies_of, AnswersCalls}
 use Rattle.yp_command.specs.office.Rows.{row_status}
 use Rattle.yp_command.specs.declared.office.status.Status.{Status}
@@ -84,9 +84,9 @@ pub record AskDoes {S K D C A I T : Type 0} (seen : Seeing S K D C A I T) (peer 
     (status : Status) (old new : Office S K D C A I T) : Type 0 where
   pub asks : AsksAs peer question status (scene seen old) (scene seen new)
   pub prints : (catalogue : Catalogue) (caller : Peer) (turns : List Turn) (rest : List ℕ) (before after : Log)
-      → AnswersCalls catalogue caller question turns before after
+      → AnswersCalls (query_of catalogue caller question) turns before after
       → HasCome peer (sent_all (replies_of turns) ++ rest) (seen.dial.past old.dial) (seen.dial.past new.dial)
-      → PrintsOnLogs catalogue caller question before after asks.result (output seen old) (output seen new)
+      → PrintsOnLogs (query_of catalogue caller question) before after asks.result (output seen old) (output seen new)
   pub complete : (stream : List ℕ) → HasAnswer question stream
       → HasCome peer stream (seen.dial.past old.dial) (seen.dial.past new.dial)
       → ¬ DialFails seen old new → ¬ WriteFails seen old new → IsClientAnswer status

@@ -6,12 +6,10 @@ use Rattle.yp_version.specs.Versions.{MapVersion}
 use Rattle.yp_map_file.specs.Commits.{generation_of, winning}
 use Rattle.yp_map_file.specs.Stands.{Stored, stands}
 use Rattle.yp_board.specs.Catalogues.{Catalogue}
-use Rattle.yp_board.specs.Logs.{Log}
 use Rattle.yp_publisher.specs.Standing.{stands_for}
-use Rattle.yp_answer.specs.session.Hosts.{Turn}
 use Rattle.yp_client.specs.query.Complete.{HasCome}
 use Rattle.yp_end_to_end.specs.exchange.Runs.{sent_all}
-use Rattle.yp_end_to_end.specs.exchange.LogRuns.{replies_of}
+use Rattle.yp_end_to_end.specs.exchange.LogRuns.{replies_of, ServerRun}
 use Rattle.yp_transfer.specs.Fetching.{Wanted}
 use Rattle.yp_transfer.specs.Fetched.{place_of, Fetched}
 use Rattle.yp_end_to_end.specs.transfer.Runs.{AnswersFetch, IsOfSource}
@@ -46,12 +44,11 @@ pub record IsToldHeld (old : Option History) (held : FileVersion) : Type 0 where
 pub record TransferDoes {S K D C A I T : Type 0} (seen : Seeing S K D C A I T) (job : Job) (status : Status)
     (old new : Office S K D C A I T) : Type 0 where
   pub does : XfrDoes seen job status old new
-  pub of_source : (catalogue : Catalogue) (caller : Peer) (turns : List Turn) (logs : List Log) (rest : List ℕ)
-      (before after : Log)
-      → AnswersFetch catalogue caller job.store.0 job.store.1 turns logs before after
-      → HasCome job.host.1 (sent_all (replies_of turns) ++ rest) (seen.dial.past old.dial) (seen.dial.past new.dial)
+  pub of_source : (catalogue : Catalogue) (caller : Peer) (run : ServerRun) (rest : List ℕ)
+      → AnswersFetch catalogue caller job.store.0 job.store.1 run
+      → HasCome job.host.1 (sent_all (replies_of run.turns) ++ rest) (seen.dial.past old.dial) (seen.dial.past new.dial)
       → IsTrue (tells_stored status)
-      → TransferIsStored (λ asked version. IsOfSource catalogue asked logs version) job (history seen old)
+      → TransferIsStored (λ asked version. IsOfSource catalogue asked run.logs version) job (history seen old)
       (history seen new)
   pub complete : (held : FileVersion) (stream : List ℕ) (version : MapVersion) → IsToldHeld (history seen old) held
       → HasCome job.host.1 stream (seen.dial.past old.dial) (seen.dial.past new.dial)

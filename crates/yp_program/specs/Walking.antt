@@ -13,7 +13,8 @@ use Rattle.yp_transfer.specs.declared.fault.XfrFault.TheVariants.{Skew}
 use Rattle.yp_end_to_end.specs.transfer.Replies.{IsShown}
 use Rattle.yp_transfer.specs.walk.Standings.{HasEnded}
 use Rattle.yp_transfer.specs.walk.Schedules.{awaited, walk_by}
-use Rattle.yp_end_to_end.specs.walk.Laws.{AnswersWalk, IsWalkedOf, IsSkewOf, IsWalkable}
+use Rattle.yp_transfer.specs.Fetching.{Wanted}
+use Rattle.yp_end_to_end.specs.walk.Laws.{DeliveredWalk, AnswersWalk, IsWalkedOf, IsSkewOf, IsWalkable}
 use Rattle.yp_command.specs.declared.office.office.Office.{Office}
 use Rattle.yp_command.specs.declared.office.status.Status.{Status}
 use Rattle.yp_command.specs.declared.office.status.Status.TheVariants.{Done, NoMemory, Xfr}
@@ -32,6 +33,11 @@ pub record Happened {S K D C A I T : Type 0} (seen : Seeing S K D C A I T) (even
   pub before : (box seen old).past ≡ Some told
   pub after : (box seen new).past ≡ Some (told ++ events)
 
+-- the walk of a job by this caller, and the mails of what happened at its inbox
+abbrev pub walk_of : Peer → Job → Wanted → List InboxEvent → DeliveredWalk
+walk_of caller job asked events =
+    record { caller = caller; source = job.host.1; wanted = asked; deliveries = heard_of events }
+
 -- What `walk` does. Where the mails that arrived were delivered in any schedule while a source whose log rises
 -- answered, and a version is told as stored, it is the one that the source showed from the first awaited mail to the
 -- last; and where two orders are told, the source showed both. Where the mails say a version against which nothing
@@ -42,16 +48,15 @@ pub record WalkingDoes {S K D C A I T : Type 0} (seen : Seeing S K D C A I T) (j
   pub does : WalkDoes seen job turns status old new
   pub of_source : (catalogue : Catalogue) (caller : Peer) (events : List InboxEvent) (held : FileVersion)
       → IsToldHeld (history seen old) held → Happened seen events old new
-      → (answers : AnswersWalk catalogue caller job.host.1 (wanted job held) (heard_of events))
+      → (answers : AnswersWalk catalogue (walk_of caller job (wanted job held) events))
       → IsTrue (tells_stored status)
-      → TransferIsStored (λ asked version. IsWalkedOf catalogue caller job.host.1 asked (heard_of events) answers.log
+      → TransferIsStored (λ asked version. IsWalkedOf catalogue (walk_of caller job asked events) answers.log
       answers.last.front version) job (history seen old) (history seen new)
   pub skews : (catalogue : Catalogue) (caller : Peer) (events : List InboxEvent) (held : FileVersion) (first second : ℕ)
       → IsToldHeld (history seen old) held → Happened seen events old new
-      → (answers : AnswersWalk catalogue caller job.host.1 (wanted job held) (heard_of events))
+      → (answers : AnswersWalk catalogue (walk_of caller job (wanted job held) events))
       → status ≡ Xfr (Skew first second)
-      → IsSkewOf catalogue caller job.host.1 (wanted job held) (heard_of events) answers.log answers.last.front
-      first second
+      → IsSkewOf catalogue (walk_of caller job (wanted job held) events) answers.log answers.last.front first second
   pub complete : (events : List InboxEvent) (held : FileVersion) (draft : Draft)
       → IsToldHeld (history seen old) held → Happened seen events old new
       → (walk_by job.host.1 (wanted job held) (heard_of events)).standing ≡ HasEnded (Ok draft)
@@ -60,7 +65,7 @@ pub record WalkingDoes {S K D C A I T : Type 0} (seen : Seeing S K D C A I T) (j
       → (status ≡ Done) ⊎ (status ≡ NoMemory)
   pub complete_of_source : (catalogue : Catalogue) (caller : Peer) (events : List InboxEvent) (held : FileVersion)
       (version : MapVersion) → IsToldHeld (history seen old) held → Happened seen events old new
-      → (answers : AnswersWalk catalogue caller job.host.1 (wanted job held) (heard_of events))
+      → (answers : AnswersWalk catalogue (walk_of caller job (wanted job held) events))
       → IsWalkable caller (wanted job held) version
       → ((front : Log) → IsFront answers.log front → IsFront front answers.last.front
       → IsShown (wanted job held) version (maps_on catalogue front))

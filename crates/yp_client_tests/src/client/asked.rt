@@ -20,6 +20,9 @@ pub const SERVER: Peer = Peer {
     port: 834,
 };
 
+/// The host, the user and the domain of a triple, each where it is given.
+type Triple<'a> = (Option<&'a [u8]>, Option<&'a [u8]>, Option<&'a [u8]>);
+
 /// A question in bytes that a constant has.
 pub type Fixed = Question<&'static [u8]>;
 
@@ -61,6 +64,23 @@ fn given<R: Abort>(rt: &R, alloc: Global, given: Option<&[u8]>) -> Option<Vec<u8
         None => None,
     }
 }
+
+// A question about a membership, in bytes of its own.
+fn owned_membership<R: Abort>(
+    rt: &R,
+    alloc: Global,
+    group: (&[u8], &[u8]),
+    triple: Triple<'_>,
+) -> Question<Vec<u8>> {
+    Question::Innetgr {
+        domain: text(rt, alloc, group.0),
+        group: text(rt, alloc, group.1),
+        host: given(rt, alloc, triple.0),
+        user: given(rt, alloc, triple.1),
+        user_domain: given(rt, alloc, triple.2),
+    }
+}
+
 // A question in bytes of its own.
 fn owned<R: Abort>(rt: &R, alloc: Global, question: &Fixed) -> Question<Vec<u8>> {
     match *question {
@@ -107,13 +127,7 @@ fn owned<R: Abort>(rt: &R, alloc: Global, question: &Fixed) -> Question<Vec<u8>>
             host,
             user,
             user_domain,
-        } => Question::Innetgr {
-            domain: text(rt, alloc, domain),
-            group: text(rt, alloc, group),
-            host: given(rt, alloc, host),
-            user: given(rt, alloc, user),
-            user_domain: given(rt, alloc, user_domain),
-        },
+        } => owned_membership(rt, alloc, (domain, group), (host, user, user_domain)),
     }
 }
 

@@ -31,7 +31,7 @@ ghost use Rattle.yp_end_to_end.specs.inside.exchange.CallLaws.{GivesNextReply};
 ghost use Rattle.yp_end_to_end.specs.inside.exchange.MemberLaws.{MembershipIsTold};
 ghost use Rattle.yp_end_to_end.specs.exchange.Answered.{text_told, PrintsTold};
 ghost use Rattle.yp_end_to_end.specs.inside.exchange.Answered.{GivesReplies, HasText};
-ghost use Rattle.yp_end_to_end.specs.exchange.Runs.{sent_all, calls_made, PrintsOnLogs};
+ghost use Rattle.yp_end_to_end.specs.exchange.Runs.{sent_all, calls_made, query_of, PrintsOnLogs};
 ghost use Rattle.yp_end_to_end.specs.inside.exchange.Runs.{RepliesInTurn};
 
 use std::alloc::Global;
@@ -234,7 +234,7 @@ pub fn query_told<A: Dial, K: Sink>(
         → AreServed (maps_on catalogue after)
         → RepliesInTurn catalogue caller (calls_made (bytes_of question.now) replies) replies before after
         → HasCome to (sent_all replies ++ rest) (A.past dial.old) (A.past dial.new)
-        → PrintsOnLogs catalogue caller (bytes_of question.now) before after result
+        → PrintsOnLogs (query_of catalogue caller (bytes_of question.now)) before after result
         (K.output sink.old) (K.output sink.new) }
     ensures answered { (first second : Maps) (caller : Caller) (made : XfrStat) (stream : List ℕ)
         → AreServed first → AreServed second → GivesReplies first second caller made (bytes_of question.now) stream

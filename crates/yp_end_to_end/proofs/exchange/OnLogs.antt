@@ -26,7 +26,7 @@ use Rattle.yp_client.specs.query.Asked.{netgroup}
 use Rattle.yp_answer.specs.session.Hosts.{Turn}
 use Rattle.yp_answer.specs.session.LogRuns.{Gets, LogRun}
 use Rattle.yp_end_to_end.specs.exchange.Runs.{behind_order, poll_calls, calls_made}
-use Rattle.yp_end_to_end.specs.inside.exchange.Runs.{RepliesInTurn, RepliesOn}
+use Rattle.yp_end_to_end.specs.inside.exchange.Runs.{RepliesInTurn, Inquiry, inquiry_of, RepliesOn}
 use Rattle.yp_end_to_end.specs.inside.exchange.QueryLaws.{RunIsPrinted}
 use Rattle.yp_end_to_end.specs.exchange.LogRuns.{records_of, replies_of, AnsweredOn}
 use Rattle.yp_end_to_end.specs.inside.exchange.LogRuns.{RepliesAtOnce, GetsReply, IsRepliedTo, HasReply, IsAnswered}
@@ -67,15 +67,15 @@ run_is_in_turn catalogue peer (turn ∷ turns) before after served run all =
 
 -- ---- a run with its logs
 
-later_on : (catalogue : Catalogue) (peer : Peer) (calls replies : List (List ℕ)) (logs : List Log) (first second last : Log)
-    → IsFront first second → RepliesOn catalogue peer calls replies logs second last
-    → RepliesOn catalogue peer calls replies logs first last
-later_on catalogue peer [] [] [] first second last front run = front_then first second last front run
-later_on catalogue peer [] [] (log ∷ logs) first second last front run = absurd run
-later_on catalogue peer [] (bytes ∷ replies) logs first second last front run = absurd run
-later_on catalogue peer (call ∷ calls) [] logs first second last front run = absurd run
-later_on catalogue peer (call ∷ calls) (bytes ∷ replies) [] first second last front run = absurd run
-later_on catalogue peer (call ∷ calls) (bytes ∷ replies) (log ∷ logs) first second last front run =
+later_on : (inquiry : Inquiry) (calls replies : List (List ℕ)) (logs : List Log) (first second last : Log)
+    → IsFront first second → RepliesOn inquiry calls replies logs second last
+    → RepliesOn inquiry calls replies logs first last
+later_on inquiry [] [] [] first second last front run = front_then first second last front run
+later_on inquiry [] [] (log ∷ logs) first second last front run = absurd run
+later_on inquiry [] (bytes ∷ replies) logs first second last front run = absurd run
+later_on inquiry (call ∷ calls) [] logs first second last front run = absurd run
+later_on inquiry (call ∷ calls) (bytes ∷ replies) [] first second last front run = absurd run
+later_on inquiry (call ∷ calls) (bytes ∷ replies) (log ∷ logs) first second last front run =
     (front_then first second log front run.0, run.1, run.2)
 
 answered_front : (catalogue : Catalogue) (peer : Peer) (turns : List Turn) (logs : List Log) (before after : Log)
@@ -97,12 +97,15 @@ run_is_on_logs catalogue peer (turn ∷ turns) (log ∷ logs) before after serve
     let behind = front_then one.log run.0 after one.goes_on (answered_front catalogue peer turns logs run.0 after run.3) in
     let has = All-head (IsRepliedTo peer) turn.message (records_of turns) all maps (served_before catalogue one.log after behind served) in
     let rest = run_is_on_logs catalogue peer turns logs run.0 after served run.3 (All-tail (IsRepliedTo peer) turn.message (records_of turns) all) in
-    let later = later_on catalogue peer (records_of turns) (replies_of turns) logs one.log run.0 after one.goes_on rest in
+    let inquiry = inquiry_of catalogue peer in
+    let later = later_on inquiry (records_of turns) (replies_of turns) logs one.log run.0 after one.goes_on rest in
     let got = gets_bytes catalogue (reply Stream maps peer turn.message) has.0 turn.answer one.log run.0 has.1 one.gets in
-    let here : RepliesOn catalogue peer (turn.message ∷ records_of turns) (has.0 ∷ replies_of turns) (one.log ∷ logs) before after =
+    let calls = turn.message ∷ records_of turns in
+    let here : RepliesOn inquiry calls (has.0 ∷ replies_of turns) (one.log ∷ logs) before after =
     (one.begins, has.1, later) in
-    subst (λ (l : Log). RepliesOn catalogue peer (turn.message ∷ records_of turns) (cons_option turn.answer (replies_of turns)) (l ∷ logs) before after) run.2
-    (subst (λ (answer : Option (List ℕ)). RepliesOn catalogue peer (turn.message ∷ records_of turns) (cons_option answer (replies_of turns)) (one.log ∷ logs) before after)
+    subst (λ (l : Log). RepliesOn inquiry calls (cons_option turn.answer (replies_of turns)) (l ∷ logs) before after) run.2
+    (subst
+    (λ (answer : Option (List ℕ)). RepliesOn inquiry calls (cons_option answer (replies_of turns)) (one.log ∷ logs) before after)
     (sym got) here)
 
 -- ---- the calls of a question

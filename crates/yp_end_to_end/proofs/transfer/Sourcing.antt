@@ -12,7 +12,7 @@ use Rattle.yp_answer.specs.Maps.{Maps}
 use Rattle.yp_answer.specs.Reply.{reply_at_once}
 use Rattle.yp_answer.specs.Served.{AreServed, maps_on}
 use Rattle.yp_end_to_end.specs.exchange.Runs.{sent_all}
-use Rattle.yp_end_to_end.specs.inside.exchange.Runs.{RepliesOn}
+use Rattle.yp_end_to_end.specs.inside.exchange.Runs.{inquiry_of, RepliesOn}
 use Rattle.yp_end_to_end.specs.exchange.LogRuns.{replies_of}
 use Rattle.yp_end_to_end.specs.inside.exchange.LogRuns.{RepliesAtOnce, GetsReply, IsRepliedTo}
 use Rattle.yp_end_to_end.specs.inside.exchange.RunLaws.{AllHasReply, MasterHasReply, OrderHasReply, RunIsOnLogs}
@@ -131,15 +131,18 @@ module _ (laws : Replied) (peer : Peer) where
       (All-cons (IsRepliedTo peer) (order_call domain map 4) [] (order 4 (omega arith)) (All-nil (IsRepliedTo peer)))))
 
 pub run_is_fetched : Replied → RunIsOnLogs → TurnsGiveFetch → FetchedIsShown → WireIsFetched → RunIsFetched
-run_is_fetched replied on_logs turns_give shown by_wire catalogue server caller hosts name wanted turns logs rest before
-    after version old new d m answers came fetches =
-    let stream = sent_all (replies_of turns) ++ rest in
+run_is_fetched replied on_logs turns_give shown by_wire catalogue server caller hosts name wanted run rest version old
+    new d m answers came fetches =
+    let replies = replies_of run.turns in
+    let stream = sent_all replies ++ rest in
     let each = subst (λ (records : List (List ℕ)). All (IsRepliedTo caller) records) (sym answers.calls)
     (fetch_replied replied caller wanted.domain wanted.map d m) in
-    let run = subst (λ (records : List (List ℕ)). RepliesOn catalogue caller records (replies_of turns) logs before after)
-    answers.calls (on_logs catalogue caller turns logs before after answers.served answers.run each) in
-    let gives = turns_give catalogue caller wanted.domain wanted.map 1 (replies_of turns) rest logs before after
-    answers.served answers.rises (omega arith) d m run in
+    let inquiry = inquiry_of catalogue caller in
+    let answered = subst
+    (λ (records : List (List ℕ)). RepliesOn inquiry records replies run.logs run.before run.after) answers.calls
+    (on_logs catalogue caller run.turns run.logs run.before run.after answers.served answers.answered each) in
+    let gives = turns_give catalogue caller wanted.domain wanted.map 1 replies rest run.logs run.before run.after
+    answers.served answers.rises (omega arith) d m answered in
     let fronts = gives.0 in
     let served = subst (λ (log : Log). AreServed (maps_on catalogue log)) (sym gives.1) answers.served in
     let fetched = version_said wanted stream version _

@@ -9,14 +9,13 @@ use Rattle.yp_version.specs.inside.Laws.{RisingStays}
 use Rattle.yp_board.specs.Catalogues.{Catalogue}
 use Rattle.yp_board.specs.Views.{IsFront}
 use Rattle.yp_transfer.specs.declared.fault.XfrFault.TheVariants.{Skew}
-use Rattle.yp_transfer.specs.Fetching.{Wanted}
 use Rattle.yp_transfer.specs.walk.Standings.{WalkState, HasEnded}
 use Rattle.yp_transfer.specs.walk.Schedules.{Walking, Delivery, is_awaited, next_xid, gone_on, heard, awaited, came_of, begun}
 use Rattle.yp_end_to_end.specs.walk.Sources.{Event, Handles, Delivers, Rests, WalkExchange, first_scene, deliveries_of, AllHappen}
 use Rattle.yp_end_to_end.specs.walk.Mails.{SourceMail, last_front, GoesBy}
 use Rattle.yp_end_to_end.specs.inside.walk.Laws.{HeardIsInTurn, WalkedIsShown, SkewIsShown, ShownIsWalked}
 use Rattle.yp_end_to_end.specs.inside.walk.Laws.{HappenedIsDelivered}
-use Rattle.yp_end_to_end.specs.walk.Laws.{AnswersWalk}
+use Rattle.yp_end_to_end.specs.walk.Laws.{DeliveredWalk, AnswersWalk}
 use Rattle.yp_end_to_end.specs.inside.walk.Laws.{DeliveredIsOfSource, DeliveredIsWhole, DeliveredSkews}
 
 -- the walk by some mails
@@ -60,12 +59,15 @@ happened_is_delivered catalogue caller source wanted log events last happen =
 
 pub delivered_is_of_source : HeardIsInTurn → WalkedIsShown → HappenedIsDelivered → RisingStays → DeliveredIsOfSource
 unfolding by_mails
-delivered_is_of_source in_turn shown is_delivered rising catalogue caller source wanted deliveries draft answers done =
+delivered_is_of_source in_turn shown is_delivered rising catalogue walk draft answers done =
+    let caller = walk.caller in
+    let source = walk.source in
+    let wanted = walk.wanted in
     let turns = in_turn catalogue caller source wanted answers.log answers.events answers.last answers.is_source
     answers.happen in
-    let walk = is_delivered catalogue caller source wanted answers.log answers.events answers.last answers.happen in
+    let same = is_delivered catalogue caller source wanted answers.log answers.events answers.last answers.happen in
     let ended : answers.last.walk.standing ≡ HasEnded (Ok draft) =
-    ap (λ (w : Walking). w.standing) walk
+    ap (λ (w : Walking). w.standing) same
     ∙ ap (λ (ds : List Delivery). (by_mails (begun source wanted) ds).standing) answers.delivered ∙ done in
     let is = shown catalogue caller source wanted answers.log answers.last.front turns.0 answers.last.walk draft
     answers.is_source turns.1 turns.2 ended in
@@ -74,7 +76,7 @@ delivered_is_of_source in_turn shown is_delivered rising catalogue caller source
       mails = turns.0;
       heard = turns.3 ∙ ap (λ (ds : List Delivery). awaited source 1 ds) answers.delivered;
       goes = subst (λ (w : Walking). GoesBy catalogue caller turns.0 answers.log (begun source wanted) w)
-          (walk ∙ ap (λ (ds : List Delivery). by_mails (begun source wanted) ds) answers.delivered) turns.1;
+          (same ∙ ap (λ (ds : List Delivery). by_mails (begun source wanted) ds) answers.delivered) turns.1;
       ends = turns.2;
       origin = origin;
       throughout = is.2;
@@ -83,14 +85,17 @@ delivered_is_of_source in_turn shown is_delivered rising catalogue caller source
     }
 
 -- what was heard of a source by these mails, and the walk that they lead to
-heard_of_source : HeardIsInTurn → HappenedIsDelivered → (catalogue : Catalogue) (caller source : Peer) (wanted : Wanted)
-    (deliveries : List Delivery) → (answers : AnswersWalk catalogue caller source wanted deliveries)
-    → (mails : List SourceMail) × (map (λ (made : SourceMail). made.mail) mails ≡ awaited source 1 deliveries)
-    × GoesBy catalogue caller mails answers.log (begun source wanted) answers.last.walk
+heard_of_source : HeardIsInTurn → HappenedIsDelivered → (catalogue : Catalogue) (walk : DeliveredWalk)
+    → (answers : AnswersWalk catalogue walk)
+    → (mails : List SourceMail) × (map (λ (made : SourceMail). made.mail) mails ≡ awaited walk.source 1 walk.deliveries)
+    × GoesBy catalogue walk.caller mails answers.log (begun walk.source walk.wanted) answers.last.walk
     × IsFront (last_front answers.log mails) answers.last.front
-    × (answers.last.walk ≡ by_mails (begun source wanted) deliveries)
+    × (answers.last.walk ≡ by_mails (begun walk.source walk.wanted) walk.deliveries)
 unfolding by_mails
-heard_of_source in_turn is_delivered catalogue caller source wanted deliveries answers =
+heard_of_source in_turn is_delivered catalogue walk answers =
+    let caller = walk.caller in
+    let source = walk.source in
+    let wanted = walk.wanted in
     let turns = in_turn catalogue caller source wanted answers.log answers.events answers.last answers.is_source
     answers.happen in (
       turns.0,
@@ -103,18 +108,21 @@ heard_of_source in_turn is_delivered catalogue caller source wanted deliveries a
 
 pub delivered_is_whole : HeardIsInTurn → ShownIsWalked → HappenedIsDelivered → DeliveredIsWhole
 unfolding by_mails heard_of_source
-delivered_is_whole in_turn walked is_delivered catalogue caller source wanted deliveries version answers walkable shown count =
-    let heard = heard_of_source in_turn is_delivered catalogue caller source wanted deliveries answers in
+delivered_is_whole in_turn walked is_delivered catalogue walk version answers walkable shown count =
+    let heard = heard_of_source in_turn is_delivered catalogue walk answers in
     let many : length heard.0 ≡ length version.rows + 4 =
     sym (length-map heard.0 (λ (made : SourceMail). made.mail)) ∙ ap length heard.1 ∙ count in
     ap (λ (w : Walking). w.standing) (sym heard.4)
-    ∙ walked catalogue caller source wanted answers.log answers.last.front heard.0 answers.last.walk version
-    answers.is_source heard.2 heard.3 walkable shown many
+    ∙ walked catalogue walk.caller walk.source walk.wanted answers.log answers.last.front heard.0 answers.last.walk
+    version answers.is_source heard.2 heard.3 walkable shown many
 
 pub delivered_skews : HeardIsInTurn → SkewIsShown → HappenedIsDelivered → DeliveredSkews
 unfolding by_mails heard_of_source
-delivered_skews in_turn skews is_delivered catalogue caller source wanted deliveries first second answers refused =
-    let heard = heard_of_source in_turn is_delivered catalogue caller source wanted deliveries answers in
+delivered_skews in_turn skews is_delivered catalogue walk first second answers refused =
+    let caller = walk.caller in
+    let source = walk.source in
+    let wanted = walk.wanted in
+    let heard = heard_of_source in_turn is_delivered catalogue walk answers in
     let ended : answers.last.walk.standing ≡ HasEnded (Err (Skew first second)) =
     ap (λ (w : Walking). w.standing) heard.4 ∙ refused in
     record {

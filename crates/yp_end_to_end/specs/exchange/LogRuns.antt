@@ -8,8 +8,7 @@ use Rattle.yp_answer.specs.declared.procedure.Path.TheVariants.{Stream}
 use Rattle.yp_answer.specs.Served.{AreServed, maps_on}
 use Rattle.yp_answer.specs.session.Hosts.{Turn}
 use Rattle.yp_answer.specs.session.LogRuns.{LogRun, IsAnsweredOn}
-use Rattle.yp_client.specs.Questions.{ByteQuestion}
-use Rattle.yp_end_to_end.specs.exchange.Runs.{calls_made}
+use Rattle.yp_end_to_end.specs.exchange.Runs.{Query, calls_made}
 
 -- the records that were answered, and the replies of those that got one
 abbrev pub records_of : List Turn → List (List ℕ)
@@ -27,9 +26,15 @@ AnsweredOn catalogue peer (turn ∷ turns) (log ∷ logs) first last =
 AnsweredOn catalogue peer [] (log ∷ logs) first last = ⊥
 AnsweredOn catalogue peer (turn ∷ turns) [] first last = ⊥
 
+-- a run of a server: its turns, the logs on which their records were answered, and the log before and behind it
+pub record ServerRun : Type 0 where
+  pub turns : List Turn
+  pub logs : List Log
+  pub before : Log
+  pub after : Log
+
 -- A run of a server, on a log that grows from one to another, was over the calls that are made for a question.
-pub record AnswersCalls (catalogue : Catalogue) (peer : Peer) (question : ByteQuestion) (turns : List Turn)
-    (before after : Log) : Type 0 where
-  pub served : AreServed (maps_on catalogue after)
-  pub run : LogRun catalogue Stream peer turns before after
-  pub calls : records_of turns ≡ calls_made question (replies_of turns)
+pub record AnswersCalls (query : Query) (turns : List Turn) (before after : Log) : Type 0 where
+  pub served : AreServed (maps_on query.catalogue after)
+  pub run : LogRun query.catalogue Stream query.caller turns before after
+  pub calls : records_of turns ≡ calls_made query.question (replies_of turns)

@@ -59,17 +59,27 @@ MadeHasCause catalogue peer (Make domain map) made old new =
     JobHasCause catalogue (make_check catalogue peer domain (Some map)) made old new
 MadeHasCause catalogue peer question made old new = ⊤
 
+-- a question that a caller asks of the maps of a catalogue
+pub record Query : Type 0 where
+  pub catalogue : Catalogue
+  pub caller : Peer
+  pub question : ByteQuestion
+
+abbrev pub query_of : Catalogue → Peer → ByteQuestion → Query
+query_of catalogue caller question = record { catalogue = catalogue; caller = caller; question = question }
+
 -- What these maps tell was printed, on two logs between an old and a new one, of which the second begins with the
 -- first: what is asked for first is told on the one, and what is asked for second on the other, and a map that is made
 -- is made between them. At which moments they were so isn't said.
-pub record PrintsOnLogs (catalogue : Catalogue) (peer : Peer) (question : ByteQuestion) (old new : Log)
-    (result : Result (Unit {0}) QueryFault) (before after : Option (List ℕ)) : Type 0 where
+pub record PrintsOnLogs (query : Query) (old new : Log) (result : Result (Unit {0}) QueryFault)
+    (before after : Option (List ℕ)) : Type 0 where
   pub first : Log
   pub second : Log
   pub begins : IsFront old first
   pub grows : IsFront first second
   pub ends : IsFront second new
   pub made : XfrStat
-  pub caused : MadeHasCause catalogue peer question made first second
-  pub printed : PrintsTold question (text_told (maps_on catalogue first) (maps_on catalogue second) peer made question)
+  pub caused : MadeHasCause query.catalogue query.caller query.question made first second
+  pub printed : PrintsTold query.question
+      (text_told (maps_on query.catalogue first) (maps_on query.catalogue second) query.caller made query.question)
       result before after

@@ -56,36 +56,44 @@ pub record IsWalkable (caller : Peer) (wanted : Wanted) (version : MapVersion) :
   pub calls : All (λ row. next_len wanted row.0 ≤ datagram_max) version.rows
   pub replies : All (λ row. 28 + row_len row ≤ datagram_max) version.rows
 
+-- a walk by a caller over a map of a source, and the mails that were delivered to it
+pub record DeliveredWalk : Type 0 where
+  pub caller : Peer
+  pub source : Peer
+  pub wanted : Wanted
+  pub deliveries : List Delivery
+
 -- These mails were delivered while a source whose log rises answered a walk.
-pub record AnswersWalk (catalogue : Catalogue) (caller source : Peer) (wanted : Wanted) (deliveries : List Delivery)
-    : Type 0 where
+pub record AnswersWalk (catalogue : Catalogue) (walk : DeliveredWalk) : Type 0 where
   pub log : Log
   pub events : List Event
   pub last : WalkExchange
-  pub is_source : IsSource catalogue wanted last.front
-  pub happen : AllHappen catalogue caller events (first_scene source wanted log) last
-  pub delivered : deliveries_of events ≡ deliveries
+  pub is_source : IsSource catalogue walk.wanted last.front
+  pub happen : AllHappen catalogue walk.caller events (first_scene walk.source walk.wanted log) last
+  pub delivered : deliveries_of events ≡ walk.deliveries
 
 -- The awaited mails among the delivered ones are the replies of a source to the calls of a walk in turn, made while its
 -- log grew from one to another. From the first of these mails to the last the source showed one version, and this
 -- version has the same order, master and rows. What was delivered fixes the mails, but for the moments at which they
 -- were made. What was shown at the first of them fixes the version.
-pub record IsWalkedOf (catalogue : Catalogue) (caller source : Peer) (wanted : Wanted) (deliveries : List Delivery)
-    (before last : Log) (version : MapVersion) : Type 0 where
+pub record IsWalkedOf (catalogue : Catalogue) (walk : DeliveredWalk) (before last : Log)
+    (version : MapVersion) : Type 0 where
   pub mails : List SourceMail
-  pub heard : map (λ made. made.mail) mails ≡ awaited source 1 deliveries
-  pub goes : GoesBy catalogue caller mails before (begun source wanted) (walk_by source wanted deliveries)
+  pub heard : map (λ made. made.mail) mails ≡ awaited walk.source 1 walk.deliveries
+  pub goes : GoesBy catalogue walk.caller mails before (begun walk.source walk.wanted)
+      (walk_by walk.source walk.wanted walk.deliveries)
   pub ends : IsFront (last_front before mails) last
   pub origin : MapVersion
-  pub throughout : ShowsThroughout catalogue wanted origin mails
+  pub throughout : ShowsThroughout catalogue walk.wanted origin mails
   pub same : version ≡ unsecured origin
 
 -- The awaited mails among those that were delivered are the replies of a source, as above, which showed versions of
 -- these two orders at the first of them and at the last.
-pub record IsSkewOf (catalogue : Catalogue) (caller source : Peer) (wanted : Wanted) (deliveries : List Delivery)
-    (before last : Log) (first second : ℕ) : Type 0 where
+pub record IsSkewOf (catalogue : Catalogue) (walk : DeliveredWalk) (before last : Log)
+    (first second : ℕ) : Type 0 where
   pub mails : List SourceMail
-  pub heard : map (λ made. made.mail) mails ≡ awaited source 1 deliveries
-  pub goes : GoesBy catalogue caller mails before (begun source wanted) (walk_by source wanted deliveries)
+  pub heard : map (λ made. made.mail) mails ≡ awaited walk.source 1 walk.deliveries
+  pub goes : GoesBy catalogue walk.caller mails before (begun walk.source walk.wanted)
+      (walk_by walk.source walk.wanted walk.deliveries)
   pub ends : IsFront (last_front before mails) last
-  pub two : ShowsTwo catalogue wanted first second mails
+  pub two : ShowsTwo catalogue walk.wanted first second mails

@@ -9,7 +9,7 @@ use Rattle.yp_answer.specs.declared.session.session.End.TheVariants.{WriteFault}
 use Rattle.yp_host.specs.Connections.{Service, Connection, ServesConnection, log_of}
 use Rattle.yp_client.specs.Questions.{ByteQuestion}
 use Rattle.yp_client.specs.query.Complete.{HasCome}
-use Rattle.yp_end_to_end.specs.exchange.Runs.{calls_made, PrintsOnLogs}
+use Rattle.yp_end_to_end.specs.exchange.Runs.{calls_made, query_of, PrintsOnLogs}
 use Rattle.yp_end_to_end.specs.exchange.LogRuns.{records_of, replies_of}
 use Rattle.yp_command.specs.declared.office.office.Office.{Office}
 use Rattle.yp_command.specs.declared.office.status.Status.{Status}
@@ -28,8 +28,8 @@ SessionIsPrinted {D} {E} {S} {K} {F} {C} {A} {I} {T} service seen =
     → records_of serves.runs.turns ≡ calls_made question (replies_of serves.runs.turns)
     → end ≢ WriteFault → old.wire.sink.output ≡ Some [] → new.wire.sink.output ≡ Some taken
     → HasCome server (taken ++ rest) (seen.dial.past before.dial) (seen.dial.past after.dial)
-    → PrintsOnLogs service.catalogue service.peer question (log_of service serves.start) (log_of service serves.finish)
-    asks.asks.result (output seen before) (output seen after)
+    → PrintsOnLogs (query_of service.catalogue service.peer question) (log_of service serves.start)
+    (log_of service serves.finish) asks.asks.result (output seen before) (output seen after)
 
 -- A client command prints what the board of `once` tells, where its wire gives what `once` sent for the calls of the
 -- question.
@@ -42,5 +42,5 @@ OnceIsPrinted {S} {K} {F} {C} {A} {I} {T} seen =
     → records_of answers.runs.turns ≡ calls_made question (replies_of answers.runs.turns)
     → answers.end ≢ WriteFault → old.sink.output ≡ Some [] → new.sink.output ≡ Some taken
     → HasCome server (taken ++ rest) (seen.dial.past before.dial) (seen.dial.past after.dial)
-    → PrintsOnLogs board.catalogue nobody question board.known answers.finish.board.known
+    → PrintsOnLogs (query_of board.catalogue nobody question) board.known answers.finish.board.known
     asks.asks.result (output seen before) (output seen after)

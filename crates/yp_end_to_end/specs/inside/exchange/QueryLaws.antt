@@ -13,7 +13,7 @@ use Rattle.yp_client.specs.inside.Questions.{QuestionIsWithin}
 use Rattle.yp_client.specs.query.Asked.{QueryOutcome, Converses}
 use Rattle.yp_client.specs.query.Complete.{HasCome, HasAnswer}
 use Rattle.yp_client.specs.query.Scenes.{QueryTells, Asks}
-use Rattle.yp_end_to_end.specs.exchange.Runs.{sent_all, calls_made, PrintsOnLogs}
+use Rattle.yp_end_to_end.specs.exchange.Runs.{sent_all, calls_made, query_of, PrintsOnLogs}
 use Rattle.yp_end_to_end.specs.inside.exchange.Runs.{RepliesInTurn}
 use Rattle.yp_end_to_end.specs.exchange.Answered.{text_told, IsOutcomeOf, PrintsTold}
 use Rattle.yp_end_to_end.specs.inside.exchange.Answered.{GivesReplies, HasText}
@@ -58,7 +58,7 @@ RunIsPrinted =
     → RepliesInTurn catalogue caller (calls_made question replies) replies before after
     → HasCome server (sent_all replies ++ rest) old.dial.past new.dial.past
     → Asks server question result old new
-    → PrintsOnLogs catalogue caller question before after result old.output new.output
+    → PrintsOnLogs (query_of catalogue caller question) before after result old.output new.output
 
 -- Where the maps tell a text, or that there is no such key, or that no map is fetched or made, such a wire answers the
 -- calls of the question.

@@ -17,8 +17,8 @@ use Rattle.yp_client.specs.inside.Questions.{QuestionIsWithin}
 use Rattle.yp_client.specs.query.Complete.{HasCome}
 use Rattle.yp_client.specs.query.Scenes.{QueryTells, Asks}
 use Rattle.yp_end_to_end.specs.inside.exchange.Laws.{ForDomain, ForMap, ForKey}
-use Rattle.yp_end_to_end.specs.exchange.Runs.{sent_all, PrintsOnLogs}
-use Rattle.yp_end_to_end.specs.inside.exchange.Runs.{RepliesInTurn, RepliesOn}
+use Rattle.yp_end_to_end.specs.exchange.Runs.{sent_all, query_of, PrintsOnLogs}
+use Rattle.yp_end_to_end.specs.inside.exchange.Runs.{RepliesInTurn, inquiry_of, RepliesOn}
 use Rattle.yp_end_to_end.specs.exchange.LogRuns.{records_of, replies_of, AnsweredOn}
 use Rattle.yp_end_to_end.specs.inside.exchange.LogRuns.{RepliesAtOnce, GetsReply, IsRepliedTo, IsAnswered}
 use Rattle.yp_end_to_end.specs.exchange.LogRuns.{AnswersCalls}
@@ -70,7 +70,7 @@ RunIsOnLogs =
     → AreServed (maps_on catalogue after)
     → AnsweredOn catalogue peer turns logs before after
     → All (IsRepliedTo peer) (records_of turns)
-    → RepliesOn catalogue peer (records_of turns) (replies_of turns) logs before after
+    → RepliesOn (inquiry_of catalogue peer) (records_of turns) (replies_of turns) logs before after
 
 -- A question prints what the maps of a server tell, where the wire gives what that server sent in a run over the calls
 -- of the question.
@@ -79,7 +79,7 @@ LogRunIsPrinted =
     (catalogue : Catalogue) (server caller : Peer) (question : ByteQuestion) (turns : List Turn) (rest : List ℕ)
     (before after : Log) (result : Result (Unit {0}) QueryFault) (old new : QueryTells)
     → QuestionIsWithin question
-    → AnswersCalls catalogue caller question turns before after
+    → AnswersCalls (query_of catalogue caller question) turns before after
     → HasCome server (sent_all (replies_of turns) ++ rest) old.dial.past new.dial.past
     → Asks server question result old new
-    → PrintsOnLogs catalogue caller question before after result old.output new.output
+    → PrintsOnLogs (query_of catalogue caller question) before after result old.output new.output

@@ -21,14 +21,22 @@ RepliesInTurn catalogue peer (call ∷ calls) (bytes ∷ replies) old new =
 RepliesInTurn catalogue peer [] (bytes ∷ replies) old new = ⊥
 RepliesInTurn catalogue peer (call ∷ calls) [] old new = ⊥
 
+-- the maps of a server, and who asks for them
+pub record Inquiry : Type 0 where
+  pub catalogue : Catalogue
+  pub caller : Peer
+
+abbrev pub inquiry_of : Catalogue → Peer → Inquiry
+inquiry_of catalogue caller = record { catalogue = catalogue; caller = caller }
+
 -- These are the replies to some calls in turn, each on the maps of one of these logs. Each log begins with the one
 -- before it.
-abbrev pub RepliesOn : Catalogue → Peer → List (List ℕ) → List (List ℕ) → List Log → Log → Log → Type 0
-RepliesOn catalogue peer [] [] [] old new = IsFront old new
-RepliesOn catalogue peer (call ∷ calls) (bytes ∷ replies) (log ∷ logs) old new =
-    IsFront old log × RepliesWith (maps_on catalogue log) peer call bytes
-    × RepliesOn catalogue peer calls replies logs log new
-RepliesOn catalogue peer [] [] (log ∷ logs) old new = ⊥
-RepliesOn catalogue peer [] (bytes ∷ replies) logs old new = ⊥
-RepliesOn catalogue peer (call ∷ calls) [] logs old new = ⊥
-RepliesOn catalogue peer (call ∷ calls) (bytes ∷ replies) [] old new = ⊥
+abbrev pub RepliesOn : Inquiry → List (List ℕ) → List (List ℕ) → List Log → Log → Log → Type 0
+RepliesOn inquiry [] [] [] old new = IsFront old new
+RepliesOn inquiry (call ∷ calls) (bytes ∷ replies) (log ∷ logs) old new =
+    IsFront old log × RepliesWith (maps_on inquiry.catalogue log) inquiry.caller call bytes
+    × RepliesOn inquiry calls replies logs log new
+RepliesOn inquiry [] [] (log ∷ logs) old new = ⊥
+RepliesOn inquiry [] (bytes ∷ replies) logs old new = ⊥
+RepliesOn inquiry (call ∷ calls) [] logs old new = ⊥
+RepliesOn inquiry (call ∷ calls) (bytes ∷ replies) [] old new = ⊥

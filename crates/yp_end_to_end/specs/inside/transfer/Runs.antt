@@ -5,11 +5,9 @@ use Rattle.yp_io.specs.declared.stream.Peer.{Peer}
 use Rattle.yp_messages.specs.Numbers.{name_max}
 use Rattle.yp_version.specs.Versions.{MapVersion}
 use Rattle.yp_board.specs.Catalogues.{Catalogue}
-use Rattle.yp_board.specs.Logs.{Log}
-use Rattle.yp_answer.specs.session.Hosts.{Turn}
 use Rattle.yp_client.specs.query.Complete.{HasCome}
 use Rattle.yp_end_to_end.specs.exchange.Runs.{sent_all}
-use Rattle.yp_end_to_end.specs.exchange.LogRuns.{replies_of}
+use Rattle.yp_end_to_end.specs.exchange.LogRuns.{replies_of, ServerRun}
 use Rattle.yp_transfer.specs.declared.fault.XfrFault.TheVariants.{Rpc, NoMemory}
 use Rattle.yp_transfer.specs.Fetching.{Wanted, FetchOutcome}
 use Rattle.yp_transfer.specs.Fetched.{place_of, Fetched}
@@ -32,11 +30,10 @@ WireIsFetched =
 abbrev pub RunIsFetched : Type 0
 RunIsFetched =
     (catalogue : Catalogue) (server caller : Peer) (hosts : HostList) (name : List ℕ) (wanted : Wanted)
-    (turns : List Turn) (logs : List Log) (rest : List ℕ) (before after : Log) (version : MapVersion)
-    (old new : Dialing)
+    (run : ServerRun) (rest : List ℕ) (version : MapVersion) (old new : Dialing)
     → length wanted.domain ≤ name_max
     → length wanted.map ≤ name_max
-    → AnswersFetch catalogue caller wanted.domain wanted.map turns logs before after
-    → HasCome server (sent_all (replies_of turns) ++ rest) old.past new.past
+    → AnswersFetch catalogue caller wanted.domain wanted.map run
+    → HasCome server (sent_all (replies_of run.turns) ++ rest) old.past new.past
     → FetchesFrom hosts name wanted (Ok version) old new
-    → IsOfSource catalogue wanted logs version
+    → IsOfSource catalogue wanted run.logs version

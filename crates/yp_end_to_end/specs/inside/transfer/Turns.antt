@@ -7,7 +7,7 @@ use Rattle.yp_board.specs.Catalogues.{Catalogue}
 use Rattle.yp_board.specs.Logs.{Log}
 use Rattle.yp_publisher.specs.Rising.{IsRisingLog}
 use Rattle.yp_end_to_end.specs.exchange.Runs.{sent_all}
-use Rattle.yp_end_to_end.specs.inside.exchange.Runs.{RepliesOn}
+use Rattle.yp_end_to_end.specs.inside.exchange.Runs.{inquiry_of, RepliesOn}
 use Rattle.yp_end_to_end.specs.inside.transfer.Replies.{GivesFetch}
 use Rattle.yp_end_to_end.specs.inside.transfer.Laws.{Fronts, all_fronts, moments_on}
 use Rattle.yp_answer.specs.Served.{AreServed, maps_on}
@@ -24,6 +24,6 @@ TurnsGiveFetch =
     → IsWord xid
     → length domain ≤ name_max
     → length map ≤ name_max
-    → RepliesOn catalogue peer (fetch_calls domain map xid) replies logs before after
+    → RepliesOn (inquiry_of catalogue peer) (fetch_calls domain map xid) replies logs before after
     → (fronts : Fronts) × (fronts.log ≡ after) × (logs ≡ all_fronts fronts)
     × GivesFetch peer domain map (moments_on catalogue fronts) xid (sent_all replies ++ rest)

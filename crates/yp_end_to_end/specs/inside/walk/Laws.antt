@@ -12,12 +12,12 @@ use Rattle.yp_transfer.specs.declared.fault.XfrFault.TheVariants.{Skew}
 use Rattle.yp_transfer.specs.Fetching.{Wanted}
 use Rattle.yp_end_to_end.specs.transfer.Replies.{IsShown}
 use Rattle.yp_transfer.specs.walk.Standings.{HasEnded}
-use Rattle.yp_transfer.specs.walk.Schedules.{Walking, Delivery, begun, awaited, walk_by}
+use Rattle.yp_transfer.specs.walk.Schedules.{Walking, begun, awaited, walk_by}
 use Rattle.yp_transfer.specs.inside.walk.Told.{draft_with}
 use Rattle.yp_end_to_end.specs.walk.Sources.{Event, WalkExchange, first_scene, AllHappen, deliveries_of}
 use Rattle.yp_end_to_end.specs.walk.Mails.{SourceMail, last_front, GoesBy}
-use Rattle.yp_end_to_end.specs.walk.Laws.{IsSource, ShowsThroughout, ShowsTwo, IsWalkable, AnswersWalk, IsWalkedOf}
-use Rattle.yp_end_to_end.specs.walk.Laws.{IsSkewOf}
+use Rattle.yp_end_to_end.specs.walk.Laws.{IsSource, ShowsThroughout, ShowsTwo, IsWalkable, DeliveredWalk, AnswersWalk}
+use Rattle.yp_end_to_end.specs.walk.Laws.{IsWalkedOf, IsSkewOf}
 
 -- What was heard of a source, whatever its network did, is a reply to each call in turn, on fronts of its log that
 -- never go back: these are exactly the awaited mails among those that were delivered.
@@ -79,28 +79,28 @@ HappenedIsDelivered =
 -- A version that a walk over delivered mails gives is a version that its source showed throughout.
 abbrev pub DeliveredIsOfSource : Type 0
 DeliveredIsOfSource =
-    (catalogue : Catalogue) (caller source : Peer) (wanted : Wanted) (deliveries : List Delivery) (draft : Draft)
-    → (answers : AnswersWalk catalogue caller source wanted deliveries)
-    → (walk_by source wanted deliveries).standing ≡ HasEnded (Ok draft)
-    → IsWalkedOf catalogue caller source wanted deliveries answers.log answers.last.front
+    (catalogue : Catalogue) (walk : DeliveredWalk) (draft : Draft)
+    → (answers : AnswersWalk catalogue walk)
+    → (walk_by walk.source walk.wanted walk.deliveries).standing ≡ HasEnded (Ok draft)
+    → IsWalkedOf catalogue walk answers.log answers.last.front
     (unmarked draft.order draft.master (listed draft.rows))
 
 -- Where that source shows one version throughout, against which nothing stands, and a mail for each of its rows and
 -- four more are awaited among those that were delivered, the walk by these is done with that version.
 abbrev pub DeliveredIsWhole : Type 0
 DeliveredIsWhole =
-    (catalogue : Catalogue) (caller source : Peer) (wanted : Wanted) (deliveries : List Delivery) (version : MapVersion)
-    → (answers : AnswersWalk catalogue caller source wanted deliveries)
-    → IsWalkable caller wanted version
+    (catalogue : Catalogue) (walk : DeliveredWalk) (version : MapVersion)
+    → (answers : AnswersWalk catalogue walk)
+    → IsWalkable walk.caller walk.wanted version
     → ((front : Log) → IsFront answers.log front → IsFront front answers.last.front
-    → IsShown wanted version (maps_on catalogue front))
-    → length (awaited source 1 deliveries) ≡ length version.rows + 4
-    → (walk_by source wanted deliveries).standing ≡ HasEnded (Ok (draft_with version version.rows))
+    → IsShown walk.wanted version (maps_on catalogue front))
+    → length (awaited walk.source 1 walk.deliveries) ≡ length version.rows + 4
+    → (walk_by walk.source walk.wanted walk.deliveries).standing ≡ HasEnded (Ok (draft_with version version.rows))
 
 -- A walk by these mails is refused for two orders only where that source showed both.
 abbrev pub DeliveredSkews : Type 0
 DeliveredSkews =
-    (catalogue : Catalogue) (caller source : Peer) (wanted : Wanted) (deliveries : List Delivery) (first second : ℕ)
-    → (answers : AnswersWalk catalogue caller source wanted deliveries)
-    → (walk_by source wanted deliveries).standing ≡ HasEnded (Err (Skew first second))
-    → IsSkewOf catalogue caller source wanted deliveries answers.log answers.last.front first second
+    (catalogue : Catalogue) (walk : DeliveredWalk) (first second : ℕ)
+    → (answers : AnswersWalk catalogue walk)
+    → (walk_by walk.source walk.wanted walk.deliveries).standing ≡ HasEnded (Err (Skew first second))
+    → IsSkewOf catalogue walk answers.log answers.last.front first second

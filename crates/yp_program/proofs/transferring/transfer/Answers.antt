@@ -13,8 +13,8 @@ returns-clause-does g c =
     let does = c.transfer_map.ensures.does in
     record {
       does = does;
-      of_source = λ catalogue caller turns logs rest before after answers came told.
-          of_run seen job status old new catalogue logs caller turns rest before after c.run_is_fetched.ensures
+      of_source = λ catalogue caller run rest answers came told.
+          of_run seen job status old new catalogue run caller rest c.run_is_fetched.ensures
           c.requires.named.0 c.requires.named.1 does answers came told;
       complete = λ held stream version told came fetched unopposed dials disks writes.
           whole seen job status old new held version told unopposed disks

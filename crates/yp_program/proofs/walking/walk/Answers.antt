@@ -2,7 +2,7 @@ use Rattle.yp_command.specs.office.Seeing.{seeing}
 use Rattle.yp_transfer.specs.inside.walk.Told.{draft_with}
 use Rattle.yp_command_maps.specs.Xfr.{wanted}
 use Rattle.yp_command_maps.specs.inside.Xfr.{xfr_job_view}
-use Rattle.yp_command_maps.specs.walk.Turns.{heard_of}
+use Rattle.yp_program.specs.Walking.{walk_of}
 use Rattle.yp_program.proofs.Walked.{of_walk, of_skew, whole}
 use Rattle.yp_program.proofs.walking.walk.Goals as goal
 
@@ -28,6 +28,6 @@ returns-clause-does g c =
       complete_of_source = λ catalogue caller events held version told happened answers walkable shown count unopposed
           inboxes disks writes.
           whole seen job turns status old new events held told happened (draft_with version version.rows) does
-          (c.delivered_is_whole.ensures catalogue caller job.host.1 (wanted job held) (heard_of events) version
-          answers walkable shown count) unopposed inboxes disks writes;
+          (c.delivered_is_whole.ensures catalogue (walk_of caller job (wanted job held) events) version answers walkable
+          shown count) unopposed inboxes disks writes;
     }
