@@ -15,6 +15,7 @@ use Rattle.yp_transfer.specs.Fetching.{Wanted, wanted_of, FetchOutcome}
 use Rattle.yp_command.specs.declared.office.disks.NamedDisk.{NamedDisk}
 use Rattle.yp_command.specs.office.Disks.{names_of}
 use Rattle.yp_command_maps.specs.declared.xfr.XfrStop.TheVariants as stop
+use Rattle.yp_command_maps.specs.Disks.{DiskTells}
 use Rattle.yp_command_maps.specs.Xfr.{Job}
 use Rattle.yp_command_maps.specs.inside.Xfr.{StoresFetched, KeepsLoaded, LeavesUnloaded}
 use Rattle.yp_command_maps.specs.declared.walk.walk.WalkStop.{WalkStop}
@@ -33,8 +34,14 @@ module _ (job : Job) (turns : ℕ) (before after : InboxTells) where
       turns came before after
 
   module _ (shows : Option MapVersion) (old new : Option History) (faults faults' : ℕ) where
+    abbrev was : DiskTells
+    was = record { history = old; faults = faults }
+
+    abbrev is : DiskTells
+    is = record { history = new; faults = faults' }
+
     stored : (outcome : FetchOutcome) (result : Result Installed XfrFault) → Walked shows (HasOutcome outcome)
-        → StoresFetched job shows outcome result old new faults faults'
+        → StoresFetched job shows outcome result was is
         → StoresWalk job turns result before after old new faults faults'
     stored outcome result walks stores = record {
       held = stores.held;
@@ -55,7 +62,8 @@ module _ (job : Job) (turns : ℕ) (before after : InboxTells) where
     pub moved_ok : (outcome : FetchOutcome) (installed : Installed)
         → WalksTo job.host.1 (wanted_of job.store.0 job.store.1 (option_map (λ version. version.order) shows)
         job.force) turns (HasOutcome outcome) before after
-        → StoresFetched job shows outcome (Ok installed) old new faults faults'
+        → StoresFetched job shows outcome (Ok installed) (record { history = old; faults = faults })
+        (record { history = new; faults = faults' })
         → Moved job turns (Ok installed) before after old new faults faults'
     moved_ok outcome installed walks stores =
         record { moves = stored outcome (Ok installed) walks stores; few = stores.few }
@@ -63,7 +71,8 @@ module _ (job : Job) (turns : ℕ) (before after : InboxTells) where
     pub moved_fault : (outcome : FetchOutcome) (why : XfrFault)
         → WalksTo job.host.1 (wanted_of job.store.0 job.store.1 (option_map (λ version. version.order) shows)
         job.force) turns (HasOutcome outcome) before after
-        → StoresFetched job shows outcome (Err why) old new faults faults'
+        → StoresFetched job shows outcome (Err why) (record { history = old; faults = faults })
+        (record { history = new; faults = faults' })
         → Moved job turns (Err (walk.Transfer (stop.Fault why))) before after old new faults faults'
     moved_fault outcome why walks stores =
         record { moves = stored outcome (Err why) walks stores; few = stores.few }

@@ -30,7 +30,8 @@ pub record StoresWalk (job : Job) (turns : ℕ) (result : Result Installed XfrFa
   pub held : FileVersion
   pub outcome : FetchOutcome
   pub walks : WalksTo job.host.1 (wanted job held) turns (HasOutcome outcome) before after
-  pub stores : StoresOn job held outcome result old new faults faults'
+  pub stores : StoresOn job held outcome result (record { history = old; faults = faults })
+      (record { history = new; faults = faults' })
 
 -- Nothing came of it, and nothing was written.
 pub record WalksInVain (job : Job) (turns : ℕ) (came : Came) (before after : InboxTells) (old new : Option History)

@@ -5,6 +5,7 @@ use Rattle.yp_publisher.specs.declared.install.Installed.{Installed}
 use Rattle.yp_transfer.specs.declared.fault.XfrFault.{XfrFault}
 use Rattle.yp_transfer.specs.Fetching.{wanted_of}
 use Rattle.yp_command.specs.office.Disks.{only_history, total_faults}
+use Rattle.yp_command_maps.specs.Disks.{only_tells}
 use Rattle.yp_command_maps.specs.inside.Xfr.{xfr_job_view, StoresFetched}
 use Rattle.yp_command_maps.specs.declared.walk.walker.Came.{Came}
 use Rattle.yp_command_maps.specs.walk.Turns.{WalksTo}
@@ -24,7 +25,9 @@ returns-in-Ok-clause-moves g c = λ disks before after one begins walks.
     let stored = c.store_fetched-done.ensures disks one begins in (
       moved_ok job turns before after shows h h' f f' c.in-Outcome.outcome c.in-Ok.installed
           (subst (λ (it : Came). WalksTo job.host.1 wanted turns it before after) c.in-Outcome.is walks)
-          (subst (λ (r : Result Installed XfrFault). StoresFetched job shows c.in-Outcome.outcome r h h' f f')
+          (subst (λ (r : Result Installed XfrFault). StoresFetched job shows c.in-Outcome.outcome r
+          (only_tells g.D.Disk.history g.D.Disk.faults disks)
+          (only_tells g.D.Disk.history g.D.Disk.faults c.store_fetched-done.result.1.items))
           c.in-Ok.is stored.0),
       stored.1,
     )
@@ -42,7 +45,9 @@ returns-in-Err-clause-moves g c = λ disks before after one begins walks.
     let stored = c.store_fetched-done.ensures disks one begins in (
       moved_fault job turns before after shows h h' f f' c.in-Outcome.outcome c.in-Err.fault
           (subst (λ (it : Came). WalksTo job.host.1 wanted turns it before after) c.in-Outcome.is walks)
-          (subst (λ (r : Result Installed XfrFault). StoresFetched job shows c.in-Outcome.outcome r h h' f f')
+          (subst (λ (r : Result Installed XfrFault). StoresFetched job shows c.in-Outcome.outcome r
+          (only_tells g.D.Disk.history g.D.Disk.faults disks)
+          (only_tells g.D.Disk.history g.D.Disk.faults c.store_fetched-done.result.1.items))
           c.in-Err.is stored.0),
       stored.1,
     )
