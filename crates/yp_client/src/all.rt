@@ -321,8 +321,8 @@ impl AllReply {
             (IsUnderway (self.new.at + length (waiting self.new buf.new))
             (progress (S.input source.new) reader.new self.new.whole)) }
         ensures cause { IfErr result
-            (HasNoPiece all_max reader.old.place (S.input source.old) (S.input source.new) (S.faults source.old)
-            (S.faults source.new)) }
+            (HasNoPiece (record_start all_max reader.old.place (S.input source.old)) (S.input source.new)
+            (S.faults source.old) (S.faults source.new)) }
         ensures stands { StandsIn self.new buf.new }
         ensures counted { S.faults source.old ≤ S.faults source.new }
     {
@@ -379,8 +379,8 @@ impl AllReply {
         ensures of_reply { IfOk result IsOfReply }
         ensures between { OnOk result (reader.new.part ≡ not_begun) }
         ensures cause { IfErr result
-            (HasNoPiece all_max reader.old.place (S.input source.old) (S.input source.new) (S.faults source.old)
-            (S.faults source.new)) }
+            (HasNoPiece (record_start all_max reader.old.place (S.input source.old)) (S.input source.new)
+            (S.faults source.old) (S.faults source.new)) }
         ensures counted { S.faults source.old ≤ S.faults source.new }
     {
         let said = self.read_rows(source, reader, buf, into)?;

@@ -3,7 +3,7 @@ use Rattle.std.specs.Prelude.{◌≡◌, ℕ, ◌+◌, ◌≤◌, ◌⊎◌, Boo
 use Rattle.std.specs.Prelude.{Some, Result, Ok, Err, IfErr, ⊤}
 use Rattle.yp_xdr.specs.Reading.{Remaining}
 use Rattle.yp_rpc.specs.declared.record.RecordFault.{RecordFault}
-use Rattle.yp_rpc.specs.Records.{TakesRecord}
+use Rattle.yp_rpc.specs.Records.{TakesRecord, record_start}
 use Rattle.yp_rpc.specs.Pieces.{ReaderState, not_begun}
 use Rattle.yp_rpc.specs.inside.Pieces.{HasGiven, HasNoPiece}
 use Rattle.yp_version.specs.declared.builder.VersionFault.{VersionFault}
@@ -83,7 +83,7 @@ TakesMore old new buf buf' was now =
 abbrev pub IsCutOff : {X : Type 0} → Result X RecordFault → RecordProgress → Option (List ℕ) → ℕ → ℕ → Type 0
 IsCutOff result was input before after =
     (front : List ℕ) (start : Option (List ℕ)) (place : ℕ) → HasReadUpTo front start place was
-    → IfErr result (HasNoPiece all_max place start input before after)
+    → IfErr result (HasNoPiece (record_start all_max place start) input before after)
 
 -- An item stands whole in the buffer, or the record ends in it.
 abbrev pub HasItem : AllReply → List ℕ → Type 0
