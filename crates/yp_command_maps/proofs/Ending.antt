@@ -18,7 +18,7 @@ use Rattle.yp_texts.specs.declared.fault.BuildFault.TheVariants as fault
 use Rattle.yp_command.specs.declared.office.office.Office.{Office}
 use Rattle.yp_command.specs.declared.office.status.Status.{Status}
 use Rattle.yp_command.specs.declared.office.status.Status.TheVariants.{Done, ReadFault, WriteFault, TooLong, NoMemory, Damaged, DiskFault, Rows, OrderSpent, Refused, GenerationsSpent}
-use Rattle.yp_command.specs.office.Disks.{names_of, faults_of}
+use Rattle.yp_command.specs.office.Disks.{names_of}
 use Rattle.yp_command.specs.office.Seeing.{Seeing, input, output, history, moment, ReadFails, WriteFails, DiskFails, HasCauses}
 use Rattle.yp_command_maps.specs.declared.build.Built.{Built}
 use Rattle.yp_command_maps.specs.declared.build.BuildStop.{BuildStop}
@@ -26,6 +26,7 @@ use Rattle.yp_command_maps.specs.declared.build.BuildStop.TheVariants as stop
 use Rattle.yp_io.specs.declared.whole.Unread.{Unread}
 use Rattle.yp_io.specs.declared.whole.Unread.TheVariants as unread
 use Rattle.yp_io.specs.inside.Streams.{ReadingStopped}
+use Rattle.yp_command_maps.specs.Disks.{disk_tells}
 use Rattle.yp_command_maps.specs.Build.{Job, BuildInputs, build_inputs, Unplanned, IsLong, planned, over, Builds}
 use Rattle.yp_command_maps.specs.Build.{JobDoes, AtBuildInputs, TellsLine, fault_status, tells_stored, may_have_written}
 use Rattle.yp_command_maps.specs.Build.{PlanIsStored, IsBeforeOrPlanned, LeavesFew, build_line}
@@ -142,7 +143,7 @@ pub record Ended {S K D C A I T : Type 0} (seen : Seeing S K D C A I T) (job : J
   pub named : name_view store ≡ job.store
   pub read : IfSome (input seen old) (λ bytes. bytes ≡ text)
   pub clock : IfSome (moment seen old) (λ told. now ≡ told)
-  pub builds : BuildsOn job text now result (history seen old) (history seen new) (faults_of seen.disk.faults old.disks.items) (faults_of seen.disk.faults new.disks.items)
+  pub builds : BuildsOn job text now result (disk_tells seen old) (disk_tells seen new)
   pub ends : IsBuildEnd store result status (output seen old) (output seen new)
   pub write_fault : status ≡ WriteFault → WriteFails seen old new
   pub names : names_of new.disks.items ≡ names_of old.disks.items

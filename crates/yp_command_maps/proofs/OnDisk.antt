@@ -20,7 +20,7 @@ use Rattle.yp_map_file.specs.declared.fault.SlotFault.{SlotFault}
 use Rattle.yp_map_file.specs.declared.fault.SlotFault.TheVariants as slot
 use Rattle.yp_map_file.specs.Loads.{Loads}
 use Rattle.yp_map_file.specs.Stands as stood
-use Rattle.yp_command.specs.office.Disks.{only_history, total_faults}
+use Rattle.yp_command_maps.specs.Disks.{DiskTells, only_tells}
 use Rattle.yp_command_maps.specs.declared.build.Built.{Built}
 use Rattle.yp_command_maps.specs.declared.build.BuildStop.{BuildStop}
 use Rattle.yp_command_maps.specs.declared.build.BuildStop.TheVariants as stop
@@ -120,7 +120,7 @@ module _ {D : Type 0} (history : D → Option History) (faults : D → ℕ) (job
         let is : before ≡ after = cc in
         subst (λ (k : StoredMap D). LeavesOnly (history disk) (history k.disk) (MayLeave (history disk))) is opened.moments
 
-    on_one : BuildsOn job text now result (history disk) (history after.disk) (faults disk + 0) (faults after.disk + 0)
+    on_one : BuildsOn job text now result (only_tells history faults (disk ∷ [])) (only_tells history faults (after.disk ∷ []))
     on_one = record {
       built = ok_more result (λ made. IsBuiltAsPlanned (plan_of job text now before) before.generation made)
           (λ made. IfSome (history disk) (λ h. IsBuiltAsPlanned (planned job (build_inputs text now h)) (generation_of (winning h.state.reads)) made))
@@ -141,7 +141,7 @@ module _ {D : Type 0} (history : D → Option History) (faults : D → ℕ) (job
 
   pub over_only : (disks news : List D) (old new : List (StoredMap D)) → length disks ≡ 1 → AllZip (IsOpened history faults) disks old → news ≡ map (λ (kept : StoredMap D). kept.disk) new
       → Renews history faults job text now result old new
-      → BuildsOn job text now result (only_history history disks) (only_history history news) (total_faults faults disks) (total_faults faults news)
+      → BuildsOn job text now result (only_tells history faults disks) (only_tells history faults news)
   over_only [] news old new one opened same did = absurd (omega (arith, one))
   over_only (disk ∷ another ∷ more) news old new one opened same did = absurd (omega (arith, one))
   over_only (disk ∷ []) news [] new one opened same did = absurd opened
@@ -155,13 +155,13 @@ all_told None P f = tt
 all_told (Some x) P f = f x
 
 -- where nothing was done since memory ran out
-pub forgone : (job : Job) (text : List ℕ) (now : ℕ) (old : Option History) (faults : ℕ) → BuildsOn job text now (Err stop.NoMemory) old old faults faults
-forgone job text now old faults = record {
+pub forgone : (job : Job) (text : List ℕ) (now : ℕ) (old : DiskTells) → BuildsOn job text now (Err stop.NoMemory) old old
+forgone job text now old = record {
   built = tt;
-  stopped = all_told old _ (λ h. tt);
+  stopped = all_told old.history _ (λ h. tt);
   stored = tt;
-  any_moment = all_told old (λ h. LeavesOnly old old (IsBeforeOrPlanned job (build_inputs text now h) old)) (λ h. nothing_left old _ (λ image left. inl left));
-  few = nothing_left old _ (λ image left. inl left);
+  any_moment = all_told old.history (λ h. LeavesOnly old.history old.history (IsBeforeOrPlanned job (build_inputs text now h) old.history)) (λ h. nothing_left old.history _ (λ image left. inl left));
+  few = nothing_left old.history _ (λ image left. inl left);
   early = λ early. absurd cc;
   never_falls = omega arith;
   cause = λ is. absurd (let no : stop.NoMemory ≡ stop.Disk = is in cc);
@@ -169,8 +169,8 @@ forgone job text now old faults = record {
 
 -- the same of equal disks
 pub same_disks : {D : Type 0} (history : D → Option History) (faults : D → ℕ) (job : Job) (text : List ℕ) (now : ℕ) (result : Result Built BuildStop) (old olds new news : List D) → olds ≡ old → news ≡ new
-    → BuildsOn job text now result (only_history history olds) (only_history history new) (total_faults faults olds) (total_faults faults new)
-    → BuildsOn job text now result (only_history history old) (only_history history news) (total_faults faults old) (total_faults faults news)
+    → BuildsOn job text now result (only_tells history faults olds) (only_tells history faults new)
+    → BuildsOn job text now result (only_tells history faults old) (only_tells history faults news)
 same_disks history faults job text now result old olds new news first second h = rw (sym first, second) h
 
 -- ---- where no publisher was opened
@@ -195,7 +195,7 @@ stops_at job text now few h at rule damaged =
 module _ {D : Type 0} (history : D → Option History) (faults : D → ℕ) (job : Job) (text : List ℕ) (now : ℕ) (few : length text ≤ text_max) where
   unwritten_only : (why : BuildStop) (before after : D) → IsUnwritten history faults before after
       → IfSome (history before) (λ h. StopsBuild (planned job (build_inputs text now h)) why) → (why ≡ stop.Disk → HasRisen (faults before) (faults after))
-      → BuildsOn job text now (Err why) (history before) (history after) (faults before + 0) (faults after + 0)
+      → BuildsOn job text now (Err why) (only_tells history faults (before ∷ [])) (only_tells history faults (after ∷ []))
   unwritten_only why before after kept stopped cause = record {
     built = tt;
     stopped = stopped;
@@ -225,20 +225,20 @@ module _ {D : Type 0} (history : D → Option History) (faults : D → ℕ) (job
   same_stop number slot.NoMemory = refl
 
   refused_one : (number : ℕ) (fault : SlotFault) (before after : D) → IsUnwritten history faults before after → OpeningStopped history faults (before ∷ []) (after ∷ []) number fault
-      → BuildsOn job text now (Err (stop_of_open (opening.Refused number fault))) (history before) (history after) (faults before + 0) (faults after + 0)
+      → BuildsOn job text now (Err (stop_of_open (opening.Refused number fault))) (only_tells history faults (before ∷ [])) (only_tells history faults (after ∷ []))
   refused_one number fault before after kept stopped =
       let refused = by_front history faults stopped.front stopped.opened stopped.before stopped.after stopped.rest before after (λ b a. DiskIsRefused history faults b a fault) stopped.old_is stopped.new_is stopped.each stopped.refused in
-      subst (λ (why : BuildStop). BuildsOn job text now (Err why) (history before) (history after) (faults before + 0) (faults after + 0)) (same_stop number fault)
+      subst (λ (why : BuildStop). BuildsOn job text now (Err why) (only_tells history faults (before ∷ [])) (only_tells history faults (after ∷ []))) (same_stop number fault)
       (unwritten_only (stop_of_open (opening.Refused 0 fault)) before after kept (damaged_told (history before) fault refused.cause) (λ e. refused.disk_fault (disk_cause fault e)))
 
   by_fault : (fault : OpenFault) (before after : D) → IsUnwritten history faults before after → IsUnopened history faults fault (before ∷ []) (after ∷ [])
-      → BuildsOn job text now (Err (stop_of_open fault)) (history before) (history after) (faults before + 0) (faults after + 0)
+      → BuildsOn job text now (Err (stop_of_open fault)) (only_tells history faults (before ∷ [])) (only_tells history faults (after ∷ []))
   by_fault (opening.Refused number fault) before after kept why = refused_one number fault before after kept why.1
   by_fault opening.NoMemory before after kept why =
       unwritten_only stop.NoMemory before after kept (all_told (history before) _ (λ h. tt)) (λ e. absurd (let no : stop.NoMemory ≡ stop.Disk = e in cc))
 
   pub refused_only : (fault : OpenFault) (disks news : List D) → length disks ≡ 1 → AllZip (IsUnwritten history faults) disks news → IsUnopened history faults fault disks news
-      → BuildsOn job text now (Err (stop_of_open fault)) (only_history history disks) (only_history history news) (total_faults faults disks) (total_faults faults news)
+      → BuildsOn job text now (Err (stop_of_open fault)) (only_tells history faults disks) (only_tells history faults news)
   refused_only fault [] news one all why = absurd (omega (arith, one))
   refused_only fault (disk ∷ another ∷ more) news one all why = absurd (omega (arith, one))
   refused_only fault (disk ∷ []) [] one all why = absurd all

@@ -21,7 +21,7 @@ use Rattle.yp_command.specs.declared.office.office.Office.{Office}
 use Rattle.yp_command.specs.declared.office.status.Status.{Status}
 use Rattle.yp_command.specs.declared.office.status.Status.TheVariants.{Done, ReadFault, WriteFault, NoMemory, Damaged, NoVersion}
 use Rattle.yp_command.specs.declared.office.status.Status.TheVariants.{DiskFault, Rows, OrderSpent, Refused, GenerationsSpent}
-use Rattle.yp_command.specs.office.Disks.{names_of, faults_of, faults_at}
+use Rattle.yp_command.specs.office.Disks.{names_of, faults_at}
 use Rattle.yp_command.specs.office.Seeing.{Seeing, output, moment, WriteFails, DiskFails}
 use Rattle.yp_command_maps.specs.declared.build.Built.{Built}
 use Rattle.yp_command_maps.specs.Build.{build_line, TellsLine, tells_stored, may_have_written}
@@ -29,7 +29,7 @@ use Rattle.yp_command_maps.specs.Revnet.{Job, job_of, RevnetInputs, revnet_input
 use Rattle.yp_command_maps.specs.Revnet.{CanReverse, StopsRevnet, is_stop}
 use Rattle.yp_command_maps.specs.Revnet.{revnet_may_end, OfMade, StandsForVersion, line_of, Reverses, AtFiles}
 use Rattle.yp_command_maps.specs.Revnet.{IsBeforeOrMade}
-use Rattle.yp_command_maps.specs.inside.Revnet.{Ends, Renews}
+use Rattle.yp_command_maps.specs.inside.Revnet.{Ends, two_tell, Renews}
 use Rattle.yp_command_maps.specs.Revnet.{OwnDiskFails}
 use Rattle.yp_command_maps.specs.Revnet.{store_history, netgroup_history, AtRevnetInputs, RevnetDoes}
 use Rattle.yp_command_maps.specs.inside.Revnet.{IsToldEnd}
@@ -185,9 +185,8 @@ some_more (Some x) P Q f h = f x h
 pub record Acted {S K D C A I T : Type 0} (seen : Seeing S K D C A I T) (name : List ℕ) (store : Name) (now : ℕ)
     (result : Result Built Status) (status : Status) (old new : Office S K D C A I T) : Type 0 where
   pub clock : IfSome (moment seen old) (λ told. now ≡ told)
-  pub renews : Renews (job_of name store) now result (store_history seen old) (store_history seen new)
-      (netgroup_history seen old) (netgroup_history seen new)
-      (faults_of seen.disk.faults old.disks.items) (faults_of seen.disk.faults new.disks.items)
+  pub renews : Renews (job_of name store) now result (two_tell seen.disk.history seen.disk.faults old.disks.items)
+      (two_tell seen.disk.history seen.disk.faults new.disks.items)
   pub own_disk : IfErr result (λ why. (map : MapName) → why ≡ DiskFault map → OwnDiskFails store (name_view map)
       (faults_at seen.disk.faults 0 old.disks.items) (faults_at seen.disk.faults 0 new.disks.items)
       (faults_at seen.disk.faults 1 old.disks.items) (faults_at seen.disk.faults 1 new.disks.items))

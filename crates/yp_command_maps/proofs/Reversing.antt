@@ -29,7 +29,7 @@ use Rattle.yp_command.specs.declared.office.disks.NamedDisk.{NamedDisk}
 use Rattle.yp_command.specs.office.Disks.{names_of, faults_at, IsOnlyRead}
 use Rattle.yp_command_maps.specs.Revnet.{Job, RevnetInputs, revnet_inputs, IsReverseVersion, IsUnmade, FileVersions, AreFileVersions, ReverseIsPlanned, ReverseIsHindered, MapFileIsSound}
 use Rattle.yp_command_maps.specs.Revnet.{OwnDiskFails, IsSpent, StopsRevnet, AtFiles, StandsForVersion, IsBeforeOrMade}
-use Rattle.yp_command_maps.specs.inside.Revnet.{StopsCommit, Ends, Renews}
+use Rattle.yp_command_maps.specs.inside.Revnet.{StopsCommit, Ends, RevnetTells, revnet_tells, both_tell, two_tell, Renews}
 use Rattle.yp_io.specs.inside.DiskLaws.{counts_now}
 use Rattle.yp_command_maps.proofs.OnDisk.{then, nothing_left}
 
@@ -102,13 +102,22 @@ own_disk_as result store a a' b b' x x' y y' first first' second second' h =
     (subst (λ (n : ℕ). Blames a a' n y') (sym second)
     (subst (λ (n : ℕ). Blames a a' b n) (sym second') h)))
 
-pub renews_err : (job : Job) (now : ℕ) (old new netgroup netgroup' : Option History) (faults faults' : ℕ)
-    (result : Result Built Status) (status : Status) → IsErrAnd result (λ other. other ≡ status)
-    → Renews job now (Err status) old new netgroup netgroup' faults faults'
-    → Renews job now result old new netgroup netgroup' faults faults'
-renews_err job now old new netgroup netgroup' faults faults' (Ok built) status is h = absurd is
-renews_err job now old new netgroup netgroup' faults faults' (Err other) status is h =
-    subst (λ (s : Status). Renews job now (Err s) old new netgroup netgroup' faults faults') (sym is) h
+-- so what the two disks tell is what the list of them tells
+pub listed_tells : {D : Type 0} (history : D → Option History) (faults : D → ℕ) (disks middle rest : List (NamedDisk D))
+    (first second : NamedDisk D) → disks ≡ middle ++ second ∷ [] → middle ≡ rest ++ first ∷ [] → rest ≡ []
+    → both_tell history faults first.disk second.disk ≡ two_tell history faults disks
+listed_tells {D} history faults disks middle rest first second last before none =
+    let whole : disks ≡ first ∷ second ∷ [] = last
+    ∙ ap (λ (l : List (NamedDisk D)). l ++ second ∷ []) (before ∙ ap (λ (l : List (NamedDisk D)). l ++ first ∷ []) none) in
+    let sum : faults first.disk + faults second.disk ≡ faults first.disk + (faults second.disk + 0) = omega arith in
+    ap (λ (n : ℕ). revnet_tells (history first.disk) (history second.disk) n) sum
+    ∙ ap (λ (l : List (NamedDisk D)). two_tell history faults l) (sym whole)
+
+pub renews_err : (job : Job) (now : ℕ) (old new : RevnetTells) (result : Result Built Status) (status : Status)
+    → IsErrAnd result (λ other. other ≡ status) → Renews job now (Err status) old new → Renews job now result old new
+renews_err job now old new (Ok built) status is h = absurd is
+renews_err job now old new (Err other) status is h =
+    subst (λ (s : Status). Renews job now (Err s) old new) (sym is) h
 
 -- a count rises with one of its parts
 pub risen_first : (a a' b b' : ℕ) → HasRisen a a' → b ≤ b' → HasRisen (a + b) (a' + b')
@@ -131,11 +140,16 @@ built_is order order' rows rows' generation generation' o r g =
     ∙ ap (λ (n : ℕ). numbers order' rows' n) g
 
 -- the same of equal parts
-pub renews_as : (job job' : Job) (now : ℕ) (result : Result Built Status) (old new netgroup netgroup' : Option History)
-    (faults faults' : ℕ) → job ≡ job' → Renews job now result old new netgroup netgroup' faults faults'
-    → Renews job' now result old new netgroup netgroup' faults faults'
-renews_as job job' now result old new netgroup netgroup' faults faults' same h =
-    subst (λ (j : Job). Renews j now result old new netgroup netgroup' faults faults') same h
+pub renews_as : (job job' : Job) (now : ℕ) (result : Result Built Status) (old new : RevnetTells) → job ≡ job'
+    → Renews job now result old new → Renews job' now result old new
+renews_as job job' now result old new same h = subst (λ (j : Job). Renews j now result old new) same h
+
+-- the same of what is told in other words
+pub renews_at : (job : Job) (now : ℕ) (result : Result Built Status) (was is old new : RevnetTells) → was ≡ old
+    → is ≡ new → Renews job now result was is → Renews job now result old new
+renews_at job now result was is old new a b h =
+    subst (λ (t : RevnetTells). Renews job now result old t) b
+    (subst (λ (t : RevnetTells). Renews job now result t is) a h)
 
 pub made_behind : (job : Job) (now : ℕ) (last last' : Option MapVersion) (rows : List Row) (version : MapVersion)
     → last ≡ last' → IsReverseVersion job.name job.field now last rows version
@@ -232,7 +246,7 @@ module _ (job : Job) (now : ℕ) (old netgroup : Option History) (faults : ℕ) 
   pub not_made : (status : Status) (new netgroup' : Option History) (faults' : ℕ) → LeavesOnly old new (MayLeave old)
       → IsOnlyRead netgroup netgroup' → AtFiles old netgroup now (λ inputs. StopsRevnet job inputs status)
       → ((map : MapName) → status ≡ DiskFault map → HasRisen faults faults')
-      → Renews job now (Err status) old new netgroup netgroup' faults faults'
+      → Renews job now (Err status) (revnet_tells old netgroup faults) (revnet_tells new netgroup' faults')
   not_made status new netgroup' faults' left only stops cause = record {
     made = None;
     planned = tt;
@@ -249,7 +263,7 @@ module _ (job : Job) (now : ℕ) (old netgroup : Option History) (faults : ℕ) 
   pub store_unloaded : (store : Name) (fault : SlotFault) (status : Status) (new : Option History) (faults' : ℕ)
       → store ≡ job.store → Fails store fault status → IfSome old (λ h. Loads (stands h.state.reads) (Err fault))
       → LeavesOnly old new (MayLeave old) → (fault ≡ slot.DiskFault → HasRisen faults faults')
-      → Renews job now (Err status) old new netgroup netgroup faults faults'
+      → Renews job now (Err status) (revnet_tells old netgroup faults) (revnet_tells new netgroup faults')
   store_unloaded store fault status new faults' named fails loads left cause =
       not_made status new netgroup faults' left (unread netgroup)
       (at_files old netgroup now (λ h. Loads (stands h.state.reads) (Err fault)) (λ n. Unit {0}) (λ inputs. StopsRevnet job inputs status)
@@ -263,7 +277,7 @@ module _ (job : Job) (now : ℕ) (old netgroup : Option History) (faults : ℕ) 
         → name ≡ netgroup_of job.store → Fails name fault status
         → IfSome netgroup (λ n. Loads (stands n.state.reads) (Err fault))
         → (fault ≡ slot.DiskFault → HasRisen faults faults')
-        → Renews job now (Err status) old mid netgroup netgroup' faults faults'
+        → Renews job now (Err status) (revnet_tells old netgroup faults) (revnet_tells mid netgroup' faults')
     netgroup_unloaded name fault status faults' named fails none cause =
         not_made status mid netgroup' faults' left only
         (at_files old netgroup now (λ h. Loads (stands h.state.reads) (Ok last))
@@ -275,7 +289,8 @@ module _ (job : Job) (now : ℕ) (old netgroup : Option History) (faults : ℕ) 
     -- or stands for nothing
     pub none_stands : (map : MapName) (faults' : ℕ) → name_view map ≡ netgroup_of job.store
         → IfSome netgroup (λ n. Loads (stands n.state.reads) (Ok None))
-        → Renews job now (Err (NoVersion map)) old mid netgroup netgroup' faults faults'
+        → Renews job now (Err (NoVersion map)) (revnet_tells old netgroup faults)
+        (revnet_tells mid netgroup' faults')
     none_stands map faults' named none =
         not_made (NoVersion map) mid netgroup' faults' left only
         (at_files old netgroup now (λ h. Loads (stands h.state.reads) (Ok last))
@@ -310,7 +325,7 @@ module _ (job : Job) (now : ℕ) (old netgroup : Option History) (faults : ℕ) 
 
       -- no version is made
       pub unmade : (status : Status) (faults' : ℕ) → IsUnmade job.name job.field now last groups.rows status
-          → Renews job now (Err status) old mid netgroup netgroup' faults faults'
+          → Renews job now (Err status) (revnet_tells old netgroup faults) (revnet_tells mid netgroup' faults')
       unmade status faults' why =
           not_made status mid netgroup' faults' left only
           (held_at (λ inputs. StopsRevnet job inputs status) (λ h n held. unmade_stops (revnet_inputs h n now) status held why))
@@ -348,7 +363,7 @@ module _ (job : Job) (now : ℕ) (old netgroup : Option History) (faults : ℕ) 
         pub unstored : (store : Name) (status : Status) (faults' : ℕ) → store ≡ job.store
             → StopsCommit store generation status → (may_have_written status ≡ false → new ≡ mid)
             → ((map : MapName) → status ≡ DiskFault map → HasRisen faults faults')
-            → Renews job now (Err status) old new netgroup netgroup' faults faults'
+            → Renews job now (Err status) (revnet_tells old netgroup faults) (revnet_tells new netgroup' faults')
         unstored store status faults' named stops early cause = record {
           made = Some version;
           planned = planned;
@@ -380,7 +395,7 @@ module _ (job : Job) (now : ℕ) (old netgroup : Option History) (faults : ℕ) 
         pub renewed : (built : Built) (faults' : ℕ)
             → built ≡ record { order = version.order; rows = length version.rows; generation = generation + 1 }
             → ((image : List ℕ) → MayLeave new image → StandsForVersion (Some version) image)
-            → Renews job now (Ok built) old new netgroup netgroup' faults faults'
+            → Renews job now (Ok built) (revnet_tells old netgroup faults) (revnet_tells new netgroup' faults')
         renewed built faults' is stands = record {
           made = Some version;
           planned = planned;

@@ -16,8 +16,9 @@ use Rattle.yp_command.specs.office.Disks.{names_of}
 use Rattle.yp_command.specs.office.Seeing.{Seeing, output, history, WriteFails, DiskFails}
 use Rattle.yp_command_maps.specs.declared.xfr.XfrStop.{XfrStop}
 use Rattle.yp_command_maps.specs.declared.xfr.XfrStop.TheVariants as stop
+use Rattle.yp_command_maps.specs.Disks.{disk_tells}
 use Rattle.yp_command_maps.specs.Build.{TellsLine, LeavesFew}
-use Rattle.yp_command_maps.specs.Xfr.{Job, xfr_line, TellsXfr, dialing, disk_faults}
+use Rattle.yp_command_maps.specs.Xfr.{Job, xfr_line, TellsXfr, dialing}
 use Rattle.yp_command_maps.specs.inside.Xfr.{XfrMoves, is_undialed, IsXfrEnd}
 use Rattle.yp_command_maps.specs.Xfr.{XfrTransfers, XfrDeclines, XfrDoes}
 
@@ -77,8 +78,7 @@ end_disk store (Err (stop.Unloaded why)) status before after map ends e =
 module _ {S K D C A I T : Type 0} (seen : Seeing S K D C A I T) (job : Job) (old new : Office S K D C A I T) where
   -- what was moved and told
   pub record Told (result : Result Installed XfrStop) (status : Status) : Type 0 where
-    pub moves : XfrMoves job result (dialing seen old) (dialing seen new) (history seen old) (history seen new)
-        (disk_faults seen old) (disk_faults seen new)
+    pub moves : XfrMoves job result (dialing seen old) (dialing seen new) (disk_tells seen old) (disk_tells seen new)
     pub few : LeavesFew (history seen old) (history seen new)
     pub undialed : is_undialed result ≡ true → new.dial ≡ old.dial
     pub silent : OnErr result (new.wire.sink ≡ old.wire.sink)
@@ -116,8 +116,8 @@ module _ {S K D C A I T : Type 0} (seen : Seeing S K D C A I T) (job : Job) (old
       → status ≡ DiskFault map → DiskFails seen old new
   disk_fault result status map told e =
       let is = told.disk map e in
-      (subst (λ (r : Result Installed XfrStop). XfrMoves job r (dialing seen old) (dialing seen new) (history seen old)
-      (history seen new) (disk_faults seen old) (disk_faults seen new)) is told.moves).disk_fault refl
+      (subst (λ (r : Result Installed XfrStop). XfrMoves job r (dialing seen old) (dialing seen new)
+      (disk_tells seen old) (disk_tells seen new)) is told.moves).disk_fault refl
 
   pub xfr_does : (result : Result Installed XfrStop) (status : Status) → Told result status
       → XfrDoes seen job status old new

@@ -41,6 +41,7 @@ use Rattle.yp_transfer.specs.Transfers.{wanted_at, InstallsOutcome}
 use Rattle.yp_transfer.specs.Transfers as transfers
 use Rattle.yp_command.specs.office.Disks.{only_history, total_faults}
 use Rattle.yp_command_maps.specs.declared.xfr.XfrStop.TheVariants as stop
+use Rattle.yp_command_maps.specs.Disks.{DiskTells, only_tells}
 use Rattle.yp_command_maps.specs.Build.{LeavesFew}
 use Rattle.yp_command_maps.specs.Xfr.{Job, FileVersion, IsFileVersion, wanted, marked, against, IsFetchedIn, IsBeforeOrFetched, IsUnwanted}
 use Rattle.yp_command_maps.specs.Xfr.{IsNotStored, StoresOutcome, StoresOn, TransfersOn, IsNotLoaded}
@@ -315,8 +316,8 @@ module _ {D : Type 0} (history : D → Option History) (faults : D → ℕ) (job
 
     -- what the disk shows of it
     on_one : (outcome : FetchOutcome) (result : Result Installed XfrFault) → Puts outcome result before after
-        → StoresOn job (held_of before) outcome result (history disk) (history after.disk) (faults disk + 0)
-        (faults after.disk + 0)
+        → StoresOn job (held_of before) outcome result (only_tells history faults (disk ∷ []))
+        (only_tells history faults (after.disk ∷ []))
     on_one outcome result puts = record {
       is_held = record { version = one.opened.stood.version; generation = one.opened.stood.generation };
       comes = comes_more job (held_of before) (HasRisen (faults before.disk) (faults after.disk)) _ outcome result
@@ -345,8 +346,8 @@ module _ {D : Type 0} (history : D → Option History) (faults : D → ℕ) (job
   -- what was installed on it
   pub record Installs (outcome : FetchOutcome) (result : Result Installed XfrFault) (shows : Option MapVersion)
       (disks news : List D) : Type 0 where
-    pub stores : StoresFetched job shows outcome result (only_history history disks) (only_history history news)
-        (total_faults faults disks) (total_faults faults news)
+    pub stores : StoresFetched job shows outcome result (only_tells history faults disks)
+        (only_tells history faults news)
     pub count : length news ≡ 1
 
   installed_one : (disk : D) (before : StoredMap D) (afters : List (StoredMap D)) (news : List D) (old new : Published D Seen)
@@ -440,8 +441,7 @@ module _ {D : Type 0} (history : D → Option History) (faults : D → ℕ) (job
 
   -- what was done to it
   pub record Did (result : Result Installed XfrFault) (from to : Dialing) (disks news : List D) : Type 0 where
-    pub moves : TransfersOn job result from to (only_history history disks) (only_history history news)
-        (total_faults faults disks) (total_faults faults news)
+    pub moves : TransfersOn job result from to (only_tells history faults disks) (only_tells history faults news)
     pub few : LeavesFew (only_history history disks) (only_history history news)
     pub count : length news ≡ 1
 
@@ -530,12 +530,11 @@ module _ {D : Type 0} (history : D → Option History) (faults : D → ℕ) (job
   left_only fault (disk ∷ []) (after ∷ []) one all is = left_one fault disk after all.0 is
 
   -- where memory ran out before
-  pub forgone_moves : (from : Dialing) (old : Option History) (count : ℕ)
-      → XfrMoves job (Err (stop.Unloaded slot.NoMemory)) from from old old count count
-  forgone_moves from old count = record {
-    cause = all_told old _ (λ h. tt);
+  pub forgone_moves : (from : Dialing) (old : DiskTells) → XfrMoves job (Err (stop.Unloaded slot.NoMemory)) from from old old
+  forgone_moves from old = record {
+    cause = all_told old.history _ (λ h. tt);
     disk_fault = λ e. absurd cc;
-    unwritten = nothing_left old _ (λ image left. left);
+    unwritten = nothing_left old.history _ (λ image left. left);
   }
 
   pub forgone_few : (old : Option History) → LeavesFew old old

@@ -39,6 +39,15 @@ pub record Job : Type 0 where
 abbrev pub job_of : List ℕ → Name → Reading → Option Bool → Job
 job_of name store reading flag = record { name = name; store = store; reading = reading; flag = flag }
 
+-- what is asked of `build` and of `load`: the own name, the map, and whether the version is secure, where that is said
+pub record BuildRequest : Type 0 where
+  pub name : List ℕ
+  pub store : Name
+  pub flag : Option Bool
+
+abbrev pub build_request : List ℕ → Name → Option Bool → BuildRequest
+build_request name store flag = record { name = name; store = store; flag = flag }
+
 -- what the outside held: the text, the bytes of the map's file, and the moment
 pub record BuildInputs : Type 0 where
   pub text : List ℕ
@@ -215,14 +224,13 @@ pub record JobDoes {S K D C A I T : Type 0} (seen : Seeing S K D C A I T) (job :
   pub stays : new ≡ record old { wire = new.wire; disks = new.disks; clock = new.clock }
 
 -- What `build` does, by the kind of its map.
-pub record BuildDoes {S K D C A I T : Type 0} (seen : Seeing S K D C A I T) (name : List ℕ) (store : Name)
-    (flag : Option Bool)
-    (status : Status) (old new : Office S K D C A I T) : Type 0 where
+pub record BuildDoes {S K D C A I T : Type 0} (seen : Seeing S K D C A I T) (request : BuildRequest) (status : Status)
+    (old new : Office S K D C A I T) : Type 0 where
   pub kind : Kind
-  pub of_kind : kind_of store ≡ Some kind
-  pub does : JobDoes seen (job_of name store (reading.Text kind) flag) status old new
+  pub of_kind : kind_of request.store ≡ Some kind
+  pub does : JobDoes seen (job_of request.name request.store (reading.Text kind) request.flag) status old new
 
 -- What `load` does: the text is read as rows.
-abbrev pub LoadDoes : {S K D C A I T : Type 0} → Seeing S K D C A I T → (name : List ℕ) (store : Name)
-    (flag : Option Bool) → Status → (old new : Office S K D C A I T) → Type 0
-LoadDoes seen name store flag = JobDoes seen (job_of name store reading.Rows flag)
+abbrev pub LoadDoes : {S K D C A I T : Type 0} → Seeing S K D C A I T → BuildRequest → Status
+    → (old new : Office S K D C A I T) → Type 0
+LoadDoes seen request = JobDoes seen (job_of request.name request.store reading.Rows request.flag)

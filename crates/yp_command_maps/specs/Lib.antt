@@ -1,3 +1,4 @@
+pub mod Disks
 pub mod Build
 pub mod Inspect
 pub mod Check

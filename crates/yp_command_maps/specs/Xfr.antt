@@ -31,6 +31,7 @@ use Rattle.yp_command.specs.office.Seeing.{Seeing, output, history, WriteFails, 
 use Rattle.yp_command.specs.declared.office.office.Office.{Office}
 use Rattle.yp_command.specs.declared.office.status.Status.{Status}
 use Rattle.yp_command.specs.declared.office.status.Status.TheVariants.{Done, WriteFault, NoMemory, Damaged, DiskFault, Xfr}
+use Rattle.yp_command_maps.specs.Disks.{DiskTells, disk_tells}
 use Rattle.yp_command_maps.specs.Build.{TellsLine, LeavesFew}
 
 -- ---- what is to be transferred
@@ -110,24 +111,24 @@ StoresOutcome job held DiskFailed (Ok version) (Err why) = IsNotStored (against 
 -- ---- the dial, and the disk of the map
 
 -- What came of a fetch was stored on the disk of a map whose file had this, or wasn't, with what the disk told before
--- and after, and how often it has failed. A crash leaves what stood or what was fetched.
+-- and after. A crash leaves what stood or what was fetched.
 pub record StoresOn (job : Job) (held : FileVersion) (outcome : FetchOutcome) (result : Result Installed XfrFault)
-    (old new : Option History) (faults faults' : ℕ) : Type 0 where
-  pub is_held : IsFileVersion old held
-  pub comes : StoresOutcome job held (HasRisen faults faults') outcome result
-  pub stored : OnOk result ((image : List ℕ) → MayLeave new image → IsFetchedIn job held outcome image)
-  pub any_moment : LeavesOnly old new (IsBeforeOrFetched job held outcome old)
-  pub unwritten : IsUnwanted job held outcome → LeavesOnly old new (MayLeave old)
+    (old new : DiskTells) : Type 0 where
+  pub is_held : IsFileVersion old.history held
+  pub comes : StoresOutcome job held (HasRisen old.faults new.faults) outcome result
+  pub stored : OnOk result ((image : List ℕ) → MayLeave new.history image → IsFetchedIn job held outcome image)
+  pub any_moment : LeavesOnly old.history new.history (IsBeforeOrFetched job held outcome old.history)
+  pub unwritten : IsUnwanted job held outcome → LeavesOnly old.history new.history (MayLeave old.history)
 
 -- What a transfer does to its dial and to the disk of its map: the four calls, or those up to the refusal, were made on
 -- one wire to the host, and what came of them is stored or refused. The disk tells what the file had, and the wire what
 -- came of the calls, unless it failed or memory ran out.
-pub record TransfersOn (job : Job) (result : Result Installed XfrFault) (before after : Dialing)
-    (old new : Option History) (faults faults' : ℕ) : Type 0 where
+pub record TransfersOn (job : Job) (result : Result Installed XfrFault) (before after : Dialing) (old new : DiskTells)
+    : Type 0 where
   pub held : FileVersion
   pub outcome : FetchOutcome
   pub fetches : FetchesFrom (job.host ∷ []) job.host.0 (wanted job held) outcome before after
-  pub stores : StoresOn job held outcome result old new faults faults'
+  pub stores : StoresOn job held outcome result old new
 
 -- The file of the map wasn't loaded, and nothing was written to it.
 pub record IsNotLoaded (why : SlotFault) (old new : Option History) (faults faults' : ℕ) : Type 0 where
@@ -163,8 +164,7 @@ disk_faults seen office = faults_of seen.disk.faults office.disks.items
 pub record XfrTransfers {S K D C A I T : Type 0} (seen : Seeing S K D C A I T) (job : Job) (status : Status)
     (old new : Office S K D C A I T) : Type 0 where
   pub result : Result Installed XfrFault
-  pub did : TransfersOn job result (dialing seen old) (dialing seen new) (history seen old) (history seen new)
-      (disk_faults seen old) (disk_faults seen new)
+  pub did : TransfersOn job result (dialing seen old) (dialing seen new) (disk_tells seen old) (disk_tells seen new)
   pub tells : TellsXfr job.store result status (output seen old) (output seen new)
 
 -- The file wasn't loaded, or memory ran out before. Nothing was dialed or written.

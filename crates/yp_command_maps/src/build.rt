@@ -13,9 +13,10 @@ ghost use Rattle.yp_publisher.specs.Standing.{Level, OfMap, At};
 ghost use Rattle.yp_publisher.specs.Installs.{no_further, IsInstalled};
 ghost use Rattle.yp_command.specs.Forms.{kind_of};
 ghost use Rattle.yp_command.specs.inside.Words.{IsNamed};
-ghost use Rattle.yp_command.specs.office.Disks.{names_of, history_of, faults_of, only_history, total_faults};
+ghost use Rattle.yp_command.specs.office.Disks.{names_of};
 ghost use Rattle.yp_command.specs.office.Seeing.{seeing, IsPassedOn};
 ghost use Rattle.yp_command.specs.inside.office.Status.{IsTellable};
+ghost use Rattle.yp_command_maps.specs.Disks.{only_tells, named_tells};
 ghost use Rattle.yp_command_maps.specs.Build.{build_line};
 ghost use Rattle.yp_command_maps.specs.inside.Build.{job_view, last_view, plan_of, is_early, StopsInstall};
 ghost use Rattle.yp_command_maps.specs.Build.{StandsForPlan};
@@ -26,7 +27,7 @@ ghost use Rattle.yp_command_maps.specs.Build.{with_generation, fault_status};
 ghost use Rattle.yp_command_maps.specs.inside.Build.{BuildsOn, unread_status, stop_of_open};
 ghost use Rattle.yp_command_maps.specs.Build.{TellsLine};
 ghost use Rattle.yp_command_maps.specs.inside.Build.{stop_of_build, stop_of_after, IsStatusOfStop, IsBuildEnd};
-ghost use Rattle.yp_command_maps.specs.Build.{JobDoes, BuildDoes, LoadDoes, build_may_end};
+ghost use Rattle.yp_command_maps.specs.Build.{build_request, JobDoes, BuildDoes, LoadDoes, build_may_end};
 ghost use Rattle.yp_command_maps.specs.inside.Build.{IsShortStop};
 
 use crate::catalog::{OnlyMap, catalog_of};
@@ -262,8 +263,7 @@ fn build_over<D: Disk>(
     requires map { length only.catalog.maps ≡ 1 }
     requires only { length only.disks.items ≡ 1 }
     ensures builds { BuildsOn (job_view job.now) text.items now result.0
-        (only_history D.history only.disks.items) (only_history D.history result.1.items)
-        (total_faults D.faults only.disks.items) (total_faults D.faults result.1.items) }
+        (only_tells D.history D.faults only.disks.items) (only_tells D.history D.faults result.1.items) }
     ensures short { IfErr result.0 IsShortStop }
     ensures only { length result.1.items ≡ 1 }
 {
@@ -291,8 +291,7 @@ fn build_on<D: Disk>(
     requires catalogue { catalog_fault job.now.name.items (name_view job.now.store ∷ []) ≡ None }
     requires only { length disks.old.items ≡ 1 }
     ensures builds { BuildsOn (job_view job.now) text.items now result
-        (history_of D.history disks.old.items) (history_of D.history disks.new.items)
-        (faults_of D.faults disks.old.items) (faults_of D.faults disks.new.items) }
+        (named_tells D.history D.faults disks.old.items) (named_tells D.history D.faults disks.new.items) }
     ensures short { IfErr result IsShortStop }
     ensures names { names_of disks.new.items ≡ names_of disks.old.items }
 {
@@ -434,7 +433,7 @@ pub fn build_map<S: Source, K: Sink, D: Disk, C: Clock, A: Dial, I: Inbox, T: Te
     requires kind { IsSome (kind_of (name_view store)) }
     requires only { names_of office.old.disks.items ≡ name_view store ∷ [] }
     ensures does { BuildDoes (seeing S.Source K.Sink D.Disk C.Clock A.Dial I.Inbox T.Texts)
-        name.items (name_view store) flag result office.old office.new }
+        (build_request name.items (name_view store) flag) result office.old office.new }
     ensures may_end { IsTrue (build_may_end result) }
     ensures passed_on { IsPassedOn (seeing S.Source K.Sink D.Disk C.Clock A.Dial I.Inbox T.Texts)
         result office.old office.new }
@@ -466,7 +465,7 @@ pub fn load_map<S: Source, K: Sink, D: Disk, C: Clock, A: Dial, I: Inbox, T: Tex
     requires catalogue { catalog_fault name.items (name_view store ∷ []) ≡ None }
     requires only { names_of office.old.disks.items ≡ name_view store ∷ [] }
     ensures does { LoadDoes (seeing S.Source K.Sink D.Disk C.Clock A.Dial I.Inbox T.Texts)
-        name.items (name_view store) flag result office.old office.new }
+        (build_request name.items (name_view store) flag) result office.old office.new }
     ensures may_end { IsTrue (build_may_end result) }
     ensures passed_on { IsPassedOn (seeing S.Source K.Sink D.Disk C.Clock A.Dial I.Inbox T.Texts)
         result office.old office.new }

@@ -8,6 +8,7 @@ ghost use Rattle.yp_command.specs.office.Disks.{only_history, total_faults};
 ghost use Rattle.yp_publisher.specs.Begins.{plain_log};
 ghost use Rattle.yp_publisher.specs.inside.Begins.{BeginsLevel};
 ghost use Rattle.yp_publisher.specs.Keeping.{keeping_of};
+ghost use Rattle.yp_command_maps.specs.Disks.{only_tells};
 ghost use Rattle.yp_command_maps.specs.Xfr.{Job};
 ghost use Rattle.yp_command_maps.specs.inside.Xfr.{xfr_job_view, catalogue_of, why_of_open, LeavesUnloaded};
 ghost use Rattle.yp_command_maps.specs.inside.Xfr.{StoresFetched, KeepsLoaded};
@@ -120,8 +121,7 @@ pub fn store_fetched<D: Disk>(
     ensures { (disks : List D) → length disks ≡ 1
         → BeginsLevel D.history D.faults (catalogue_of (xfr_job_view job.now)) disks publisher
         → StoresFetched (xfr_job_view job.now) (shown 0 publisher.board.known) outcome result.0
-        (only_history D.history disks) (only_history D.history result.1.items)
-        (total_faults D.faults disks) (total_faults D.faults result.1.items)
+        (only_tells D.history D.faults disks) (only_tells D.history D.faults result.1.items)
         × (length result.1.items ≡ 1) }
 {
     let mut publisher = publisher;

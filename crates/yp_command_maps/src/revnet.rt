@@ -12,14 +12,14 @@ ghost use Rattle.yp_board.specs.Catalogues.{name_view};
 ghost use Rattle.yp_texts.specs.After.{was_secure};
 ghost use Rattle.yp_command.specs.Words.{netgroup_of};
 ghost use Rattle.yp_command.specs.inside.Words.{IsNamed};
-ghost use Rattle.yp_command.specs.office.Disks.{names_of, faults_of, faults_at, told_at};
+ghost use Rattle.yp_command.specs.office.Disks.{names_of, faults_at};
 ghost use Rattle.yp_command.specs.office.Seeing.{seeing, IsPassedOn};
 ghost use Rattle.yp_command.specs.inside.office.Status.{IsTellable};
 ghost use Rattle.yp_command_maps.specs.Build.{may_have_written, LeavesFew};
 ghost use Rattle.yp_command_maps.specs.inside.Build.{last_view};
 ghost use Rattle.yp_command_maps.specs.Revnet.{field_of, HasNextOrder, IsReverseVersion, IsUnmade, is_stop};
 ghost use Rattle.yp_command_maps.specs.Revnet.{StandsForVersion, IsBeforeOrMade, OwnDiskFails};
-ghost use Rattle.yp_command_maps.specs.inside.Revnet.{reverse_job, StopsCommit, Renews};
+ghost use Rattle.yp_command_maps.specs.inside.Revnet.{reverse_job, StopsCommit, both_tell, two_tell, Renews};
 ghost use Rattle.yp_command_maps.specs.Revnet.{RevnetDoes, revnet_may_end};
 ghost use Rattle.yp_command_maps.specs.inside.Revnet.{IsToldEnd};
 
@@ -162,8 +162,8 @@ fn renew<D: Disk>(
     requires named { IsNamed (name_view names.store) }
     requires netgroup { name_view names.netgroup ≡ netgroup_of (name_view names.store) }
     ensures renews { Renews (reverse_job reversal.now (name_view names.store)) reversal.now.moment result
-        (D.history slot.old.disk) (D.history slot.new.disk) (D.history netgroup.old.disk) (D.history netgroup.new.disk)
-        (D.faults slot.old.disk + D.faults netgroup.old.disk) (D.faults slot.new.disk + D.faults netgroup.new.disk) }
+        (both_tell D.history D.faults slot.old.disk netgroup.old.disk)
+        (both_tell D.history D.faults slot.new.disk netgroup.new.disk) }
     ensures own_disk { IfErr result (λ status. (map : MapName) → status ≡ Status.DiskFault map
         → OwnDiskFails (name_view names.store) (name_view map) (D.faults slot.old.disk) (D.faults slot.new.disk)
         (D.faults netgroup.old.disk) (D.faults netgroup.new.disk)) }
@@ -203,9 +203,7 @@ fn renew_named<D: Disk>(
     requires netgroup { name_view names.netgroup ≡ netgroup_of (name_view names.store) }
     requires both { names_of disks.old.items ≡ name_view names.store ∷ netgroup_of (name_view names.store) ∷ [] }
     ensures renews { Renews (reverse_job reversal.now (name_view names.store)) reversal.now.moment result
-        (told_at D.history 0 disks.old.items) (told_at D.history 0 disks.new.items)
-        (told_at D.history 1 disks.old.items) (told_at D.history 1 disks.new.items)
-        (faults_of D.faults disks.old.items) (faults_of D.faults disks.new.items) }
+        (two_tell D.history D.faults disks.old.items) (two_tell D.history D.faults disks.new.items) }
     ensures own_disk { IfErr result (λ status. (map : MapName) → status ≡ Status.DiskFault map
         → OwnDiskFails (name_view names.store) (name_view map)
         (faults_at D.faults 0 disks.old.items) (faults_at D.faults 0 disks.new.items)

@@ -7,9 +7,10 @@ ghost use Rattle.yp_board.specs.inside.Catalogues.{catalog_fault};
 ghost use Rattle.yp_command.specs.Words.{host_view};
 ghost use Rattle.yp_command.specs.inside.Words.{IsNamed};
 ghost use Rattle.yp_io.specs.Dials.{dialing_of};
-ghost use Rattle.yp_command.specs.office.Disks.{names_of, history_of, faults_of, only_history, total_faults};
+ghost use Rattle.yp_command.specs.office.Disks.{names_of, history_of, only_history};
 ghost use Rattle.yp_command.specs.office.Seeing.{seeing, IsPassedOn};
 ghost use Rattle.yp_command.specs.inside.office.Status.{IsTellable};
+ghost use Rattle.yp_command_maps.specs.Disks.{only_tells, named_tells};
 ghost use Rattle.yp_command_maps.specs.Build.{LeavesFew, TellsLine};
 ghost use Rattle.yp_command_maps.specs.Xfr.{xfr_line};
 ghost use Rattle.yp_command_maps.specs.inside.Xfr.{xfr_job_view, catalogue_of, IsReady, XfrMoves, is_undialed};
@@ -93,8 +94,7 @@ fn transfer_over<D: Disk, A: Dial>(
     requires only { length only.disks.items ≡ 1 }
     ensures moves { XfrMoves (xfr_job_view job.now) result.0
         (dialing_of A.past A.faults dial.old) (dialing_of A.past A.faults dial.new)
-        (only_history D.history only.disks.items) (only_history D.history result.1.items)
-        (total_faults D.faults only.disks.items) (total_faults D.faults result.1.items) }
+        (only_tells D.history D.faults only.disks.items) (only_tells D.history D.faults result.1.items) }
     ensures few { LeavesFew (only_history D.history only.disks.items) (only_history D.history result.1.items) }
     ensures undialed { is_undialed result.0 ≡ true → dial.new ≡ dial.old }
     ensures letters { A.letters dial.new ≡ A.letters dial.old }
@@ -125,8 +125,7 @@ fn transfer_on<D: Disk, A: Dial>(
     requires only { length disks.old.items ≡ 1 }
     ensures moves { XfrMoves (xfr_job_view job.now) result
         (dialing_of A.past A.faults dial.old) (dialing_of A.past A.faults dial.new)
-        (history_of D.history disks.old.items) (history_of D.history disks.new.items)
-        (faults_of D.faults disks.old.items) (faults_of D.faults disks.new.items) }
+        (named_tells D.history D.faults disks.old.items) (named_tells D.history D.faults disks.new.items) }
     ensures few { LeavesFew (history_of D.history disks.old.items) (history_of D.history disks.new.items) }
     ensures undialed { is_undialed result ≡ true → dial.new ≡ dial.old }
     ensures letters { A.letters dial.new ≡ A.letters dial.old }

@@ -179,7 +179,8 @@ module _ (job : Job) (h h' : History) (old new : Option History) (was : old ≡ 
   -- what came of a fetch is stored, or isn't
   pub stores_hold : (status : Status) (before after : Option (List ℕ)) (faults faults' : ℕ) (file : FileVersion) (outcome : FetchOutcome)
       (result : Result Installed XfrFault) → ((version : MapVersion) → outcome ≡ Ok version → Gave version)
-      → StoresOn job file outcome result old new faults faults' → TellsXfr job.store result status before after
+      → StoresOn job file outcome result (record { history = old; faults = faults })
+      (record { history = new; faults = faults' }) → TellsXfr job.store result status before after
       → FileHolds (world (tells_stored status)) held
   stores_hold status before after faults faults' file outcome result gave stores tells =
       let here : IfSome (Some h) (λ h. stands h.state.reads ≡ stands_for file.version) =
@@ -188,7 +189,8 @@ module _ (job : Job) (h h' : History) (old new : Option History) (was : old ≡ 
     where
       by : (outcome : FetchOutcome) (result : Result Installed XfrFault) → file.version ≡ held
           → ((version : MapVersion) → outcome ≡ Ok version → Gave version)
-          → StoresOn job file outcome result old new faults faults' → TellsXfr job.store result status before after
+          → StoresOn job file outcome result (record { history = old; faults = faults })
+          (record { history = new; faults = faults' }) → TellsXfr job.store result status before after
           → FileHolds (world (tells_stored status)) held
       by (Ok version) (Ok installed) file_is gave stores tells =
           subst (λ (b : Bool). FileHolds (world b) held) (sym (told_line _ status before after tells))

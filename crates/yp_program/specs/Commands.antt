@@ -15,7 +15,7 @@ use Rattle.yp_command_serve.specs.Served.{Witnessed, witnessed}
 use Rattle.yp_command_serve.specs.Session.{SessionDoes, session_job_of, session_may_end}
 use Rattle.yp_command_serve.specs.serve.Hosting.{OutsideTells}
 use Rattle.yp_command_serve.specs.serve.Serve.{ServeDoes, serve_job_of, serve_may_end}
-use Rattle.yp_command_maps.specs.Build.{BuildDoes, LoadDoes, build_may_end}
+use Rattle.yp_command_maps.specs.Build.{build_request, BuildDoes, LoadDoes, build_may_end}
 use Rattle.yp_command_maps.specs.Check.{CheckDoes, check_may_end}
 use Rattle.yp_command_maps.specs.Dump.{DumpDoes, dump_may_end}
 use Rattle.yp_command_maps.specs.Revnet.{RevnetDoes, revnet_may_end}
@@ -35,8 +35,8 @@ abbrev pub OfficeDoes : {S K D C A I T : Type 0} → Seeing S K D C A I T → Me
     → (old new : Office S K D C A I T) → Type 0
 OfficeDoes seen (Check store) status old new = CheckDoes seen store status old new
 OfficeDoes seen (Dump store) status old new = DumpDoes seen store status old new
-OfficeDoes seen (Build name store flag) status old new = BuildDoes seen name store flag status old new
-OfficeDoes seen (Load name store flag) status old new = LoadDoes seen name store flag status old new
+OfficeDoes seen (Build name store flag) status old new = BuildDoes seen (build_request name store flag) status old new
+OfficeDoes seen (Load name store flag) status old new = LoadDoes seen (build_request name store flag) status old new
 OfficeDoes seen (Xfr name force store host flag) status old new =
     TransferDoes seen (xfr_job_of name force store host flag) status old new
 OfficeDoes seen (Walk name force store host port turns flag) status old new =

@@ -9,14 +9,13 @@ use Rattle.yp_command.specs.declared.office.office.Office.{Office}
 use Rattle.yp_command.specs.declared.office.status.Status.{Status}
 use Rattle.yp_command.specs.declared.office.status.Status.TheVariants.{WriteFault, DiskFault, InboxFault}
 use Rattle.yp_command.specs.office.Disks.{names_of}
-use Rattle.yp_command.specs.office.Seeing.{Seeing, output, history, WriteFails, DiskFails, InboxFails}
+use Rattle.yp_command.specs.office.Seeing.{Seeing, output, WriteFails, DiskFails, InboxFails}
 use Rattle.yp_command_maps.specs.declared.xfr.XfrStop.TheVariants as stop
-use Rattle.yp_command_maps.specs.Xfr.{Job, XfrDeclines, disk_faults, xfr_may_end}
-use Rattle.yp_command_mail.specs.Telling.{box}
+use Rattle.yp_command_maps.specs.Xfr.{Job, XfrDeclines, xfr_may_end}
 use Rattle.yp_command_maps.specs.declared.walk.walk.WalkStop.{WalkStop}
 use Rattle.yp_command_maps.specs.declared.walk.walk.WalkStop.TheVariants as walk
 use Rattle.yp_command_maps.specs.declared.walk.walker.Came.TheVariants.{Spent, Failed as HasFailed}
-use Rattle.yp_command_maps.specs.walk.Walk.{Walks, WalksForNothing, WalkDoes}
+use Rattle.yp_command_maps.specs.walk.Walk.{walker_tells, Walks, WalksForNothing, WalkDoes}
 use Rattle.yp_command_maps.specs.inside.walk.Walk.{WalkMoves, Moved, is_unmailed, IsWalkEnd}
 
 -- no transfer ends with a fault of the inbox
@@ -28,8 +27,7 @@ module _ {S K D C A I T : Type 0} (seen : Seeing S K D C A I T) (job : Job) (tur
   where
     -- what was moved and told
     pub record Told (result : Result Installed WalkStop) (status : Status) : Type 0 where
-      pub moved : Moved job turns result (box seen old) (box seen new) (history seen old) (history seen new)
-          (disk_faults seen old) (disk_faults seen new)
+      pub moved : Moved job turns result (walker_tells seen old) (walker_tells seen new)
       pub unmailed : is_unmailed result ≡ true → new.inbox ≡ old.inbox
       pub silent : OnErr result (new.wire.sink ≡ old.wire.sink)
       pub ends : IsWalkEnd job.store turns result status (output seen old) (output seen new)
@@ -83,8 +81,8 @@ module _ {S K D C A I T : Type 0} (seen : Seeing S K D C A I T) (job : Job) (tur
     disk_fault : (result : Result Installed WalkStop) (status : Status) (map : MapName) → Told result status
         → status ≡ DiskFault map → DiskFails seen old new
     disk_fault result status map told e =
-        (subst (λ (r : Result Installed WalkStop). WalkMoves job turns r (box seen old) (box seen new) (history seen old)
-        (history seen new) (disk_faults seen old) (disk_faults seen new)) (told.disk map e) told.moved.moves).disk_fault refl
+        (subst (λ (r : Result Installed WalkStop). WalkMoves job turns r (walker_tells seen old) (walker_tells seen new))
+        (told.disk map e) told.moved.moves).disk_fault refl
 
     pub walk_does : (result : Result Installed WalkStop) (status : Status) → Told result status
         → WalkDoes seen job turns status old new

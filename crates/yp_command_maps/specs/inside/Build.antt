@@ -6,7 +6,7 @@ use Rattle.std.specs.Prelude.{⊤}
 use Rattle.yp_io.specs.Counts.{HasRisen}
 use Rattle.std.specs.Borrow.{Bor}
 use Rattle.yp_io.specs.Texts.{text_max}
-use Rattle.yp_io.specs.Disk.{History, LeavesOnly, MayLeave}
+use Rattle.yp_io.specs.Disk.{LeavesOnly, MayLeave}
 use Rattle.yp_version.specs.Limits.{master_max}
 use Rattle.yp_version.specs.Versions.{MapVersion}
 use Rattle.yp_map_file.specs.declared.fault.SlotFault.TheVariants as slot
@@ -34,6 +34,7 @@ use Rattle.yp_io.specs.declared.whole.Unread.TheVariants as unread
 use Rattle.yp_command.specs.declared.office.status.Status.{Status}
 use Rattle.yp_command.specs.declared.office.status.Status.TheVariants.{ReadFault, TooLong, NoMemory, Damaged}
 use Rattle.yp_command.specs.declared.office.status.Status.TheVariants.{DiskFault, Refused, GenerationsSpent}
+use Rattle.yp_command_maps.specs.Disks.{DiskTells}
 use Rattle.yp_command_maps.specs.Build.{Job, build_inputs, Unplanned, offered, with_generation, planned, StandsForPlan}
 use Rattle.yp_command_maps.specs.Build.{build_line, fault_status, TellsLine, IsBeforeOrPlanned, PlanIsStored, LeavesFew}
 use Rattle.yp_command_maps.specs.Build.{IsDamaged, Hinders, IsSpent}
@@ -143,15 +144,16 @@ IsShownOrPlanned plan kept image = (stands image ≡ stands_for kept.version) �
 
 -- ---- the disk of the map
 
--- What a build does to the disk of its map, whose file is told or not, and how often it has failed, before and after.
-pub record BuildsOn (job : Job) (text : List ℕ) (now : ℕ) (result : Result Built BuildStop) (old new : Option History)
-    (faults faults' : ℕ) : Type 0 where
-  pub built : IfOk result (λ made. IfSome old
+-- What a build does to the disk of its map, whose file is told or not, before and after.
+pub record BuildsOn (job : Job) (text : List ℕ) (now : ℕ) (result : Result Built BuildStop) (old new : DiskTells)
+    : Type 0 where
+  pub built : IfOk result (λ made. IfSome old.history
       (λ h. IsBuiltAsPlanned (planned job (build_inputs text now h)) (generation_of (winning h.state.reads)) made))
-  pub stopped : IfErr result (λ why. IfSome old (λ h. StopsBuild (planned job (build_inputs text now h)) why))
-  pub stored : OnOk result (IfSome old (λ h. PlanIsStored job (build_inputs text now h) new))
-  pub any_moment : IfSome old (λ h. LeavesOnly old new (IsBeforeOrPlanned job (build_inputs text now h) old))
-  pub few : LeavesFew old new
-  pub early : IfErr result (λ why. IsTrue (is_early why) → LeavesOnly old new (MayLeave old))
-  pub never_falls : faults ≤ faults'
-  pub cause : IfErr result (λ why. why ≡ stop.Disk → HasRisen faults faults')
+  pub stopped : IfErr result (λ why. IfSome old.history (λ h. StopsBuild (planned job (build_inputs text now h)) why))
+  pub stored : OnOk result (IfSome old.history (λ h. PlanIsStored job (build_inputs text now h) new.history))
+  pub any_moment : IfSome old.history (λ h. LeavesOnly old.history new.history
+      (IsBeforeOrPlanned job (build_inputs text now h) old.history))
+  pub few : LeavesFew old.history new.history
+  pub early : IfErr result (λ why. IsTrue (is_early why) → LeavesOnly old.history new.history (MayLeave old.history))
+  pub never_falls : old.faults ≤ new.faults
+  pub cause : IfErr result (λ why. why ≡ stop.Disk → HasRisen old.faults new.faults)

@@ -7,9 +7,10 @@ use Rattle.yp_version.specs.Versions.{MapVersion}
 use Rattle.yp_map_file.specs.Commits.{generation_of, winning, generation_max}
 use Rattle.yp_board.specs.Catalogues.{Name, name_view}
 use Rattle.yp_board.specs.declared.catalog.MapName.{MapName}
+use Rattle.yp_command.specs.declared.office.disks.NamedDisk.{NamedDisk}
 use Rattle.yp_command.specs.declared.office.status.Status.{Status}
 use Rattle.yp_command.specs.declared.office.status.Status.TheVariants.{DiskFault, GenerationsSpent}
-use Rattle.yp_command.specs.office.Disks.{IsOnlyRead}
+use Rattle.yp_command.specs.office.Disks.{told_at, faults_of, IsOnlyRead}
 use Rattle.yp_command_maps.specs.declared.build.Built.{Built}
 use Rattle.yp_command_maps.specs.declared.revnet.Reversal.{Reversal}
 use Rattle.yp_command_maps.specs.Build.{build_line, TellsLine, LeavesFew, may_have_written}
@@ -35,18 +36,38 @@ Ends job inputs made (Ok built) = OfMade made (λ version. built ≡ record {
 })
 Ends job inputs made (Err status) = StopsRevnet job inputs status
 
--- What is done to the disks of the map and of the netgroups, and how often they have failed, before and after.
-pub record Renews (job : Job) (now : ℕ) (result : Result Built Status) (old new netgroup netgroup' : Option History)
-    (faults faults' : ℕ) : Type 0 where
+-- what the disks of the map and of the netgroups tell, and how often the two have failed, together
+pub record RevnetTells : Type 0 where
+  pub store : Option History
+  pub netgroup : Option History
+  pub faults : ℕ
+
+abbrev pub revnet_tells : (store netgroup : Option History) → (faults : ℕ) → RevnetTells
+revnet_tells store netgroup faults = record { store = store; netgroup = netgroup; faults = faults }
+
+-- what these two disks tell
+abbrev pub both_tell : {D : Type 0} → (D → Option History) → (D → ℕ) → (store netgroup : D) → RevnetTells
+both_tell history faults store netgroup =
+    revnet_tells (history store) (history netgroup) (faults store + faults netgroup)
+
+-- what the first two disks tell, that of the map and that of the netgroups
+abbrev pub two_tell : {D : Type 0} → (D → Option History) → (D → ℕ) → List (NamedDisk D) → RevnetTells
+two_tell history faults disks =
+    revnet_tells (told_at history 0 disks) (told_at history 1 disks) (faults_of faults disks)
+
+-- What is done to the disks of the map and of the netgroups.
+pub record Renews (job : Job) (now : ℕ) (result : Result Built Status) (old new : RevnetTells) : Type 0 where
   pub made : Option MapVersion
-  pub planned : IfSome made (λ version. AtFiles old netgroup now (λ inputs. ReverseIsPlanned job inputs version))
-  pub ends : AtFiles old netgroup now (λ inputs. Ends job inputs made result)
-  pub stored : OnOk result ((image : List ℕ) → MayLeave new image → StandsForVersion made image)
-  pub any_moment : LeavesOnly old new (IsBeforeOrMade old made)
-  pub few : LeavesFew old new
-  pub early : IfErr result (λ status. may_have_written status ≡ false → LeavesOnly old new (MayLeave old))
-  pub only_read : IsOnlyRead netgroup netgroup'
-  pub cause : IfErr result (λ status. (map : MapName) → status ≡ DiskFault map → HasRisen faults faults')
+  pub planned : IfSome made
+      (λ version. AtFiles old.store old.netgroup now (λ inputs. ReverseIsPlanned job inputs version))
+  pub ends : AtFiles old.store old.netgroup now (λ inputs. Ends job inputs made result)
+  pub stored : OnOk result ((image : List ℕ) → MayLeave new.store image → StandsForVersion made image)
+  pub any_moment : LeavesOnly old.store new.store (IsBeforeOrMade old.store made)
+  pub few : LeavesFew old.store new.store
+  pub early : IfErr result
+      (λ status. may_have_written status ≡ false → LeavesOnly old.store new.store (MayLeave old.store))
+  pub only_read : IsOnlyRead old.netgroup new.netgroup
+  pub cause : IfErr result (λ status. (map : MapName) → status ≡ DiskFault map → HasRisen old.faults new.faults)
 
 -- what is told of it: a line, or nothing
 abbrev pub IsToldEnd : Name → Result Built Status → Status → Option (List ℕ) → Option (List ℕ) → Type 0

@@ -20,6 +20,7 @@ use Rattle.yp_command.specs.declared.office.status.Status.{Status}
 use Rattle.yp_command.specs.declared.command.XfrJob.{XfrJob}
 use Rattle.yp_command_maps.specs.declared.xfr.XfrStop.{XfrStop}
 use Rattle.yp_command_maps.specs.declared.xfr.XfrStop.TheVariants as stop
+use Rattle.yp_command_maps.specs.Disks.{DiskTells}
 use Rattle.yp_command_maps.specs.Build.{LeavesFew}
 use Rattle.yp_command_maps.specs.Xfr.{Job, FileVersion, IsFileVersion, StoresOn, TransfersOn, IsNotLoaded, TellsXfr}
 
@@ -39,11 +40,11 @@ pub record IsReady (job : Job) (disks : List Name) : Type 0 where
 
 -- The outcome of a fetch was stored in the only map of a publisher, which showed this version before.
 pub record StoresFetched (job : Job) (shows : Option MapVersion) (outcome : FetchOutcome)
-    (result : Result Installed XfrFault) (old new : Option History) (faults faults' : ℕ) : Type 0 where
+    (result : Result Installed XfrFault) (old new : DiskTells) : Type 0 where
   pub held : FileVersion
   pub shown : held.version ≡ shows
-  pub stores : StoresOn job held outcome result old new faults faults'
-  pub few : LeavesFew old new
+  pub stores : StoresOn job held outcome result old new
+  pub few : LeavesFew old.history new.history
 
 -- The file wasn't loaded, and at each moment a crash leaves no more than the most bytes of a file.
 pub record LeavesUnloaded (why : SlotFault) (old new : Option History) (faults faults' : ℕ) : Type 0 where
@@ -74,14 +75,12 @@ abbrev pub why_of_open : OpenFault → SlotFault
 why_of_open (opening.Refused map why) = why
 why_of_open opening.NoMemory = slot.NoMemory
 
-abbrev pub XfrMoves : Job → Result Installed XfrStop → (before after : Dialing) → (old new : Option History)
-    → (faults faults' : ℕ) → Type 0
-XfrMoves job (Ok installed) before after old new faults faults' =
-    TransfersOn job (Ok installed) before after old new faults faults'
-XfrMoves job (Err (stop.Fault why)) before after old new faults faults' =
-    TransfersOn job (Err why) before after old new faults faults'
-XfrMoves job (Err (stop.Unloaded why)) before after old new faults faults' =
-    IsNotLoaded why old new faults faults'
+-- What a transfer did to its dial and to its disk, or why the file of its map wasn't loaded.
+abbrev pub XfrMoves : Job → Result Installed XfrStop → (before after : Dialing) → (old new : DiskTells) → Type 0
+XfrMoves job (Ok installed) before after old new = TransfersOn job (Ok installed) before after old new
+XfrMoves job (Err (stop.Fault why)) before after old new = TransfersOn job (Err why) before after old new
+XfrMoves job (Err (stop.Unloaded why)) before after old new =
+    IsNotLoaded why old.history new.history old.faults new.faults
 
 -- whether the file of the map wasn't loaded, so that nothing was dialed
 abbrev pub is_undialed : Result Installed XfrStop → Bool

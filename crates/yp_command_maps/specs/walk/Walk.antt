@@ -1,6 +1,6 @@
 -- What `walk` fetches in datagrams, stores and tells.
-use Rattle.std.specs.Prelude.{◌≡◌, ◌⊎◌, ℕ, Bool, true, Option, Result}
-use Rattle.yp_io.specs.Disk.{History, LeavesOnly, MayLeave}
+use Rattle.std.specs.Prelude.{◌≡◌, ◌⊎◌, ℕ, Bool, true, Result}
+use Rattle.yp_io.specs.Disk.{LeavesOnly, MayLeave}
 use Rattle.yp_board.specs.declared.catalog.MapName.{MapName}
 use Rattle.yp_publisher.specs.declared.install.Installed.{Installed}
 use Rattle.yp_rpc.specs.Turns.{InboxTells}
@@ -11,10 +11,10 @@ use Rattle.yp_command.specs.declared.office.status.Status.{Status}
 use Rattle.yp_command.specs.declared.office.status.Status.TheVariants.{WriteFault, DiskFault, InboxFault, Unanswered}
 use Rattle.yp_command.specs.office.Disks.{names_of}
 use Rattle.yp_command.specs.office.Seeing.{Seeing, output, history, WriteFails, DiskFails, InboxFails}
+use Rattle.yp_command_maps.specs.Disks.{DiskTells, disk_tells}
 use Rattle.yp_command_maps.specs.Build.{LeavesFew}
 use Rattle.yp_command_maps.specs.Xfr.{Job, FileVersion, IsFileVersion, wanted, StoresOn, TellsXfr}
-use Rattle.yp_command_maps.specs.Xfr.{XfrDeclines, disk_faults}
-use Rattle.yp_command_maps.specs.Xfr.{xfr_may_end}
+use Rattle.yp_command_maps.specs.Xfr.{XfrDeclines, xfr_may_end}
 use Rattle.yp_command_mail.specs.Telling.{box}
 use Rattle.yp_command_maps.specs.declared.walk.walker.Came.{Came}
 use Rattle.yp_command_maps.specs.declared.walk.walker.Came.TheVariants.{Outcome as HasOutcome, Spent, Failed as HasFailed}
@@ -22,23 +22,34 @@ use Rattle.yp_command_maps.specs.walk.Turns.{WalksTo}
 
 -- ---- the inbox, and the disk of the map
 
--- What a walk does to its inbox and to the disk of its map, whose file is told or not and was loaded, and how often the
--- disk has failed, before and after: the source was asked row by row, and what came of that is stored or refused. The
--- disk tells what the file had, and the inbox what came of the walk, unless memory ran out.
-pub record StoresWalk (job : Job) (turns : ℕ) (result : Result Installed XfrFault) (before after : InboxTells)
-    (old new : Option History) (faults faults' : ℕ) : Type 0 where
-  pub held : FileVersion
-  pub outcome : FetchOutcome
-  pub walks : WalksTo job.host.1 (wanted job held) turns (HasOutcome outcome) before after
-  pub stores : StoresOn job held outcome result old new faults faults'
+-- what a walk's inbox tells, and the disk of its map
+pub record WalkTells : Type 0 where
+  pub inbox : InboxTells
+  pub disk : DiskTells
 
--- Nothing came of it, and nothing was written.
-pub record WalksInVain (job : Job) (turns : ℕ) (came : Came) (before after : InboxTells) (old new : Option History)
+abbrev pub walk_tells : InboxTells → DiskTells → WalkTells
+walk_tells inbox disk = record { inbox = inbox; disk = disk }
+
+-- what those of an office tell
+abbrev pub walker_tells : {S K D C A I T : Type 0} → Seeing S K D C A I T → Office S K D C A I T → WalkTells
+walker_tells seen office = walk_tells (box seen office) (disk_tells seen office)
+
+-- What a walk does to its inbox and to the disk of its map, whose file is told or not and was loaded: the source was
+-- asked row by row, and what came of that is stored or refused. The disk tells what the file had, and the inbox what
+-- came of the walk, unless memory ran out.
+pub record StoresWalk (job : Job) (turns : ℕ) (result : Result Installed XfrFault) (old new : WalkTells)
     : Type 0 where
   pub held : FileVersion
-  pub is_held : IsFileVersion old held
-  pub walks : WalksTo job.host.1 (wanted job held) turns came before after
-  pub unwritten : LeavesOnly old new (MayLeave old)
+  pub outcome : FetchOutcome
+  pub walks : WalksTo job.host.1 (wanted job held) turns (HasOutcome outcome) old.inbox new.inbox
+  pub stores : StoresOn job held outcome result old.disk new.disk
+
+-- Nothing came of it, and nothing was written.
+pub record WalksInVain (job : Job) (turns : ℕ) (came : Came) (old new : WalkTells) : Type 0 where
+  pub held : FileVersion
+  pub is_held : IsFileVersion old.disk.history held
+  pub walks : WalksTo job.host.1 (wanted job held) turns came old.inbox new.inbox
+  pub unwritten : LeavesOnly old.disk.history new.disk.history (MayLeave old.disk.history)
 
 -- ---- the command
 
@@ -46,8 +57,7 @@ pub record WalksInVain (job : Job) (turns : ℕ) (came : Came) (before after : I
 pub record Walks {S K D C A I T : Type 0} (seen : Seeing S K D C A I T) (job : Job) (turns : ℕ) (status : Status)
     (old new : Office S K D C A I T) : Type 0 where
   pub result : Result Installed XfrFault
-  pub did : StoresWalk job turns result (box seen old) (box seen new) (history seen old) (history seen new)
-      (disk_faults seen old) (disk_faults seen new)
+  pub did : StoresWalk job turns result (walker_tells seen old) (walker_tells seen new)
   pub tells : TellsXfr job.store result status (output seen old) (output seen new)
 
 -- the status where nothing came of the walk
@@ -60,7 +70,7 @@ IsVain turns came status = ⊥
 pub record WalksForNothing {S K D C A I T : Type 0} (seen : Seeing S K D C A I T) (job : Job) (turns : ℕ)
     (status : Status) (old new : Office S K D C A I T) : Type 0 where
   pub came : Came
-  pub did : WalksInVain job turns came (box seen old) (box seen new) (history seen old) (history seen new)
+  pub did : WalksInVain job turns came (walker_tells seen old) (walker_tells seen new)
   pub tells : IsVain turns came status
   pub stays : new ≡ record old { disks = new.disks; inbox = new.inbox }
 

@@ -11,14 +11,15 @@ ghost use Rattle.yp_rpc.specs.Turns.{InboxTells};
 ghost use Rattle.yp_rpc.specs.inside.Turns.{box_by};
 ghost use Rattle.yp_publisher.specs.inside.Begins.{BeginsLevel};
 ghost use Rattle.yp_transfer.specs.Fetching.{wanted_of};
-ghost use Rattle.yp_command.specs.office.Disks.{names_of, history_of, faults_of, only_history, total_faults};
+ghost use Rattle.yp_command.specs.office.Disks.{names_of};
 ghost use Rattle.yp_command.specs.office.Seeing.{seeing, IsPassedOn};
 ghost use Rattle.yp_command.specs.inside.office.Status.{IsTellable};
+ghost use Rattle.yp_command_maps.specs.Disks.{only_tells, named_tells};
 ghost use Rattle.yp_command_maps.specs.inside.Xfr.{xfr_job_view, catalogue_of, IsReady};
 ghost use Rattle.yp_command_maps.specs.declared.walk.walker.Came.TheVariants.{Failed as HasFailed};
 ghost use Rattle.yp_command_maps.specs.declared.walk.walk.WalkStop.TheVariants.{InboxFault as NoInbox};
 ghost use Rattle.yp_command_maps.specs.walk.Turns.{WalksTo};
-ghost use Rattle.yp_command_maps.specs.walk.Walk.{walk_may_end};
+ghost use Rattle.yp_command_maps.specs.walk.Walk.{walk_tells, walk_may_end};
 ghost use Rattle.yp_command_maps.specs.inside.walk.Walk.{Moved, is_unmailed, IsWalkEnd};
 ghost use Rattle.yp_command_maps.specs.walk.Walk.{WalkDoes};
 
@@ -75,9 +76,9 @@ fn store_came<D: Disk>(
         (wanted_of job.now.xfr.store.domain.items job.now.xfr.store.map.items
         (option_map (λ version. version.order) (shown 0 publisher.board.known)) job.now.xfr.force)
         job.now.turns came before after
-        → Moved (xfr_job_view job.now.xfr) job.now.turns result.0 before after
-        (only_history D.history disks) (only_history D.history result.1.items)
-        (total_faults D.faults disks) (total_faults D.faults result.1.items) × (length result.1.items ≡ 1) }
+        → Moved (xfr_job_view job.now.xfr) job.now.turns result.0
+        (walk_tells before (only_tells D.history D.faults disks))
+        (walk_tells after (only_tells D.history D.faults result.1.items)) × (length result.1.items ≡ 1) }
     ensures mailed { is_unmailed result.0 ≡ false }
     ensures failed { result.0 ≡ Err NoInbox → came ≡ HasFailed }
 {
@@ -107,9 +108,8 @@ fn walk_over<D: Disk, I: Inbox, R: RandomSource>(
     requires named { IsNamed (name_view job.now.xfr.store) }
     requires only { length only.disks.items ≡ 1 }
     ensures moves { Moved (xfr_job_view job.now.xfr) job.now.turns result.0
-        (box_by I.Inbox inbox.old) (box_by I.Inbox inbox.new)
-        (only_history D.history only.disks.items) (only_history D.history result.1.items)
-        (total_faults D.faults only.disks.items) (total_faults D.faults result.1.items) }
+        (walk_tells (box_by I.Inbox inbox.old) (only_tells D.history D.faults only.disks.items))
+        (walk_tells (box_by I.Inbox inbox.new) (only_tells D.history D.faults result.1.items)) }
     ensures unmailed { is_unmailed result.0 ≡ true → inbox.new ≡ inbox.old }
     ensures failed { result.0 ≡ Err NoInbox → HasRisen (I.faults inbox.old) (I.faults inbox.new) }
     ensures only { length result.1.items ≡ 1 }
@@ -141,9 +141,8 @@ fn walk_on<D: Disk, I: Inbox, R: RandomSource>(
     requires named { IsNamed (name_view job.now.xfr.store) }
     requires only { length disks.old.items ≡ 1 }
     ensures moves { Moved (xfr_job_view job.now.xfr) job.now.turns result
-        (box_by I.Inbox inbox.old) (box_by I.Inbox inbox.new)
-        (history_of D.history disks.old.items) (history_of D.history disks.new.items)
-        (faults_of D.faults disks.old.items) (faults_of D.faults disks.new.items) }
+        (walk_tells (box_by I.Inbox inbox.old) (named_tells D.history D.faults disks.old.items))
+        (walk_tells (box_by I.Inbox inbox.new) (named_tells D.history D.faults disks.new.items)) }
     ensures unmailed { is_unmailed result ≡ true → inbox.new ≡ inbox.old }
     ensures failed { result ≡ Err NoInbox → HasRisen (I.faults inbox.old) (I.faults inbox.new) }
     ensures names { names_of disks.new.items ≡ names_of disks.old.items }

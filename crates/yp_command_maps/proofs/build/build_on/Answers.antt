@@ -3,7 +3,7 @@ use Rattle.yp_command_maps.specs.inside.Build.{job_view}
 use Rattle.yp_command_maps.specs.declared.build.BuildStop.TheVariants.{NoMemory}
 use Rattle.yp_command_maps.proofs.Checking.{named_one}
 use Rattle.yp_command_maps.proofs.OnDisk.{same_disks, forgone}
-use Rattle.yp_command.specs.office.Disks.{history_of, faults_of}
+use Rattle.yp_command_maps.specs.Disks.{named_tells}
 use Rattle.yp_command_maps.proofs.build.build_on.Goals as goal
 
 pub returns-clause-builds : goal.returns-clause-builds
@@ -21,4 +21,4 @@ returns-in_err-names-clause-builds g c =
     let left : c.take_apart.new.named ≡ c.args.disks.now = c.in_err-names.ensures.err in
     let ended : c.from_residual-in_err-names.result ≡ Err NoMemory = search rules in
     rw ended (rw left (forgone (job_view c.args.job.now) c.args.text.items c.args.now
-    (history_of g.D.Disk.history c.args.disks.now.items) (faults_of g.D.Disk.faults c.args.disks.now.items)))
+    (named_tells g.D.Disk.history g.D.Disk.faults c.args.disks.now.items)))

@@ -1,5 +1,5 @@
 use Rattle.std.proofs.Common.{rules, subst, sym, Err}
-use Rattle.yp_command.specs.office.Disks.{only_history, total_faults}
+use Rattle.yp_command_maps.specs.Disks.{only_tells}
 use Rattle.yp_command_maps.specs.declared.build.BuildStop.{BuildStop}
 use Rattle.yp_command_maps.specs.inside.Build.{job_view, BuildsOn}
 use Rattle.yp_publisher.specs.Begins.{IsUnwritten}
@@ -15,7 +15,7 @@ returns-in-Err-clause-builds g c =
     let faults = g.D.Disk.faults in
     let old = c.args.only.disks.items in
     let new = c.in-Err.refused.disks.items in
-    subst (λ (why : BuildStop). BuildsOn (job_view c.args.job.now) c.args.text.items c.args.now (Err why) (only_history history old) (only_history history new) (total_faults faults old) (total_faults faults new))
+    subst (λ (why : BuildStop). BuildsOn (job_view c.args.job.now) c.args.text.items c.args.now (Err why) (only_tells history faults old) (only_tells history faults new))
     (sym c.into.ensures)
     (refused_only history faults (job_view c.args.job.now) c.args.text.items c.args.now c.requires.text c.in-Err.refused.fault old new c.requires.only c.in-Err.ensures.unwritten c.in-Err.ensures.refused)
 

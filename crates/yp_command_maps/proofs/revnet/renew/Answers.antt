@@ -11,7 +11,7 @@ use Rattle.yp_board.specs.Catalogues.{name_view}
 use Rattle.yp_command_maps.specs.inside.Build.{last_view}
 use Rattle.yp_command.specs.office.Disks.{IsOnlyRead}
 use Rattle.yp_command_maps.specs.Revnet.{OwnDiskFails}
-use Rattle.yp_command_maps.specs.inside.Revnet.{reverse_job}
+use Rattle.yp_command_maps.specs.inside.Revnet.{reverse_job, revnet_tells}
 use Rattle.yp_command_maps.proofs.Reversing.{renews_err, fails, built_is, risen_first, risen_second, risen_later, made_behind, unmade_behind}
 use Rattle.yp_command_maps.proofs.Reversing.{store_unloaded, netgroup_unloaded, none_stands, unmade, unstored, renewed}
 use Rattle.yp_command_maps.proofs.Reversing.{err_same, disk_fault_names, made_no_disk, stops_names}
@@ -82,7 +82,8 @@ returns-in_err-version-clause-renews g c =
     search (rules, c.in-Ok-Some.ensures.stands, c.in-Ok-Some.field-0-is, c.in-Ok-Some.groups-is) in
     let last : last_view c.as_ref.result ≡ c.in-Ok.last = search (rules, c.as_ref.ensures.value) in
     let status = c.in_err-version.field-0.0 in
-    renews_err job c.args.reversal.now.moment old mid netgroup netgroup' before after c.from_residual.result status c.from_residual.ensures.1
+    renews_err job c.args.reversal.now.moment (revnet_tells old netgroup before) (revnet_tells mid netgroup' after)
+    c.from_residual.result status c.from_residual.ensures.1
     (unmade job c.args.reversal.now.moment old netgroup before mid c.in-Ok.last c.in-Ok.ensures.stands c.in-Ok.ensures.any_moment netgroup' only
     groups stored status after
     (unmade_behind job c.args.reversal.now.moment (last_view c.as_ref.result) c.in-Ok.last groups.rows
@@ -114,7 +115,8 @@ returns-in_err-generation-clause-renews g c =
     let status = c.in_err-generation.field-0.0 in
     let is_made = made_behind job c.args.reversal.now.moment (last_view c.as_ref.result) c.in-Ok.last groups.rows
     version last c.in_ok-version.ensures.made in
-    renews_err job c.args.reversal.now.moment old new netgroup netgroup' (a + b) (a'' + b') c.from_residual-in_err-generation.result status
+    renews_err job c.args.reversal.now.moment (revnet_tells old netgroup (a + b)) (revnet_tells new netgroup' (a'' + b'))
+    c.from_residual-in_err-generation.result status
     c.from_residual-in_err-generation.ensures.1
     (unstored job c.args.reversal.now.moment old netgroup (a + b) mid c.in-Ok.last c.in-Ok.ensures.stands c.in-Ok.ensures.any_moment netgroup' only
     groups stored version is_made c.in-Ok.ensures.nothing_written c.load.new.self.generation c.in-Ok.ensures.generation new

@@ -2,11 +2,12 @@ use Rattle.std.proofs.Common.{◌≡◌, ◌∙◌, ℕ, List, refl, ap, subst, 
 use Rattle.std.specs.Prelude.{IfErr}
 use Rattle.yp_board.specs.declared.catalog.MapName.{MapName}
 use Rattle.yp_board.specs.Catalogues.{Name, name_view}
-use Rattle.yp_command.specs.office.Disks.{faults_of, faults_at}
+use Rattle.yp_command.specs.office.Disks.{faults_at}
 use Rattle.yp_command.specs.office.Seeing.{seeing}
 use Rattle.yp_command.specs.declared.office.status.Status.TheVariants.{DiskFault}
 use Rattle.yp_netgroup.specs.declared.reverse.field.Field.{Field}
-use Rattle.yp_command_maps.specs.Revnet.{Job, job_of, field_of, store_history, netgroup_history, OwnDiskFails}
+use Rattle.yp_command_maps.specs.Revnet.{Job, job_of, field_of, OwnDiskFails}
+use Rattle.yp_command_maps.specs.inside.Revnet.{two_tell}
 use Rattle.yp_command_maps.proofs.Reversing.{renews_as}
 use Rattle.yp_command_maps.proofs.Reversed.{revnet_does}
 use Rattle.yp_command_maps.proofs.revnet.reverse_map.Goals as goal
@@ -28,8 +29,8 @@ returns-clause-does g c =
       clock = c.now-now.ensures.told;
       renews = renews_as (job_with c.deref-2.result.now (name_view c.in-Ok-Ok.told) c.field_of-field.result)
           (job_of c.args.name.items (name_view c.args.store))
-          c.now-now.result c.renew_named-built.result (store_history seen old) (store_history seen new) (netgroup_history seen old)
-          (netgroup_history seen new) (faults_of seen.disk.faults old.disks.items) (faults_of seen.disk.faults new.disks.items)
+          c.now-now.result c.renew_named-built.result (two_tell seen.disk.history seen.disk.faults old.disks.items)
+          (two_tell seen.disk.history seen.disk.faults new.disks.items)
           (ap (λ (own : List ℕ). job_with own (name_view c.in-Ok-Ok.told) c.field_of-field.result) c.deref-2.ensures.value
           ∙ ap (λ (field : Field). job_with c.args.name.items (name_view c.in-Ok-Ok.told) field)
           (c.field_of-field.ensures ∙ ap field_of c.deref.ensures.value)

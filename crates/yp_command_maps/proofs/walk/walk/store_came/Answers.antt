@@ -4,10 +4,11 @@ use Rattle.yp_board.specs.Logs.{shown}
 use Rattle.yp_publisher.specs.declared.install.Installed.{Installed}
 use Rattle.yp_transfer.specs.declared.fault.XfrFault.{XfrFault}
 use Rattle.yp_transfer.specs.Fetching.{wanted_of}
-use Rattle.yp_command.specs.office.Disks.{only_history, total_faults}
+use Rattle.yp_command_maps.specs.Disks.{only_tells}
 use Rattle.yp_command_maps.specs.inside.Xfr.{xfr_job_view, StoresFetched}
 use Rattle.yp_command_maps.specs.declared.walk.walker.Came.{Came}
 use Rattle.yp_command_maps.specs.walk.Turns.{WalksTo}
+use Rattle.yp_command_maps.specs.walk.Walk.{walk_tells}
 use Rattle.yp_command_maps.proofs.walk.Moving.{moved_ok, moved_fault, moved_spent, moved_failed}
 use Rattle.yp_command_maps.proofs.walk.walk.store_came.Goals as goal
 
@@ -17,14 +18,12 @@ returns-in-Ok-clause-moves g c = λ disks before after one begins walks.
     let turns = c.args.job.now.turns in
     let shows = shown 0 c.args.publisher.board.known in
     let wanted = wanted_of job.store.0 job.store.1 (option_map (λ version. version.order) shows) job.force in
-    let h = only_history g.D.Disk.history disks in
-    let h' = only_history g.D.Disk.history c.store_fetched-done.result.1.items in
-    let f = total_faults g.D.Disk.faults disks in
-    let f' = total_faults g.D.Disk.faults c.store_fetched-done.result.1.items in
+    let old = only_tells g.D.Disk.history g.D.Disk.faults disks in
+    let new = only_tells g.D.Disk.history g.D.Disk.faults c.store_fetched-done.result.1.items in
     let stored = c.store_fetched-done.ensures disks one begins in (
-      moved_ok job turns before after shows h h' f f' c.in-Outcome.outcome c.in-Ok.installed
+      moved_ok job turns (walk_tells before old) (walk_tells after new) shows c.in-Outcome.outcome c.in-Ok.installed
           (subst (λ (it : Came). WalksTo job.host.1 wanted turns it before after) c.in-Outcome.is walks)
-          (subst (λ (r : Result Installed XfrFault). StoresFetched job shows c.in-Outcome.outcome r h h' f f')
+          (subst (λ (r : Result Installed XfrFault). StoresFetched job shows c.in-Outcome.outcome r old new)
           c.in-Ok.is stored.0),
       stored.1,
     )
@@ -35,14 +34,12 @@ returns-in-Err-clause-moves g c = λ disks before after one begins walks.
     let turns = c.args.job.now.turns in
     let shows = shown 0 c.args.publisher.board.known in
     let wanted = wanted_of job.store.0 job.store.1 (option_map (λ version. version.order) shows) job.force in
-    let h = only_history g.D.Disk.history disks in
-    let h' = only_history g.D.Disk.history c.store_fetched-done.result.1.items in
-    let f = total_faults g.D.Disk.faults disks in
-    let f' = total_faults g.D.Disk.faults c.store_fetched-done.result.1.items in
+    let old = only_tells g.D.Disk.history g.D.Disk.faults disks in
+    let new = only_tells g.D.Disk.history g.D.Disk.faults c.store_fetched-done.result.1.items in
     let stored = c.store_fetched-done.ensures disks one begins in (
-      moved_fault job turns before after shows h h' f f' c.in-Outcome.outcome c.in-Err.fault
+      moved_fault job turns (walk_tells before old) (walk_tells after new) shows c.in-Outcome.outcome c.in-Err.fault
           (subst (λ (it : Came). WalksTo job.host.1 wanted turns it before after) c.in-Outcome.is walks)
-          (subst (λ (r : Result Installed XfrFault). StoresFetched job shows c.in-Outcome.outcome r h h' f f')
+          (subst (λ (r : Result Installed XfrFault). StoresFetched job shows c.in-Outcome.outcome r old new)
           c.in-Err.is stored.0),
       stored.1,
     )
@@ -54,9 +51,8 @@ returns-in-Spent-clause-moves g c = λ disks before after one begins walks.
     let shows = shown 0 c.args.publisher.board.known in
     let wanted = wanted_of job.store.0 job.store.1 (option_map (λ version. version.order) shows) job.force in
     let kept = c.hand_back.ensures job disks one begins in (
-      moved_spent job turns before after shows (only_history g.D.Disk.history disks)
-          (only_history g.D.Disk.history c.hand_back.result.items) (total_faults g.D.Disk.faults disks)
-          (total_faults g.D.Disk.faults c.hand_back.result.items)
+      moved_spent job turns (walk_tells before (only_tells g.D.Disk.history g.D.Disk.faults disks))
+          (walk_tells after (only_tells g.D.Disk.history g.D.Disk.faults c.hand_back.result.items)) shows
           (subst (λ (it : Came). WalksTo job.host.1 wanted turns it before after) c.in-Spent.is walks) kept.0,
       kept.1,
     )
@@ -68,9 +64,8 @@ returns-in-Failed-clause-moves g c = λ disks before after one begins walks.
     let shows = shown 0 c.args.publisher.board.known in
     let wanted = wanted_of job.store.0 job.store.1 (option_map (λ version. version.order) shows) job.force in
     let kept = c.hand_back-in-Failed.ensures job disks one begins in (
-      moved_failed job turns before after shows (only_history g.D.Disk.history disks)
-          (only_history g.D.Disk.history c.hand_back-in-Failed.result.items) (total_faults g.D.Disk.faults disks)
-          (total_faults g.D.Disk.faults c.hand_back-in-Failed.result.items)
+      moved_failed job turns (walk_tells before (only_tells g.D.Disk.history g.D.Disk.faults disks))
+          (walk_tells after (only_tells g.D.Disk.history g.D.Disk.faults c.hand_back-in-Failed.result.items)) shows
           (subst (λ (it : Came). WalksTo job.host.1 wanted turns it before after) c.in-Failed.is walks) kept.0,
       kept.1,
     )
