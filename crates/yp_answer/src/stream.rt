@@ -8,7 +8,7 @@ ghost use Rattle.yp_answer.specs.Numbers.{record_max};
 ghost use Rattle.yp_answer.specs.Maps.{maps_of};
 ghost use Rattle.yp_rpc.specs.Records.{joined};
 ghost use Rattle.yp_answer.specs.inside.Streams.{GivesParts, item_parts, parts, parts_left, source_of, between};
-ghost use Rattle.yp_answer.specs.inside.Streams.{PutsParts, row_parts, rows_in};
+ghost use Rattle.yp_answer.specs.inside.Streams.{filled_buffer, PutsParts, row_parts, rows_in};
 ghost use Rattle.yp_answer.specs.inside.Streams.{held_by, held_of, held_parts, piece_max};
 ghost use Rattle.yp_answer.specs.declared.stream.TheConstants.{ITEM_MAX};
 ghost use Rattle.yp_answer.specs.inside.Answers.{StreamIsInside};
@@ -98,7 +98,8 @@ fn set_row(buf: &mut [u8], at: usize, key: &[u8], val: &[u8]) -> usize
 fn put_rows(rows: &SpelledRows<'_>, buf: &mut [u8], at: usize, first: usize) -> (usize, usize)
     requires place { at ≤ length buf.old }
     requires count { length rows.now ≤ rows_max }
-    ensures puts { PutsParts (row_parts rows.now) first result.1 at result.0 buf.old buf.new }
+    ensures puts { PutsParts (row_parts rows.now) (filled_buffer first at buf.old)
+        (filled_buffer result.1 result.0 buf.new) }
     ensures few { first < result.1 → result.1 ≤ rows_max }
     ensures some { first < length rows.now → at + ITEM_MAX ≤ length buf.old → at < result.0 }
 {
@@ -118,7 +119,8 @@ fn put_rows(rows: &SpelledRows<'_>, buf: &mut [u8], at: usize, first: usize) -> 
 /// behind them and the number of the next item.
 fn put_all_rows(items: &Items<'_>, buf: &mut [u8], at: usize, first: usize) -> (usize, usize)
     requires { at ≤ length buf.old }
-    ensures puts { PutsParts (item_parts (items_view items.now)) first result.1 at result.0 buf.old buf.new }
+    ensures puts { PutsParts (item_parts (items_view items.now)) (filled_buffer first at buf.old)
+        (filled_buffer result.1 result.0 buf.new) }
     ensures few { first < result.1 → result.1 ≤ rows_max }
     ensures some { first < rows_in (items_view items.now) → at + ITEM_MAX ≤ length buf.old → at < result.0 }
 {

@@ -20,7 +20,7 @@ use Rattle.yp_client.specs.All.{AllSaid, ItemRead, all_item_at, by_refusal, by_i
 use Rattle.yp_client.specs.inside.All.{Grows}
 use Rattle.yp_client.specs.inside.Windows.{waiting, ahead, RecordProgress, progress, GivesMore, IsUnderway, MayCome}
 use Rattle.yp_client.specs.inside.Windows.{StaysWhole}
-use Rattle.yp_client.specs.inside.Windows.{TakesMore, IsRowRefusal, Advances, PushesRows}
+use Rattle.yp_client.specs.inside.Windows.{TakesMore, IsRowRefusal, filling, Advances, answered, PushesRows}
 use Rattle.yp_client.proofs.Waiting.{gives_nothing, gives_then, underway_within, underway_more, underway_same}
 
 -- ---- builders
@@ -196,7 +196,7 @@ so_far_read before after old mid new buf buf' buf'' was now now' more so_far giv
 pub so_far_pushed : (before mid after : Draft) (old half new : AllReply) (buf buf' : List ℕ) (was now : RecordProgress)
     → PushedSoFar before mid old half buf buf' was now
     → ((more : List ℕ) (n : ℕ) → MayCome more now.whole
-    → Advances mid after half.rows new.rows (Ok true) n (ahead half buf' more) (ahead new buf' more))
+    → Advances (filling mid half buf' more) (filling after new buf' more) (Ok true) n)
     → half.at < new.at → new.at + length (waiting new buf') ≡ half.at + length (waiting half buf')
     → PushedSoFar before after old new buf buf' was now
 so_far_pushed before mid after old half new buf buf' was now so_far advances forward total = record {
@@ -218,19 +218,17 @@ so_far_pushed before mid after old half new buf buf' was now so_far advances for
 -- the end of the rows, or a refusal
 pub so_far_ended : (before mid after : Draft) (old half new : AllReply) (buf buf' : List ℕ) (was now : RecordProgress)
     (end : Result (Unit {0}) ClientFault) → PushedSoFar before mid old half buf buf' was now
-    → now.whole ≡ new.whole →
-    ((more : List ℕ) (n : ℕ) → MayCome more now.whole
+    → ((more : List ℕ) (n : ℕ) → MayCome more now.whole
     → IsSaid (filled (n + 1) mid half.rows (ahead half buf' more)) after new.rows end)
-    → PushesRows before after old new buf was now end
-so_far_ended before mid after old half new buf buf' was now end so_far same ends = record {
+    → PushesRows before old buf was now (answered after new end)
+so_far_ended before mid after old half new buf buf' was now end so_far ends = record {
   more = so_far.more;
   stays = so_far.stays;
   given = so_far.given;
   said = λ rest n may enough.
-      let may' : now.whole ≡ true → rest ≡ [] = λ whole. may (sym same ∙ whole) in
-      let h = so_far.said rest n may' enough in
+      let h = so_far.said rest n may enough in
       let f = filled_more h.0 mid half.rows (ahead half buf' rest) h.1 in
-      subst (λ (said : AllSaid). IsSaid said after new.rows end) (sym (h.2 ∙ f.1)) (ends rest f.0 may');
+      subst (λ (said : AllSaid). IsSaid said after new.rows end) (sym (h.2 ∙ f.1)) (ends rest f.0 may);
 }
 
 -- ---- one turn of the loop
@@ -258,7 +256,7 @@ pub ready_next : (before mid after : Draft) (old half new : AllReply) (buf buf' 
     (input : Option (List ℕ)) (reader : ReaderState)
     → Ready before mid old half buf buf' was (progress input reader half.whole)
     → ((more : List ℕ) (n : ℕ) → MayCome more half.whole
-    → Advances mid after half.rows new.rows (Ok true) n (ahead half buf' more) (ahead new buf' more))
+    → Advances (filling mid half buf' more) (filling after new buf' more) (Ok true) n)
     → half.at < new.at → new.at + length (waiting new buf') ≡ half.at + length (waiting half buf')
     → new ≡ record half { start = new.start; at = new.at; rows = new.rows }
     → Ready before after old new buf buf' was (progress input reader new.whole)
@@ -277,12 +275,12 @@ pub ready_ended : (before mid after : Draft) (old half new : AllReply) (buf buf'
     → ((more : List ℕ) (n : ℕ) → MayCome more half.whole
     → IsSaid (filled (n + 1) mid half.rows (ahead half buf' more)) after new.rows end)
     → new ≡ record half { start = new.start; at = new.at; rows = new.rows }
-    → PushesRows before after old new buf was (progress input reader new.whole) end
+    → PushesRows before old buf was (progress input reader new.whole) (answered after new end)
 ready_ended before mid after old half new buf buf' was input reader end h ends same =
     let whole : new.whole ≡ half.whole = ap (λ (r : AllReply). r.whole) same in
-    subst (λ (whole : Bool). PushesRows before after old new buf was (progress input reader whole) end) (sym whole)
-    (so_far_ended before mid after old half new buf buf' was (progress input reader half.whole) end h.so_far
-    (sym whole) ends)
+    subst (λ (whole : Bool). PushesRows before old buf was (progress input reader whole) (answered after new end))
+    (sym whole) (so_far_ended before mid after old half new buf buf' was (progress input reader half.whole) end h.so_far
+    ends)
 
 pub ready_underway : (before mid : Draft) (old half new : AllReply) (buf buf' : List ℕ) (was : RecordProgress)
     (input : Option (List ℕ)) (reader : ReaderState)

@@ -8,7 +8,7 @@ use Rattle.yp_client.specs.declared.all.AllReply.{AllReply}
 use Rattle.yp_client.specs.Results.{results_of}
 use Rattle.yp_client.specs.All.{AllSaid, filled, filled_by, all_said, IsSaid}
 use Rattle.yp_client.specs.inside.Windows.{waiting, ahead, RecordProgress, progress, HasReadUpTo, IsUnderway, MayCome}
-use Rattle.yp_client.specs.inside.Windows.{TakesMore, PushesRows, SaysSoFar}
+use Rattle.yp_client.specs.inside.Windows.{TakesMore, answered, PushesRows, SaysSoFar}
 use Rattle.yp_client.proofs.Waiting.{begun_here}
 use Rattle.yp_client.proofs.Filling.{said_err}
 
@@ -78,7 +78,7 @@ pub head_says : (draft : Draft) (xid : ℕ) (mid head : AllReply) (buf : List �
     → Opened mid buf start place (progress input reader mid.whole)
     → ((more : List ℕ) → MayCome more mid.whole → results_of xid (waiting mid buf ++ more) ≡ Err fault)
     → head ≡ record mid { start = head.start; at = head.at }
-    → SaysSoFar draft draft head.rows xid (Err fault) start place (progress input reader head.whole)
+    → SaysSoFar draft xid (answered draft head (Err fault)) start place (progress input reader head.whole)
 unfolding all_said
 head_says draft xid mid head buf start place input reader fault h says same = record {
   front = waiting mid buf;
@@ -96,10 +96,10 @@ pub rows_say : (before after : Draft) (xid : ℕ) (mid head new : AllReply) (buf
     → ((more : List ℕ) → MayCome more mid.whole
     → results_of xid (waiting mid buf ++ more) ≡ Ok (ahead head buf more))
     → head ≡ record mid { start = head.start; at = head.at }
-    → now.whole ≡ new.whole → PushesRows before after head new buf (progress input reader head.whole) now end
-    → SaysSoFar before after new.rows xid end start place now
+    → PushesRows before head buf (progress input reader head.whole) now (answered after new end)
+    → SaysSoFar before xid (answered after new end) start place now
 unfolding all_said
-rows_say before after xid mid head new buf start place input reader now end h says same ended pushes = record {
+rows_say before after xid mid head new buf start place input reader now end h says same pushes = record {
   front = waiting mid buf ++ pushes.more;
   reached = pushes.given (waiting mid buf) start place (opened_reached mid head buf start place input reader h same);
   said = λ rest may.
@@ -108,7 +108,7 @@ rows_say before after xid mid head new buf start place input reader now end h sa
       pushes.stays (ap (λ (r : AllReply). r.whole) same ∙ whole) in ap (λ (xs : List ℕ). xs ++ rest) s.0 ∙ may s.1 in
       let behind : results_of xid (waiting mid buf ++ pushes.more ++ rest) ≡ Ok (ahead head buf more) =
       ap (results_of xid) (append_assoc (waiting mid buf) pushes.more rest) ∙ says more none in
-      let said = pushes.said rest (length (waiting head buf ++ more)) (λ whole. may (ended ∙ whole)) (omega arith) in
+      let said = pushes.said rest (length (waiting head buf ++ more)) may (omega arith) in
       let at : filled_by before (results_of xid (waiting mid buf ++ pushes.more ++ rest))
       ≡ filled (length (waiting head buf ++ more)) before head.rows (ahead head buf more) =
       ap (filled_by before) behind

@@ -12,7 +12,7 @@ use Rattle.std.proofs.Math.Seq.{take-append-add}
 use borrow.Rule.Slice.PartMut.{put_mid, post_of}
 use Rattle.yp_rpc.specs.declared.record.RecordFault.{RecordFault}
 use Rattle.yp_rpc.specs.declared.record.RecordFault.TheVariants.{Torn, TooLong, ReadFault}
-use Rattle.yp_rpc.specs.Records.{joined}
+use Rattle.yp_rpc.specs.Records.{joined, record_start}
 use Rattle.yp_rpc.specs.Pieces.{ReaderState, not_begun}
 use Rattle.yp_rpc.specs.inside.Pieces.{HasGiven, GivesPiece, HasNoPiece}
 use Rattle.yp_client.specs.declared.all.AllReply.{AllReply}
@@ -77,7 +77,8 @@ gives_then more others was mid now one other = λ front start place h.
 -- by one piece, which is empty at the record's end
 gives_by : (front piece : List ℕ) (start input : Option (List ℕ)) (old new : ReaderState) (count : ℕ) (b : Bool)
     (place : ℕ) → (count == 0) ≡ b → length piece ≡ count → old.place ≡ place
-    → GivesPiece all_max front piece start input old new → HasRead (front ++ piece) start place input new b
+    → GivesPiece (record_start all_max old.place start) front piece input new
+    → HasRead (front ++ piece) start place input new b
 gives_by front piece start input old new count true place e len at g =
     let zero : count ≡ 0 = elim
     (eqb_tells count 0) [ inl w ↦ w.1 | inr w ↦ absurd (let c : true ≡ false = sym e ∙ w.0 in cc) ] in
@@ -96,7 +97,7 @@ gives_by front piece start input old new count false place e len at g =
 pub gives_piece : (piece : List ℕ) (input input' : Option (List ℕ)) (old new : ReaderState) (count : ℕ)
     → length piece ≡ count
     → ((front : List ℕ) (start : Option (List ℕ)) → HasGiven all_max front start input old.part
-    → GivesPiece all_max front piece start input' old new)
+    → GivesPiece (record_start all_max old.place start) front piece input' new)
     → GivesMore piece (progress input old false) (progress input' new (count == 0))
 gives_piece piece input input' old new count len given =
     λ front start place h. gives_by front piece start input' old new count (count == 0) place refl len h.1
@@ -158,7 +159,8 @@ begun_here input reader new = (inl (new, refl, Consumes-nil input), refl)
 -- ---- why it gives no more
 
 pub no_piece_earlier : (place before mid now : ℕ) (start new : Option (List ℕ)) (fault : RecordFault) → before ≤ mid
-    → HasNoPiece all_max place start new mid now fault → HasNoPiece all_max place start new before now fault
+    → HasNoPiece (record_start all_max place start) new mid now fault
+    → HasNoPiece (record_start all_max place start) new before now fault
 no_piece_earlier place before mid now start new (Torn at) rose cause = cause
 no_piece_earlier place before mid now start new (TooLong at) rose cause = cause
 no_piece_earlier place before mid now start new ReadFault rose (inl cause) =
@@ -167,26 +169,27 @@ no_piece_earlier place before mid now start new ReadFault rose (inr cause) = inr
 
 -- the same of an error
 pub err_earlier : {T : Type 0} (place before mid now : ℕ) (start new : Option (List ℕ))
-    (result : Result T RecordFault) → before ≤ mid → IfErr result (HasNoPiece all_max place start new mid now)
-    → IfErr result (HasNoPiece all_max place start new before now)
+    (result : Result T RecordFault) → before ≤ mid
+    → IfErr result (HasNoPiece (record_start all_max place start) new mid now)
+    → IfErr result (HasNoPiece (record_start all_max place start) new before now)
 err_earlier place before mid now start new (Ok x) rose cause = tt
 err_earlier place before mid now start new (Err fault) rose cause =
     no_piece_earlier place before mid now start new fault rose cause
 
 no_piece_at : (place place' before mid now : ℕ) (start new : Option (List ℕ)) (fault : RecordFault) → place ≡ place'
-    → before ≤ mid → HasNoPiece all_max place start new mid now fault
-    → HasNoPiece all_max place' start new before now fault
+    → before ≤ mid → HasNoPiece (record_start all_max place start) new mid now fault
+    → HasNoPiece (record_start all_max place' start) new before now fault
 no_piece_at place place' before mid now start new fault same rose cause =
     no_piece_earlier place' before mid now start new fault rose
-    (subst (λ (p : ℕ). HasNoPiece all_max p start new mid now fault) same cause)
+    (subst (λ (p : ℕ). HasNoPiece (record_start all_max p start) new mid now fault) same cause)
 
 -- a piece that doesn't come, of a record that isn't at its end
 pub no_piece : (front : List ℕ) (start : Option (List ℕ)) (place before mid now : ℕ) (input new : Option (List ℕ))
     (old : ReaderState) (whole : Bool) (fault : RecordFault) → whole ≡ false → before ≤ mid
     → HasReadUpTo front start place (progress input old whole)
     → ((front : List ℕ) (start : Option (List ℕ)) → HasGiven all_max front start input old.part
-    → HasNoPiece all_max old.place start new mid now fault)
-    → HasNoPiece all_max place start new before now fault
+    → HasNoPiece (record_start all_max old.place start) new mid now fault)
+    → HasNoPiece (record_start all_max place start) new before now fault
 no_piece front start place before mid now input new old true fault going rose reached cause = absurd cc
 no_piece front start place before mid now input new old false fault going rose reached cause =
     no_piece_at old.place place before mid now start new fault reached.1 rose (cause front start reached.0)
@@ -230,7 +233,7 @@ pub reads_more : (old mid new : AllReply) (k count : ℕ) (buf buf' room : List 
     (input input' : Option (List ℕ)) (reader reader' : ReaderState)
     → ReadsOn old mid buf buf' was (progress input reader mid.whole) → mid.whole ≡ false → count ≤ length room
     → ((front : List ℕ) (start : Option (List ℕ)) → HasGiven all_max front start input reader.part
-    → GivesPiece all_max front (take count room) start input' reader reader')
+    → GivesPiece (record_start all_max reader.place start) front (take count room) input' reader')
     → new ≡ record mid { end = mid.end + count; whole = (count == 0) }
     → ReadsOn old new buf (put_mid mid.end k buf' room) was (progress input' reader' new.whole)
 reads_more old mid new k count buf buf' room was input input' reader reader' so_far going few piece is =
@@ -269,7 +272,7 @@ pub skips_more : (was : RecordProgress) (at count : ℕ) (room : List ℕ) (inpu
     (reader reader' : ReaderState) (whole : Bool)
     → Skips was (progress input reader whole) at → whole ≡ false → count ≤ length room
     → ((front : List ℕ) (start : Option (List ℕ)) → HasGiven all_max front start input reader.part
-    → GivesPiece all_max front (take count room) start input' reader reader')
+    → GivesPiece (record_start all_max reader.place start) front (take count room) input' reader')
     → Skips was (progress input' reader' (count == 0)) (at + count)
 skips_more was at count room input input' reader reader' true so_far going few piece = absurd cc
 skips_more was at count room input input' reader reader' false so_far going few piece =

@@ -7,7 +7,7 @@ use Rattle.yp_io.specs.Counts.{HasRisen}
 use Rattle.yp_io.specs.Dials.{WireState, wire_state}
 use Rattle.yp_rpc.specs.declared.record.RecordFault.{RecordFault}
 use Rattle.yp_rpc.specs.declared.record.RecordFault.TheVariants as record_faults
-use Rattle.yp_rpc.specs.Records.{sent, IsEmpty, TakesRecord, HasCause}
+use Rattle.yp_rpc.specs.Records.{sent, IsEmpty, TakesRecord, record_start, HasCause}
 use Rattle.yp_client.specs.declared.fault.ClientFault.{ClientFault}
 use Rattle.yp_client.specs.declared.fault.ClientFault.TheVariants.{Yp, Denied, Torn, TooLong, ReadFault, WriteFault}
 use Rattle.yp_client.specs.declared.fault.ClientFault.TheVariants.{Spent}
@@ -38,7 +38,7 @@ pub record HearsReply {X : Type 0} (limit : ℕ) (answers : List ℕ → Result 
 -- the cause of a fault of a record
 abbrev pub RecordHasCause : ℕ → RecordFault → ClientState → ClientState → Type 0
 RecordHasCause limit fault old new =
-    HasCause limit old.place old.wire.input new.wire.input old.reads new.reads fault
+    HasCause (record_start limit old.place old.wire.input) new.wire.input old.reads new.reads fault
 
 -- Why there is no reply: a fault of the wire, or what was left of the input.
 abbrev pub NoReply : ℕ → ClientFault → ClientState → ClientState → Type 0

@@ -102,7 +102,7 @@ impl AllReply {
     ghost use Rattle.std.specs.Prelude.{slice_range};
     ghost use Rattle.yp_client.specs.inside.Windows.{waiting, ahead, progress, GivesMore, IsUnderway, MayCome};
     ghost use Rattle.yp_client.specs.inside.Windows.{StandsIn, HasItem, TakesMore, IsCutOff};
-    ghost use Rattle.yp_client.specs.inside.Windows.{Heads, Advances, PushesRows, SaysSoFar};
+    ghost use Rattle.yp_client.specs.inside.Windows.{Heads, filling, Advances, answered, PushesRows, SaysSoFar};
 
     /// The reply to the call with this number, of which nothing was read.
     pub fn new(xid: u32) -> AllReply
@@ -245,8 +245,7 @@ impl AllReply {
         requires count { self.old.at + length (waiting self.old buf.now) ≤ all_max }
         requires few { self.old.rows ≤ self.old.at }
         ensures advances { (more : List ℕ) (n : ℕ) → MayCome more self.old.whole
-            → Advances into.old into.new self.old.rows self.new.rows result n (ahead self.old buf.now more)
-            (ahead self.new buf.now more) }
+            → Advances (filling into.old self.old buf.now more) (filling into.new self.new buf.now more) result n }
         ensures kept { Grows into.old into.new }
         ensures of_reply { IsOfReply result }
         ensures forward { OnOk result (self.old.at < self.new.at) }
@@ -277,10 +276,9 @@ impl AllReply {
         requires underway { IsUnderway (self.old.at + length (waiting self.old buf.old))
             (progress (S.input source.old) reader.old self.old.whole) }
         requires few { self.old.rows ≤ self.old.at }
-        ensures pushes { IfOk result
-            (PushesRows into.old into.new self.old self.new buf.old
+        ensures pushes { IfOk result (λ end. PushesRows into.old self.old buf.old
             (progress (S.input source.old) reader.old self.old.whole)
-            (progress (S.input source.new) reader.new self.new.whole)) }
+            (progress (S.input source.new) reader.new self.new.whole) (answered into.new self.new end)) }
         ensures kept { Grows into.old into.new }
         ensures of_reply { IfOk result IsOfReply }
         ensures underway { OnOk result
@@ -313,16 +311,16 @@ impl AllReply {
         requires room { length buf.old ≡ reply_max }
         requires between { reader.old.part ≡ not_begun }
         ensures says { IfOk result
-            (λ end. SaysSoFar into.old into.new self.new.rows self.old.xid end (S.input source.old) reader.old.place
-            (progress (S.input source.new) reader.new self.new.whole)) }
+            (λ end. SaysSoFar into.old self.old.xid (answered into.new self.new end) (S.input source.old)
+            reader.old.place (progress (S.input source.new) reader.new self.new.whole)) }
         ensures kept { Grows into.old into.new }
         ensures of_reply { IfOk result IsOfReply }
         ensures underway { OnOk result
             (IsUnderway (self.new.at + length (waiting self.new buf.new))
             (progress (S.input source.new) reader.new self.new.whole)) }
         ensures cause { IfErr result
-            (HasNoPiece all_max reader.old.place (S.input source.old) (S.input source.new) (S.faults source.old)
-            (S.faults source.new)) }
+            (HasNoPiece (record_start all_max reader.old.place (S.input source.old)) (S.input source.new)
+            (S.faults source.old) (S.faults source.new)) }
         ensures stands { StandsIn self.new buf.new }
         ensures counted { S.faults source.old ≤ S.faults source.new }
     {
@@ -379,8 +377,8 @@ impl AllReply {
         ensures of_reply { IfOk result IsOfReply }
         ensures between { OnOk result (reader.new.part ≡ not_begun) }
         ensures cause { IfErr result
-            (HasNoPiece all_max reader.old.place (S.input source.old) (S.input source.new) (S.faults source.old)
-            (S.faults source.new)) }
+            (HasNoPiece (record_start all_max reader.old.place (S.input source.old)) (S.input source.new)
+            (S.faults source.old) (S.faults source.new)) }
         ensures counted { S.faults source.old ≤ S.faults source.new }
     {
         let said = self.read_rows(source, reader, buf, into)?;

@@ -10,9 +10,8 @@ use std::random::RandomSource;
 use std::sync::Wait;
 use yp_board::Catalog;
 use yp_board::readers::{Naming, Opened, Reader};
-use yp_for_server_tests::{Closed, Map, Maps, Visit};
+use yp_for_server_tests::Maps;
 pub use yp_for_tests::NEVER;
-use yp_memory::MemHall;
 
 /// The bytes of a text of hexadecimal words and of names, each told by a line.
 pub fn named<R: Abort>(rt: &R, alloc: Global, names: &str, text: &str) -> Vec<u8> {
@@ -29,26 +28,6 @@ pub fn assert_fits(rt: &impl Abort, count: usize, catalog: &Catalog)
     ensures { count ≡ length catalog.now.maps }
 {
     assert!(rt; count == catalog.len() as usize);
-}
-
-/// A catalogue of these maps.
-pub fn catalog_of(rt: &impl Abort, alloc: Global, own: &[u8], maps: &[Map]) -> Catalog {
-    yp_for_server_tests::catalog_of(alloc, own, maps).expect(rt, "a catalogue")
-}
-
-/// A hall, where what callers send is spelled by these names of words.
-pub fn hall(rt: &impl Abort, alloc: Global, names: &str, visit: &Visit<'_>) -> MemHall {
-    yp_for_server_tests::hall(alloc, names, visit).expect(rt, "a hall")
-}
-
-/// What the connections that were closed had taken, by the worker that closed them, and of each in their order.
-pub fn closed(rt: &impl Abort, alloc: Global, listen: &MemHall) -> Vec<Closed> {
-    yp_for_server_tests::closed(alloc, listen).expect(rt, "memory for bytes")
-}
-
-/// What the connections that were closed had taken, in the order in which they came.
-pub fn taken(rt: &impl Abort, alloc: Global, listen: &MemHall) -> Vec<u8> {
-    yp_for_server_tests::taken(alloc, listen).expect(rt, "memory for bytes")
 }
 
 /// A publisher of hosts.byname of `lab` with this file, on a host of this name, and so many readers of its board, at

@@ -1,5 +1,4 @@
-//! Tests of `yp_worker`, `yp_worker::datagrams`, `yp_host` and `yp_host::workers`: connections and datagrams that are
-//! served, by one worker and by two; and maps that are made anew and fetched, by one connection and by two workers.
+//! Tests of `yp_host` and `yp_host::workers`: maps that are made anew and fetched, by one connection and by two workers.
 #![tactic(auto)]
 
 #[cfg(test)]
@@ -12,7 +11,5 @@ mod host;
 mod sample;
 #[cfg(test)]
 mod transfer;
-#[cfg(test)]
-mod worker;
 #[cfg(test)]
 mod workhost;

@@ -14,14 +14,14 @@ use Rattle.yp_rpc.specs.declared.record.RecordFault.TheVariants.{Torn, TooLong, 
 use Rattle.yp_rpc.proofs.Stream.{take-behind, ReadsBehind, read_behind, length-room, length-read_behind}
 use Rattle.yp_rpc.proofs.CutPieces.{blank, blank_is, empties-cons, empties-append, length-joined, length-joined_push}
 use Rattle.yp_rpc.specs.Records.{empty_max, IsShort, head, fragment, begun, joined, empties, AreWithin, IsPart}
-use Rattle.yp_rpc.specs.Records.{IsUnfinished, IsEmpty, TakesRecord, HasCause}
-use Rattle.yp_rpc.specs.inside.Records.{HasNoFragment}
+use Rattle.yp_rpc.specs.Records.{IsUnfinished, IsEmpty, TakesRecord, record_start, HasCause}
+use Rattle.yp_rpc.specs.inside.Records.{begun_record, HasNoFragment}
 
 -- input ended behind the head of a fragment
 pub torn_body : (last : Bool) (len n room empty place : ℕ) (body : List ℕ) (old mid new : Option (List ℕ))
     → len < 2 ^ 31 → len ≤ room → n < len → n ≤ length body
     → Consumes old mid (head last len) → Consumes mid new (take n body) → IsAtEnd new
-    → HasNoFragment room empty place old new 0 0 (Torn place)
+    → HasNoFragment (begun_record room empty place) old new 0 0 (Torn place)
 torn_body last len n room empty place body old mid new short fits fewer within first second end =
     let size : length (take n body) ≡ n = length-take-le n body within in
     let some : 0 < length (head last len ++ take n body) =
@@ -39,7 +39,7 @@ torn_body last len n room empty place body old mid new short fits fewer within f
 pub failed_body : (last : Bool) (len room empty place before now after : ℕ) (body : List ℕ)
     (old mid new : Option (List ℕ)) → len < 2 ^ 31 → len ≤ room → length body < len
     → Consumes old mid (head last len) → Consumes mid new body → before ≤ now → HasRisen now after
-    → HasNoFragment room empty place old new before after ReadFault
+    → HasNoFragment (begun_record room empty place) old new before after ReadFault
 failed_body last len room empty place before now after body old mid new short fits fewer first second rose risen = (
   omega arith,
   head last len
@@ -192,8 +192,8 @@ IsBegun-part limit pieces tail within part =
 -- Why a record has no next fragment is why there is no record.
 pub HasCause-behind : (limit room empty place end before now after : ℕ) (old mid new : Option (List ℕ))
     (front : List ℕ) (fault : RecordFault) → HasBegun limit old mid front empty place end
-    → length front + room ≡ limit → before ≤ now → HasNoFragment room empty place mid new now after fault
-    → HasCause limit place old new before after fault
+    → length front + room ≡ limit → before ≤ now → HasNoFragment (begun_record room empty place) mid new now after fault
+    → HasCause (record_start limit place old) new before after fault
 HasCause-behind limit room empty place end before now after old mid new front (Torn at) h fits rose cause =
     let so_far : length (joined h.pieces) ≡ length front = ap length h.filled in
     let tail = cause.1 in
@@ -243,7 +243,7 @@ HasCause-behind limit room empty place end before now after old mid new front Re
 -- input ended behind some whole fragments
 pub torn_between : (limit empty place end : ℕ) (old now new : Option (List ℕ)) (front : List ℕ)
     → HasBegun limit old now front empty place end → 0 < length front + empty → IsEmpty now new
-    → HasCause limit place old new 0 0 (Torn place)
+    → HasCause (record_start limit place old) new 0 0 (Torn place)
 torn_between limit empty place end old now new front h some none =
     let so_far : length (joined h.pieces) ≡ length front = ap length h.filled in (
       refl,
@@ -307,8 +307,8 @@ TakesRecord-last buf room len n empty place end end' old now new behind fits h t
 pub HasCause-more : (buf room : List ℕ) (len empty place end before now after : ℕ) (old mid new : Option (List ℕ))
     (fault : RecordFault) → ReadsBehind len buf room
     → HasFilled old mid buf len empty place end → before ≤ now
-    → HasNoFragment (length room) empty place mid new now after fault
-    → HasCause (length (read_behind len buf room)) place old new before after fault
+    → HasNoFragment (begun_record (length room) empty place) mid new now after fault
+    → HasCause (record_start (length (read_behind len buf room)) place old) new before after fault
 HasCause-more buf room len empty place end before now after old mid new fault behind h rose cause =
     let front : length (take len buf) ≡ len = length-take-le len buf behind.within in
     let left = length-room len buf room behind in
@@ -320,7 +320,7 @@ HasCause-more buf room len empty place end before now after old mid new fault be
 pub HasCause-end : (buf room : List ℕ) (len empty place end : ℕ) (old now new : Option (List ℕ))
     → ReadsBehind len buf room
     → HasFilled old now buf len empty place end → 0 < len + empty → IsEmpty now new
-    → HasCause (length (read_behind len buf room)) place old new 0 0 (Torn place)
+    → HasCause (record_start (length (read_behind len buf room)) place old) new 0 0 (Torn place)
 HasCause-end buf room len empty place end old now new behind h some none =
     let front : length (take len buf) ≡ len = length-take-le len buf behind.within in
     rw (length-read_behind len buf room behind)

@@ -10,8 +10,8 @@ use Rattle.yp_io.specs.Counts.{HasRisen, last_count}
 use Rattle.yp_rpc.specs.declared.record.RecordFault.{RecordFault}
 use Rattle.yp_rpc.specs.declared.record.RecordFault.TheVariants.{Torn, TooLong, ReadFault}
 use Rattle.yp_rpc.specs.Records.{empty_max, IsShort, head, fragment, begun, joined, AreWithin, IsPart, IsEmpty}
-use Rattle.yp_rpc.specs.Records.{TakesRecord}
-use Rattle.yp_rpc.specs.inside.Records.{HasNoFragment}
+use Rattle.yp_rpc.specs.Records.{TakesRecord, record_start}
+use Rattle.yp_rpc.specs.inside.Records.{begun_record, HasNoFragment}
 use Rattle.yp_rpc.specs.Pieces.{Part}
 use Rattle.yp_rpc.specs.inside.Pieces.{IsInFragment, HasGiven, HasNoPiece}
 use Rattle.yp_rpc.proofs.CutPieces.{blank, blank_is, empties-append, length-joined_push}
@@ -253,8 +253,8 @@ more_given limit n front got start mid new part after (inr h) some few size take
 -- why there is no head behind whole fragments, or one that names too much
 pub no_head : (limit place before now after : ℕ) (front : List ℕ) (start mid new : Option (List ℕ)) (part : Part)
     (fault : RecordFault) → part.left ≡ 0 → part.last ≡ false → HasGiven limit front start mid part
-    → before ≤ now → HasNoFragment (limit - part.named) part.empty place mid new now after fault
-    → HasNoPiece limit place start new before after fault
+    → before ≤ now → HasNoFragment (begun_record (limit - part.named) part.empty place) mid new now after fault
+    → HasNoPiece (record_start limit place start) new before after fault
 no_head limit place before now after front start mid new part fault none more given rose cause =
     let begun = whole_begun limit place front start mid part none more given in
     let within : part.named ≤ limit = named_within limit front start mid part given in
@@ -265,7 +265,7 @@ no_head limit place before now after front start mid new part fault none more gi
 -- input ended behind whole fragments, or before the record
 pub ended_before_head : (limit place before now : ℕ) (front : List ℕ) (start mid new : Option (List ℕ)) (part : Part)
     → part.left ≡ 0 → part.last ≡ false → HasGiven limit front start mid part
-    → IsEmpty mid new → HasNoPiece limit place start new before now (Torn place)
+    → IsEmpty mid new → HasNoPiece (record_start limit place start) new before now (Torn place)
 ended_before_head limit place before now front start mid new part none more (inl h) empty =
     inr (refl, (Consumes-trans start mid new [] [] h.2 empty.0, empty.1))
 ended_before_head limit place before now front start mid new part none more (inr h) empty =
@@ -305,7 +305,7 @@ in_part limit front start now part some h =
 -- input ended in a fragment
 pub ended_in_fragment : (limit place before now : ℕ) (front : List ℕ) (start mid new : Option (List ℕ)) (part : Part)
     → 0 < part.left → HasGiven limit front start mid part
-    → Consumes mid new [] → IsAtEnd new → HasNoPiece limit place start new before now (Torn place)
+    → Consumes mid new [] → IsAtEnd new → HasNoPiece (record_start limit place start) new before now (Torn place)
 ended_in_fragment limit place before now front start mid new part some (inl h) taken end =
     absurd (omega (arith, ap (λ (p : Part). p.left) h.0))
 ended_in_fragment limit place before now front start mid new part some (inr h) taken end =
@@ -331,7 +331,7 @@ ended_in_fragment limit place before now front start mid new part some (inr h) t
 -- the source failed in a fragment
 pub failed_in_fragment : (limit place before now : ℕ) (front : List ℕ) (start mid new : Option (List ℕ)) (part : Part)
     → 0 < part.left → HasGiven limit front start mid part
-    → Keeps mid new → HasRisen before now → HasNoPiece limit place start new before now ReadFault
+    → Keeps mid new → HasRisen before now → HasNoPiece (record_start limit place start) new before now ReadFault
 failed_in_fragment limit place before now front start mid new part some (inl h) kept risen =
     absurd (omega (arith, ap (λ (p : Part). p.left) h.0))
 failed_in_fragment limit place before now front start mid new part some (inr h) kept risen =
@@ -346,7 +346,8 @@ failed_in_fragment limit place before now front start mid new part some (inr h) 
 
 -- the same of a count of faults that was lower before
 pub cause_earlier : (limit place before mid now : ℕ) (start new : Option (List ℕ)) (fault : RecordFault)
-    → before ≤ mid → HasNoPiece limit place start new mid now fault → HasNoPiece limit place start new before now fault
+    → before ≤ mid → HasNoPiece (record_start limit place start) new mid now fault
+    → HasNoPiece (record_start limit place start) new before now fault
 cause_earlier limit place before mid now start new (Torn at) rose cause = cause
 cause_earlier limit place before mid now start new (TooLong at) rose cause = cause
 cause_earlier limit place before mid now start new ReadFault rose (inl cause) =

@@ -10,7 +10,8 @@ use Rattle.yp_rpc.specs.declared.turns.Ended.TheVariants.{Done, Spent}
 use Rattle.yp_rpc.specs.Turns.{Ways, Letter, Turn, Nothing, Meets, drops, listens, replies, is_quiet, Runs, is_spent}
 use Rattle.yp_rpc.specs.Turns.{is_done, sends, loses_letter, takes, loses_turn, loses_reply, InboxTells, Sees}
 use Rattle.yp_rpc.specs.Turns.{TakesTurns, datagram_max}
-use Rattle.yp_rpc.specs.inside.Turns.{Leads, IsHeard, HasTurn, MeetsTurn, LosesReply, WaitsForTurn, EndsWithoutTurn}
+use Rattle.yp_rpc.specs.inside.Turns.{Leads, turn_state, IsHeard, HasTurn, MeetsTurn, LosesReply, WaitsForTurn}
+use Rattle.yp_rpc.specs.inside.Turns.{EndsWithoutTurn}
 use Rattle.yp_rpc.specs.inside.Turns.{BeginsTurn, reply_of}
 use Rattle.yp_rpc.proofs.Seeing.{Turned, seen_none, seen_sent, seen_then}
 
@@ -45,7 +46,7 @@ module _ {E : Type 0} (ways : Ways E) where
   pub reply_heard : {T : Type 0} (result : Result T Failed) (from : Peer) (bytes reply : List ℕ) (old new : E) (a b : InboxTells)
       → length bytes ≤ datagram_max → ways.hears from bytes (Some reply) old new
       → OnOk result (GainsItem (Sent from reply) a.past b.past) → OnErr result (b.past ≡ a.past)
-      → b.turns ≡ a.turns → b.quiets ≡ a.quiets → IsHeard ways from bytes result old new a b
+      → b.turns ≡ a.turns → b.quiets ≡ a.quiets → IsHeard ways from bytes result (turn_state old a) (turn_state new b)
   reply_heard (Ok x) from bytes reply old new a b short heard sent none turns quiets =
       (Sent from reply ∷ [], replies from bytes reply old new short heard, seen_sent from reply sent turns quiets)
   reply_heard (Err why) from bytes reply old new a b short heard sent none turns quiets =
@@ -75,7 +76,8 @@ module _ {E : Type 0} (ways : Ways E) where
       at (Sent peer bytes) is sees = absurd is
 
   heard_then : {T : Type 0} (result : Result T Failed) (from : Peer) (bytes : List ℕ) (old new : E) (a b c : InboxTells)
-      → Sees (Arrived from bytes ∷ []) a b → IsHeard ways from bytes result old new b c → HasTurn ways result old new a c
+      → Sees (Arrived from bytes ∷ []) a b → IsHeard ways from bytes result (turn_state old b) (turn_state new c)
+      → HasTurn ways result old new a c
   heard_then (Ok x) from bytes old new a b c sees heard =
       record { turn = Arrived from bytes; replies = heard.0; meets = heard.1; sees = seen_then sees heard.2 }
   heard_then (Err why) from bytes old new a b c sees heard =
@@ -84,7 +86,7 @@ module _ {E : Type 0} (ways : Ways E) where
   -- A datagram was heard.
   pub met_mail : {T : Type 0} (result : Result T Failed) (len : ℕ) (from : Peer) (buf : List ℕ) (old new : E) (a b c : InboxTells)
       → Turned (mail.Came len from) buf a b → len ≤ datagram_max → datagram_max < length buf
-      → IsHeard ways from (take len buf) result old new b c → HasTurn ways result old new a c
+      → IsHeard ways from (take len buf) result (turn_state old b) (turn_state new c) → HasTurn ways result old new a c
   met_mail result len from buf old new a b c t short room heard = at t.turn t.is t.sees
     where
       at : (turn : InboxEvent) → IsTurn (mail.Came len from) buf turn → Sees (turn ∷ []) a b → HasTurn ways result old new a c

@@ -116,14 +116,23 @@ pub record TakesRecord (limit : ℕ) (message : List ℕ) (old new : Option (Lis
   pub taken : Consumes old new bytes
   pub counted : after ≡ min (place + length bytes) last_count
 
+-- where a record begins: the most bytes that it may have, its place, and what the source has left there
+pub record RecordStart : Type 0 where
+  pub limit : ℕ
+  pub place : ℕ
+  pub input : Option (List ℕ)
+
+abbrev pub record_start : ℕ → ℕ → Option (List ℕ) → RecordStart
+record_start limit place input = record { limit = limit; place = place; input = input }
+
 -- Why there is no record: its place is where it began. A source that failed had given less than a record.
-abbrev pub HasCause : ℕ → ℕ → Option (List ℕ) → Option (List ℕ) → ℕ → ℕ → RecordFault → Type 0
-HasCause limit place old new before now (Torn at) =
-    (at ≡ place) × (rest : List ℕ) × IsTorn limit rest × Consumes old new rest × IsAtEnd new
-HasCause limit place old new before now (TooLong at) =
-    (at ≡ place) × (front : List ℕ) × IsTooLong limit front × Consumes old new front
-HasCause limit place old new before now ReadFault =
-    HasRisen before now × (part : List ℕ) × Consumes old new part × IsUnfinished limit part
+abbrev pub HasCause : RecordStart → Option (List ℕ) → ℕ → ℕ → RecordFault → Type 0
+HasCause start new before now (Torn at) =
+    (at ≡ start.place) × (rest : List ℕ) × IsTorn start.limit rest × Consumes start.input new rest × IsAtEnd new
+HasCause start new before now (TooLong at) =
+    (at ≡ start.place) × (front : List ℕ) × IsTooLong start.limit front × Consumes start.input new front
+HasCause start new before now ReadFault =
+    HasRisen before now × (part : List ℕ) × Consumes start.input new part × IsUnfinished start.limit part
 
 -- Nothing was left, and nothing was taken.
 abbrev pub IsEmpty : Option (List ℕ) → Option (List ℕ) → Type 0

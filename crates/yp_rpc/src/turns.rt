@@ -3,7 +3,7 @@
 ghost use Rattle.std.specs.Prelude.{◌≡◌, ◌+◌, ◌≤◌, ◌<◌, length};
 ghost use Rattle.yp_io.specs.Counts.{CountsFaults};
 ghost use Rattle.yp_rpc.specs.Turns.{datagram_max, TakesTurns};
-ghost use Rattle.yp_rpc.specs.inside.Turns.{box_by, BeginsTurn, HasTurn, IsHeard};
+ghost use Rattle.yp_rpc.specs.inside.Turns.{box_by, BeginsTurn, HasTurn, turn_state, IsHeard};
 ghost use Rattle.yp_rpc.specs.inside.Ways.{ways_by};
 
 use crate::handler::{DATAGRAM_MAX, Handler, Wish};
@@ -69,8 +69,8 @@ fn hear_mail<I: Inbox, E: Handler>(
 ) -> Result<(), Failed>
     requires mail { length mail.now ≤ DATAGRAM_MAX }
     requires buf { DATAGRAM_MAX ≤ length buf.old }
-    ensures heard { IsHeard (ways_by E.Handler) from mail.now result handler.old handler.new
-        (box_by I.Inbox inbox.old) (box_by I.Inbox inbox.new) }
+    ensures heard { IsHeard (ways_by E.Handler) from mail.now result
+        (turn_state handler.old (box_by I.Inbox inbox.old)) (turn_state handler.new (box_by I.Inbox inbox.new)) }
     ensures cause { CountsFaults (I.faults inbox.old) (I.faults inbox.new) result }
 {
     let len = handler.hear(from, mail, buf);

@@ -79,15 +79,24 @@ piece_max = 135168
 abbrev pub between : ℕ → ℕ → List (List ℕ) → List (List ℕ)
 between start end parts = take (end - start) (drop start parts)
 
+-- how far a buffer is filled with parts: the number of the next part, the place where it would stand, and the buffer
+pub record FilledBuffer : Type 0 where
+  pub next : ℕ
+  pub at : ℕ
+  pub bytes : List ℕ
+
+abbrev pub filled_buffer : ℕ → ℕ → List ℕ → FilledBuffer
+filled_buffer next at bytes = record { next = next; at = at; bytes = bytes }
+
 -- The parts from one number up to another were put behind a place, and end at another place.
-pub record PutsParts (parts : List (List ℕ)) (first next at end : ℕ) (old new : List ℕ) : Type 0 where
-  pub put : take end new ≡ take at old ++ joined (between first next parts)
-  pub within : end ≤ length new
-  pub forward : first ≤ next
-  pub later : at ≤ end
-  pub starts : next ≡ first → end ≡ at
-  pub moved : first < next → at < end
-  pub inside : first < next → next ≤ length parts
+pub record PutsParts (parts : List (List ℕ)) (old new : FilledBuffer) : Type 0 where
+  pub put : take new.at new.bytes ≡ take old.at old.bytes ++ joined (between old.next new.next parts)
+  pub within : new.at ≤ length new.bytes
+  pub forward : old.next ≤ new.next
+  pub later : old.at ≤ new.at
+  pub starts : new.next ≡ old.next → new.at ≡ old.at
+  pub moved : old.next < new.next → old.at < new.at
+  pub inside : old.next < new.next → new.next ≤ length parts
 
 -- Some parts, each of them whole, were given: these bytes are the bytes of those parts, and the other parts are left.
 pub record GivesParts (bytes : List ℕ) (old new : List (List ℕ)) : Type 0 where

@@ -4,7 +4,7 @@ use Rattle.std.specs.Prelude.{Some, None}
 use Rattle.std.specs.Io.KnownBytes.{Appends}
 use Rattle.yp_io.specs.Counts.{HasRisen, next_count}
 use Rattle.yp_io.specs.declared.stream.Peer.{Peer}
-use Rattle.yp_rpc.specs.Records.{IsEmpty, TakesRecord, HasCause, sent}
+use Rattle.yp_rpc.specs.Records.{IsEmpty, TakesRecord, record_start, HasCause, sent}
 use Rattle.yp_rpc.specs.declared.record.RecordFault.{RecordFault}
 use Rattle.yp_rpc.specs.declared.record.RecordFault.TheVariants as faults
 use Rattle.yp_answer.specs.declared.procedure.Path.TheVariants.{Stream}
@@ -54,7 +54,7 @@ pub record IsIdle {H : Type 0} (old new : Dialogue H) : Type 0 where
 -- There is no record, for this reason.
 abbrev pub Lacks : {H : Type 0} → RecordFault → Dialogue H → Dialogue H → Type 0
 Lacks fault old new =
-    HasCause record_max old.progress.place old.wire.source.input new.wire.source.input
+    HasCause (record_start record_max old.progress.place old.wire.source.input) new.wire.source.input
     old.wire.source.faults new.wire.source.faults fault × IsIdle old new
 
 module _ {H : Type 0} (conduct : Conduct H) (peer : Peer) where

@@ -3,7 +3,7 @@ use Rattle.std.specs.Prelude.{◌≡◌, ℕ, ◌+◌, ◌≤◌, ◌⊎◌, Boo
 use Rattle.std.specs.Prelude.{Some, Result, Ok, Err, IfErr, ⊤}
 use Rattle.yp_xdr.specs.Reading.{Remaining}
 use Rattle.yp_rpc.specs.declared.record.RecordFault.{RecordFault}
-use Rattle.yp_rpc.specs.Records.{TakesRecord}
+use Rattle.yp_rpc.specs.Records.{TakesRecord, record_start}
 use Rattle.yp_rpc.specs.Pieces.{ReaderState, not_begun}
 use Rattle.yp_rpc.specs.inside.Pieces.{HasGiven, HasNoPiece}
 use Rattle.yp_version.specs.declared.builder.VersionFault.{VersionFault}
@@ -13,7 +13,7 @@ use Rattle.yp_client.specs.declared.fault.ClientFault.TheVariants.{Rows, NoMemor
 use Rattle.yp_client.specs.declared.all.AllReply.{AllReply}
 use Rattle.yp_client.specs.Limits.{all_max}
 use Rattle.yp_client.specs.Results.{results_of}
-use Rattle.yp_client.specs.All.{filled, all_said, IsSaid}
+use Rattle.yp_client.specs.All.{AllSaid, filled, all_said, IsSaid}
 
 -- the most bytes of an item: two words, and a value and a key of 65536 bytes, each behind its length
 abbrev pub item_max : ℕ
@@ -83,7 +83,7 @@ TakesMore old new buf buf' was now =
 abbrev pub IsCutOff : {X : Type 0} → Result X RecordFault → RecordProgress → Option (List ℕ) → ℕ → ℕ → Type 0
 IsCutOff result was input before after =
     (front : List ℕ) (start : Option (List ℕ)) (place : ℕ) → HasReadUpTo front start place was
-    → IfErr result (HasNoPiece all_max place start input before after)
+    → IfErr result (HasNoPiece (record_start all_max place start) input before after)
 
 -- An item stands whole in the buffer, or the record ends in it.
 abbrev pub HasItem : AllReply → List ℕ → Type 0
@@ -100,26 +100,45 @@ IsRowRefusal row cause (Rows number fault) = (number ≡ row) × (cause ≡ Some
 IsRowRefusal row cause NoMemory = ⊤
 IsRowRefusal row cause fault = ⊥
 
+-- a builder that is being filled, how many rows were read for it, and what is left to read
+pub record Filling : Type 0 where
+  pub draft : Draft
+  pub rows : ℕ
+  pub left : Remaining
+
+-- the same of a reply, where so much more of the record comes
+abbrev pub filling : Draft → AllReply → List ℕ → List ℕ → Filling
+filling draft reply buf more = record { draft = draft; rows = reply.rows; left = ahead reply buf more }
+
+-- what is said from there on, where at most n rows are read
+abbrev pub filled_from : ℕ → Filling → AllSaid
+filled_from n now = filled n now.draft now.rows now.left
+
 -- One item was read, and a row was pushed: what was said from there on is said from here on. Or it is the end of the
 -- rows, or a refusal.
-abbrev pub Advances : Draft → Draft → ℕ → ℕ → Result Bool ClientFault → ℕ → Remaining → Remaining → Type 0
-Advances before after rows rows' (Ok true) n old new = filled (n + 1) before rows old ≡ filled n after rows' new
-Advances before after rows rows' (Ok false) n old new = IsSaid (filled (n + 1) before rows old) after rows' (Ok tt)
-Advances before after rows rows' (Err fault) n old new = IsSaid (filled (n + 1) before rows old) after rows' (Err fault)
+abbrev pub Advances : Filling → Filling → Result Bool ClientFault → ℕ → Type 0
+Advances old new (Ok true) n = filled_from (n + 1) old ≡ filled_from n new
+Advances old new (Ok false) n = IsSaid (filled_from (n + 1) old) new.draft new.rows (Ok tt)
+Advances old new (Err fault) n = IsSaid (filled_from (n + 1) old) new.draft new.rows (Err fault)
+
+-- what is answered of a reply: the builder, the rows that were read, and how they end
+abbrev pub answered : Draft → AllReply → Result (Unit {0}) ClientFault → AllSaid
+answered draft reply end = record { draft = draft; rows = reply.rows; end = end }
 
 -- More of the record was read, and all rows that it says were pushed, up to the end or the first refusal, whatever
 -- comes behind.
-pub record PushesRows (before after : Draft) (old new : AllReply) (buf : List ℕ) (was now : RecordProgress)
-    (end : Result (Unit {0}) ClientFault) : Type 0 where
+pub record PushesRows (before : Draft) (old : AllReply) (buf : List ℕ) (was now : RecordProgress)
+    (answer : AllSaid) : Type 0 where
   pub more : List ℕ
   pub stays : StaysWhole more was.whole now.whole
   pub given : GivesMore more was now
-  pub said : (rest : List ℕ) (n : ℕ) → MayCome rest new.whole → length (waiting old buf ++ (more ++ rest)) ≤ n
-      → IsSaid (filled n before old.rows (ahead old buf (more ++ rest))) after new.rows end
+  pub said : (rest : List ℕ) (n : ℕ) → MayCome rest now.whole → length (waiting old buf ++ (more ++ rest)) ≤ n
+      → IsSaid (filled_from n (filling before old buf (more ++ rest))) answer.draft answer.rows answer.end
 
 -- A reply was read from its start, as far as its rows go, and says this, whatever comes behind.
-pub record SaysSoFar (before after : Draft) (rows xid : ℕ) (end : Result (Unit {0}) ClientFault)
-    (start : Option (List ℕ)) (place : ℕ) (now : RecordProgress) : Type 0 where
+pub record SaysSoFar (before : Draft) (xid : ℕ) (answer : AllSaid) (start : Option (List ℕ)) (place : ℕ)
+    (now : RecordProgress) : Type 0 where
   pub front : List ℕ
   pub reached : HasReadUpTo front start place now
-  pub said : (rest : List ℕ) → MayCome rest now.whole → IsSaid (all_said before xid (front ++ rest)) after rows end
+  pub said : (rest : List ℕ) → MayCome rest now.whole
+      → IsSaid (all_said before xid (front ++ rest)) answer.draft answer.rows answer.end

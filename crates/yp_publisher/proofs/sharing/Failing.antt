@@ -20,7 +20,7 @@ use Rattle.yp_publisher.specs.Opens.{StandsMeanwhile, Opens, IsOpenCause, StaysB
 use Rattle.yp_publisher.specs.declared.sharing.locked.ShareFault.{ShareFault}
 use Rattle.yp_publisher.specs.declared.sharing.locked.ShareFault.TheVariants.{Shut, Unfit, Untold}
 use Rattle.yp_publisher.specs.sharing.Shares.{offer_behind}
-use Rattle.yp_publisher.specs.inside.sharing.Shares.{OpensAndInstalls, OpensAndRefuses, IsNotInstalled}
+use Rattle.yp_publisher.specs.inside.sharing.Shares.{candidate, OpensAndInstalls, OpensAndRefuses, IsNotInstalled}
 use Rattle.yp_publisher.specs.sharing.Failures.{faults_over, disks_of}
 use Rattle.yp_publisher.specs.inside.sharing.Failures.{failures_in, failures_of, MapTellsFaults, Covers}
 
@@ -300,7 +300,7 @@ module _ {D B : Type 0} (keeping : Keeping D B) (number : ℕ) where
           (covers_then keeping.history keeping.faults started already 0 number old.maps middle.maps before.0 after.0 opens.upheld.elsewhere within
           before.1 after.1 (opened old middle before.0 after.0 before.1 after.1 opens) covers)
 
-    pub installed_covers : OpensAndInstalls keeping number version origin old new
+    pub installed_covers : OpensAndInstalls keeping (candidate number version origin) old new
         → Covers keeping.history keeping.faults started new.maps already
     installed_covers is =
         let before = the_map is.middle.maps number (within_middle is.middle is.opens) in
@@ -312,7 +312,7 @@ module _ {D B : Type 0} (keeping : Keeping D B) (number : ℕ) where
         (installed is.middle new before.0 after.0 before.1 after.1 (offer_behind number version origin (keeping.log is.middle.board)) is.installs)
         (covers_middle is.middle is.opens))
 
-    refused_covers : (why : InstallFault) → OpensAndRefuses keeping number version origin (Unfit why) old new
+    refused_covers : (why : InstallFault) → OpensAndRefuses keeping (candidate number version origin) (Unfit why) old new
         → Covers keeping.history keeping.faults started new.maps (already + failures_in (Unfit why))
     refused_covers why is =
         let before = the_map is.middle.maps number (within_middle is.middle is.opens) in
@@ -324,7 +324,7 @@ module _ {D B : Type 0} (keeping : Keeping D B) (number : ℕ) where
         (refused is.middle new before.0 after.0 before.1 after.1 (offer_behind number version origin (keeping.log is.middle.board)) why level is.refuses)
         (covers_middle is.middle is.opens)
 
-    pub not_installed_covers : (why : ShareFault) → IsNotInstalled keeping number version origin why old new
+    pub not_installed_covers : (why : ShareFault) → IsNotInstalled keeping (candidate number version origin) why old new
         → Covers keeping.history keeping.faults started new.maps (already + failures_in why)
     not_installed_covers (Shut why) is =
         let before = the_map old.maps number within in
@@ -348,8 +348,8 @@ covers_none history faults started maps is = λ all. omega (arith, is)
 -- behind an install or a refusal
 pub covers_after : {T D B : Type 0} (keeping : Keeping D B) (number started already : ℕ) (version : MapVersion) (origin : Origin)
     (old new : Published D B) (r : Result T ShareFault) → number < length old.maps
-    → OnOk r (OpensAndInstalls keeping number version origin old new)
-    → IfErr r (λ why. IsNotInstalled keeping number version origin why old new)
+    → OnOk r (OpensAndInstalls keeping (candidate number version origin) old new)
+    → IfErr r (λ why. IsNotInstalled keeping (candidate number version origin) why old new)
     → Covers keeping.history keeping.faults started old.maps already
     → Covers keeping.history keeping.faults started new.maps (already + failures_of r)
 covers_after keeping number started already version origin old new (Ok done) within is none covers =

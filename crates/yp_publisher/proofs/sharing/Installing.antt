@@ -16,7 +16,7 @@ use Rattle.yp_publisher.specs.Rising.{with_shown}
 use Rattle.yp_publisher.specs.declared.sharing.locked.ShareFault.{ShareFault}
 use Rattle.yp_publisher.specs.declared.sharing.locked.ShareFault.TheVariants.{Shut, Unfit, Untold}
 use Rattle.yp_publisher.specs.sharing.Shares.{offer_behind, IsShownBehind}
-use Rattle.yp_publisher.specs.inside.sharing.Shares.{OpensAndInstalls, OfferIsRefused, IsNotInstalled}
+use Rattle.yp_publisher.specs.inside.sharing.Shares.{candidate, OpensAndInstalls, OfferIsRefused, IsNotInstalled}
 use Rattle.yp_publisher.proofs.Growing.{at_one, front_same, front_then}
 
 -- after a fault no version was shown
@@ -68,12 +68,12 @@ opened_front {D} {B} keeping number old middle lt opens =
 module _ {D B : Type 0} (keeping : Keeping D B) (number : ℕ) (version : MapVersion) (origin : Origin)
     (old middle new : Published D B) (opens : Opens keeping number old middle) where
   pub installed : Installs keeping number (offer_behind number version origin (keeping.log middle.board)) middle new
-      → OpensAndInstalls keeping number version origin old new
+      → OpensAndInstalls keeping (candidate number version origin) old new
   installed installs = record { middle = middle; opens = opens; installs = installs }
 
   pub refused : (why : ShareFault)
       → OfferIsRefused keeping number (offer_behind number version origin (keeping.log middle.board)) why middle new
-      → IsNotInstalled keeping number version origin why old new
+      → IsNotInstalled keeping (candidate number version origin) why old new
   refused (Shut why) h = absurd h
   refused (Unfit why) h = record { middle = middle; opens = opens; refuses = h }
   refused Untold h = absurd h

@@ -18,7 +18,7 @@ use Rattle.yp_publisher.specs.inside.Laws.{LogRises}
 use Rattle.yp_publisher.specs.declared.sharing.locked.ShareFault.{ShareFault}
 use Rattle.yp_publisher.specs.declared.sharing.locked.ShareFault.TheVariants.{Shut, Unfit, Untold}
 use Rattle.yp_publisher.specs.sharing.Shares.{offer_behind}
-use Rattle.yp_publisher.specs.inside.sharing.Shares.{OpensAndInstalls, IsNotInstalled}
+use Rattle.yp_publisher.specs.inside.sharing.Shares.{candidate, OpensAndInstalls, IsNotInstalled}
 use Rattle.yp_publisher.specs.sharing.Failures.{disks_of}
 use Rattle.yp_publisher.specs.inside.sharing.Moments.{LeadsTo, MapsTell, IsLed}
 use Rattle.yp_publisher.proofs.sharing.Telling.{opened_then, offered_then, shut_then}
@@ -89,13 +89,13 @@ module _ {D B : Type 0} (keeping : Keeping D B) (first : PublisherState) (number
         let count = opens.upheld.elsewhere.count in
         (omega (arith, within, count), opened old middle opens.upheld.elsewhere within opens led)
 
-    led_installed : OpensAndInstalls keeping number version origin old new → IsLed keeping first new
+    led_installed : OpensAndInstalls keeping (candidate number version origin) old new → IsLed keeping first new
     led_installed is =
         let middle = led_middle is.middle is.opens in
         offered is.middle new is.installs.upheld.elsewhere middle.0
         (offer_behind number version origin (keeping.log is.middle.board)) refl is.installs.meanwhile is.installs.rising middle.1
 
-    led_refused : (why : ShareFault) → IsNotInstalled keeping number version origin why old new → IsLed keeping first new
+    led_refused : (why : ShareFault) → IsNotInstalled keeping (candidate number version origin) why old new → IsLed keeping first new
     led_refused (Shut why) is = shut old new is.upheld.elsewhere within why is led
     led_refused (Unfit why) is =
         let middle = led_middle is.middle is.opens in
@@ -106,8 +106,8 @@ module _ {D B : Type 0} (keeping : Keeping D B) (first : PublisherState) (number
 -- behind an install or a refusal
 pub led_after : {T D B : Type 0} (keeping : Keeping D B) (first : PublisherState) (number : ℕ) (version : MapVersion) (origin : Origin)
     (old new : Published D B) (r : Result T ShareFault) → number < length old.maps
-    → OnOk r (OpensAndInstalls keeping number version origin old new)
-    → IfErr r (λ why. IsNotInstalled keeping number version origin why old new)
+    → OnOk r (OpensAndInstalls keeping (candidate number version origin) old new)
+    → IfErr r (λ why. IsNotInstalled keeping (candidate number version origin) why old new)
     → IsLed keeping first old → IsLed keeping first new
 led_after keeping first number version origin old new (Ok done) within installed none led =
     led_installed keeping first number version origin old new within led installed

@@ -25,7 +25,7 @@ use Rattle.yp_publisher.specs.Grown.{AreTold}
 use Rattle.yp_publisher.specs.declared.sharing.locked.ShareFault.{ShareFault}
 use Rattle.yp_publisher.specs.declared.sharing.locked.ShareFault.TheVariants.{Shut, Unfit, Untold}
 use Rattle.yp_publisher.specs.sharing.Shares.{offer_behind}
-use Rattle.yp_publisher.specs.inside.sharing.Shares.{OpensAndInstalls, IsNotInstalled}
+use Rattle.yp_publisher.specs.inside.sharing.Shares.{candidate, OpensAndInstalls, IsNotInstalled}
 use Rattle.yp_publisher.specs.sharing.Failures.{disks_of}
 use Rattle.yp_publisher.specs.inside.sharing.Failures.{made_by}
 use Rattle.yp_publisher.specs.sharing.Sources.{Building, IsBuiltBy, AreFrom, AreBehind, IsSourced}
@@ -498,21 +498,21 @@ module _ {D B : Type 0} (keeping : Keeping D B) (Is : Building) (first : Publish
           built.2,
         )
 
-      installed_as_built : IsBuiltThere Is (keeping.log old.board) number own version Built → OpensAndInstalls keeping number version Built old new
+      installed_as_built : IsBuiltThere Is (keeping.log old.board) number own version Built → OpensAndInstalls keeping (candidate number version Built) old new
           → SourcedAt new (made + 1) fetched
       installed_as_built built is =
           installed_built is.middle new (within_middle is.middle is.opens) is.opens.level is.opens.upheld.shows
           (own_middle is.middle is.opens) (sourced_middle old is.middle within is.opens sourced)
           (built_middle is.middle is.opens built) is.installs
 
-      installed_as_fetched : OpensAndInstalls keeping number version Fetched old new → SourcedAt new made (fetched + 1)
+      installed_as_fetched : OpensAndInstalls keeping (candidate number version Fetched) old new → SourcedAt new made (fetched + 1)
       installed_as_fetched is =
           offered_fetched is.middle new (within_middle is.middle is.opens) is.opens.level is.opens.upheld.shows
           (own_middle is.middle is.opens) (sourced_middle old is.middle within is.opens sourced)
           is.installs.upheld.elsewhere is.installs.meanwhile is.installs.rising
 
       after_refusal : (origin : Origin) (why : ShareFault) → IsBuiltThere Is (keeping.log old.board) number own version origin
-          → IsNotInstalled keeping number version origin why old new
+          → IsNotInstalled keeping (candidate number version origin) why old new
           → SourcedAt new made (fetched + fetched_in origin)
       after_refusal origin (Shut why) built is =
           at_less new made made fetched (fetched + fetched_in origin) (omega arith) (omega arith)
@@ -532,8 +532,8 @@ module _ {D B : Type 0} (keeping : Keeping D B) (Is : Building) (first : Publish
 pub sourced_after : {T D B : Type 0} (keeping : Keeping D B) (Is : Building) (first : PublisherState) (number : ℕ)
     (version : MapVersion) (origin : Origin) (own : List ℕ) (made fetched : ℕ) (old new : Published D B)
     (r : Result T ShareFault) → number < length old.maps → old.catalogue.own ≡ own
-    → IsBuiltThere Is (keeping.log old.board) number own version origin → OnOk r (OpensAndInstalls keeping number version origin old new)
-    → IfErr r (λ why. IsNotInstalled keeping number version origin why old new)
+    → IsBuiltThere Is (keeping.log old.board) number own version origin → OnOk r (OpensAndInstalls keeping (candidate number version origin) old new)
+    → IfErr r (λ why. IsNotInstalled keeping (candidate number version origin) why old new)
     → IsSourcedAt keeping Is first old made fetched
     → IsSourcedAt keeping Is first new (made + made_by origin r) (fetched + fetched_in origin)
 sourced_after keeping Is first number version Built own made fetched old new (Ok done) within own_is built is none sourced =

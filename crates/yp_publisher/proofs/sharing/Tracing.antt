@@ -29,7 +29,7 @@ use Rattle.yp_publisher.specs.declared.sharing.locked.ShareFault.{ShareFault}
 use Rattle.yp_publisher.specs.declared.sharing.locked.ShareFault.TheVariants.{Shut, Unfit, Untold}
 use Rattle.yp_publisher.specs.sharing.Failures.{disks_of}
 use Rattle.yp_publisher.specs.sharing.Shares.{offer_behind}
-use Rattle.yp_publisher.specs.inside.sharing.Shares.{OpensAndInstalls, IsNotInstalled}
+use Rattle.yp_publisher.specs.inside.sharing.Shares.{candidate, OpensAndInstalls, IsNotInstalled}
 use Rattle.yp_publisher.specs.inside.sharing.Moments.{MapsTell}
 use Rattle.yp_publisher.specs.sharing.Sources.{Building}
 use Rattle.yp_publisher.specs.inside.sharing.Sources.{IsBuiltThere}
@@ -237,13 +237,13 @@ module _ {D B : Type 0} (keeping : Keeping D B) (Is : Building) (fetches : Fetch
         passes_then keeping (IsNewBehind Is fetches) (respects Is fetches) old middle new goes_middle.1 goes.1,
       )
 
-    goes_installed : OpensAndInstalls keeping number version origin old new → Goes old new
+    goes_installed : OpensAndInstalls keeping (candidate number version origin) old new → Goes old new
     goes_installed one =
         then_new one.middle one.opens
         (installed_new one.middle new (within_middle one.middle one.opens) (goes_middle one.middle one.opens).0 one.opens.level origin
         (new_middle one.middle one.opens one.installs.unopposed) one.installs)
 
-    goes_refused : (why : ShareFault) → IsNotInstalled keeping number version origin why old new → Goes old new
+    goes_refused : (why : ShareFault) → IsNotInstalled keeping (candidate number version origin) why old new → Goes old new
     goes_refused (Shut why) one = stays_on keeping (IsNewBehind Is fetches) (respects Is fetches) number why old new sound one
     goes_refused (Unfit why) one =
         then_new one.middle one.opens
@@ -251,8 +251,8 @@ module _ {D B : Type 0} (keeping : Keeping D B) (Is : Building) (fetches : Fetch
         (new_middle one.middle one.opens) one.refuses)
     goes_refused Untold one = absurd one
 
-    goes : {T : Type 0} (r : Result T ShareFault) → OnOk r (OpensAndInstalls keeping number version origin old new)
-        → IfErr r (λ why. IsNotInstalled keeping number version origin why old new) → Goes old new
+    goes : {T : Type 0} (r : Result T ShareFault) → OnOk r (OpensAndInstalls keeping (candidate number version origin) old new)
+        → IfErr r (λ why. IsNotInstalled keeping (candidate number version origin) why old new) → Goes old new
     goes (Ok done) one none = goes_installed one
     goes (Err why) none one = goes_refused why one
 
@@ -264,8 +264,8 @@ pub traced_after : {T D B : Type 0} (keeping : Keeping D B) (Is : Building) (bef
     → old.catalogue.own ≡ own
     → IsBuiltThere Is (keeping.log old.board) number own version origin → IsKnownFetched version origin known
     → IsBeginning before fetches → IfSome known (λ front. IsBeginning front fetches)
-    → OnOk r (OpensAndInstalls keeping number version origin old new)
-    → IfErr r (λ why. IsNotInstalled keeping number version origin why old new)
+    → OnOk r (OpensAndInstalls keeping (candidate number version origin) old new)
+    → IfErr r (λ why. IsNotInstalled keeping (candidate number version origin) why old new)
     → IsTracedAt keeping Is before first histories old → IsTracedAt keeping Is fetches first histories new
 traced_after keeping Is before fetches first histories number version origin own known old new r within shows standing own_is built is
     more learned one none traced = λ start.

@@ -12,7 +12,7 @@ ghost use Rattle.yp_publisher.specs.Rising.{publisher_state, with_shown, IsRisin
 ghost use Rattle.yp_publisher.specs.inside.Rising.{IsStart};
 ghost use Rattle.yp_publisher.specs.Grown.{AreTold};
 ghost use Rattle.yp_publisher.specs.sharing.Shares.{offer_behind};
-ghost use Rattle.yp_publisher.specs.inside.sharing.Shares.{OpensAndInstalls, IsNotInstalled, OfferIsRefused};
+ghost use Rattle.yp_publisher.specs.inside.sharing.Shares.{candidate, OpensAndInstalls, IsNotInstalled, OfferIsRefused};
 ghost use Rattle.yp_publisher.specs.sharing.Shares.{IsShownBehind, Learns};
 ghost use Rattle.yp_publisher.specs.sharing.Shares.{IsReason};
 ghost use Rattle.yp_publisher.specs.sharing.Failures.{faults_over, disks_of};
@@ -287,10 +287,10 @@ impl<S: Site + Accounts, D: Disk, B: Show> Locked<S, D, B> {
             offer.origin }
         requires fetched { fetched_in offer.origin ≤ charge.old.versions }
         requires known { IsKnownFetched offer.version offer.origin offer.known }
-        ensures installed { OnOk result (OpensAndInstalls (keeping_of D.history D.faults B.log) offer.map
-            offer.version offer.origin self.old self.new) }
-        ensures refused { IfErr result (λ fault. IsNotInstalled (keeping_of D.history D.faults B.log) offer.map
-            offer.version offer.origin fault self.old self.new) }
+        ensures installed { OnOk result (OpensAndInstalls (keeping_of D.history D.faults B.log)
+            (candidate offer.map offer.version offer.origin) self.old self.new) }
+        ensures refused { IfErr result (λ fault. IsNotInstalled (keeping_of D.history D.faults B.log)
+            (candidate offer.map offer.version offer.origin) fault self.old self.new) }
 
         // What that is to the log.
         ensures shown { OnOk result (IsShownBehind S.catalogue.own offer.map offer.version offer.origin
@@ -425,10 +425,10 @@ fn open_and_offer<D: Disk, B: Show>(
     origin: Origin,
 ) -> Result<(), ShareFault>
     requires { map < length publisher.old.maps }
-    ensures installed { OnOk result (OpensAndInstalls (keeping_of D.history D.faults B.log) map version origin
-        publisher.old publisher.new) }
-    ensures refused { IfErr result (λ fault. IsNotInstalled (keeping_of D.history D.faults B.log) map version origin
-        fault publisher.old publisher.new) }
+    ensures installed { OnOk result (OpensAndInstalls (keeping_of D.history D.faults B.log)
+        (candidate map version origin) publisher.old publisher.new) }
+    ensures refused { IfErr result (λ fault. IsNotInstalled (keeping_of D.history D.faults B.log)
+        (candidate map version origin) fault publisher.old publisher.new) }
     ensures shown { OnOk result (IsShownBehind publisher.old.catalogue.own map version origin
         (B.log publisher.old.board) (B.log publisher.new.board)) }
     ensures reason { IfErr result (λ fault. IsReason publisher.old.catalogue.own map version origin fault

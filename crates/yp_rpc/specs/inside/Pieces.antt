@@ -4,7 +4,8 @@ use Rattle.std.specs.Io.KnownBytes.{Consumes}
 use Rattle.yp_io.specs.Counts.{last_count}
 use Rattle.yp_rpc.specs.declared.record.RecordFault.{RecordFault}
 use Rattle.yp_rpc.specs.declared.record.RecordFault.TheVariants.{Torn}
-use Rattle.yp_rpc.specs.Records.{head, begun, joined, empties, AreWithin, IsEmpty, TakesRecord, HasCause}
+use Rattle.yp_rpc.specs.Records.{head, begun, joined, empties, AreWithin, IsEmpty, TakesRecord, RecordStart}
+use Rattle.yp_rpc.specs.Records.{HasCause}
 use Rattle.yp_rpc.specs.Pieces.{Part, not_begun, ReaderState}
 
 -- a reader between two records
@@ -31,12 +32,14 @@ HasGiven limit front start now part =
 
 -- A piece of the record was given behind them. An empty one is its end: then it is the record, and was taken from the
 -- source.
-pub record GivesPiece (limit : ℕ) (front piece : List ℕ) (start new : Option (List ℕ))
-    (old after : ReaderState) : Type 0 where
-  pub more : 0 < length piece → HasGiven limit (front ++ piece) start new after.part × (after.place ≡ old.place)
-  pub end : length piece ≡ 0 → TakesRecord limit front start new old.place after.place × (after.part ≡ not_begun)
+pub record GivesPiece (start : RecordStart) (front piece : List ℕ) (new : Option (List ℕ)) (after : ReaderState)
+    : Type 0 where
+  pub more : 0 < length piece
+      → HasGiven start.limit (front ++ piece) start.input new after.part × (after.place ≡ start.place)
+  pub end : length piece ≡ 0
+      → TakesRecord start.limit front start.input new start.place after.place × (after.part ≡ not_begun)
 
 -- Why there is no piece: why there is no record, or input ended before its first byte, which is torn here.
-abbrev pub HasNoPiece : ℕ → ℕ → Option (List ℕ) → Option (List ℕ) → ℕ → ℕ → RecordFault → Type 0
-HasNoPiece limit place start new before now fault =
-    HasCause limit place start new before now fault ⊎ ((fault ≡ Torn place) × IsEmpty start new)
+abbrev pub HasNoPiece : RecordStart → Option (List ℕ) → ℕ → ℕ → RecordFault → Type 0
+HasNoPiece start new before now fault =
+    HasCause start new before now fault ⊎ ((fault ≡ Torn start.place) × IsEmpty start.input new)

@@ -83,13 +83,22 @@ HasTurn ways (Ok x) old new before after = MeetsTurn ways old new before after
 HasTurn ways (Err why) old new before after =
     ((new ≡ old) × Sees [] before after) ⊎ LosesReply ways old new before after
 
+-- a handler and its inbox at a moment
+pub record TurnState (E : Type 0) : Type 0 where
+  pub handler : E
+  pub inbox : InboxTells
+
+abbrev pub turn_state : {E : Type 0} → E → InboxTells → TurnState E
+turn_state handler inbox = record { handler = handler; inbox = inbox }
+
 -- a datagram that is heard, with its reply, which the inbox may refuse
-abbrev pub IsHeard : {E T : Type 0} → Ways E → Peer → List ℕ → Result T Failed → E → E → InboxTells → InboxTells
-    → Type 0
-IsHeard ways from bytes (Ok x) old new before after =
-    (replies : List InboxEvent) × Meets ways (Arrived from bytes) replies old new × Sees replies before after
-IsHeard ways from bytes (Err why) old new before after =
-    (reply : InboxEvent) × Meets ways (Arrived from bytes) (reply ∷ []) old new × Sees [] before after
+abbrev pub IsHeard : {E T : Type 0} → Ways E → Peer → List ℕ → Result T Failed → TurnState E → TurnState E → Type 0
+IsHeard ways from bytes (Ok x) old new =
+    (replies : List InboxEvent) × Meets ways (Arrived from bytes) replies old.handler new.handler
+    × Sees replies old.inbox new.inbox
+IsHeard ways from bytes (Err why) old new =
+    (reply : InboxEvent) × Meets ways (Arrived from bytes) (reply ∷ []) old.handler new.handler
+    × Sees [] old.inbox new.inbox
 
 -- A letter is one less of those that may come before a turn.
 abbrev pub SendsFewer : Wish → ℕ → ℕ → Type 0

@@ -4,8 +4,8 @@ ghost use Rattle.std.specs.Prelude.{◌≡◌, ℕ, zero, ◌+◌, ◌-◌, ◌^
 ghost use Rattle.std.specs.Prelude.{Option, Some, None, IfOk, IfErr, IfSome, IfNone, OnErr};
 ghost use Rattle.std.specs.Io.KnownBytes.{Consumes, IsAtEnd};
 ghost use Rattle.yp_io.specs.Counts.{CountsFaults, last_count};
-ghost use Rattle.yp_rpc.specs.Records.{empty_max, head, fragment, IsEmpty, TakesRecord, HasCause};
-ghost use Rattle.yp_rpc.specs.inside.Records.{HasNoFragment};
+ghost use Rattle.yp_rpc.specs.Records.{empty_max, head, fragment, IsEmpty, TakesRecord, record_start, HasCause};
+ghost use Rattle.yp_rpc.specs.inside.Records.{begun_record, HasNoFragment};
 ghost use Rattle.yp_rpc.specs.Pieces.{not_begun};
 ghost use Rattle.yp_rpc.specs.inside.Pieces.{between, HasGiven, GivesPiece, HasNoPiece};
 ghost use Rattle.yp_rpc.specs.Parts.{part_of};
@@ -100,8 +100,8 @@ impl RecordReader {
         ensures none { IfOk result
             (λ found. IfNone found (IsEmpty (S.input source.old) (S.input source.new) × (self.new ≡ self.old))) }
         ensures between { self.new.part ≡ not_begun }
-        ensures cause { IfErr result (λ fault. HasCause (length buf.new) self.old.place
-            (S.input source.old) (S.input source.new)
+        ensures cause { IfErr result (λ fault.
+            HasCause (record_start (length buf.new) self.old.place (S.input source.old)) (S.input source.new)
             (S.faults source.old) (S.faults source.new) fault) }
         ensures stays { OnErr result (self.new ≡ self.old) }
         ensures counted { S.faults source.old ≤ S.faults source.new }
@@ -128,10 +128,11 @@ impl RecordReader {
         // whatever was given of the record since its start
         ensures given { (front : List ℕ) (start : Option (List ℕ))
             → HasGiven limit front start (S.input source.old) self.old.part
-            → IfOk result (λ n. GivesPiece limit front (take n buf.new) start (S.input source.new) self.old self.new) }
+            → IfOk result (λ n. GivesPiece (record_start limit self.old.place start) front (take n buf.new)
+            (S.input source.new) self.new) }
         ensures cause { (front : List ℕ) (start : Option (List ℕ))
             → HasGiven limit front start (S.input source.old) self.old.part
-            → IfErr result (λ fault. HasNoPiece limit self.old.place start (S.input source.new)
+            → IfErr result (λ fault. HasNoPiece (record_start limit self.old.place start) (S.input source.new)
             (S.faults source.old) (S.faults source.new) fault) }
         ensures stays { OnErr result (self.new ≡ self.old) }
         ensures counted { S.faults source.old ≤ S.faults source.new }
@@ -174,7 +175,7 @@ fn read_piece<S: Source>(
         → TakesRecord limit front start (S.input source.new) place (min (place + g.part.passed) last_count)) }
     ensures cause { (front : List ℕ) (start : Option (List ℕ))
         → HasGiven limit front start (S.input source.old) (part_of part)
-        → IfErr result (λ fault. HasNoPiece limit place start (S.input source.new)
+        → IfErr result (λ fault. HasNoPiece (record_start limit place start) (S.input source.new)
         (S.faults source.old) (S.faults source.new) fault) }
     ensures counted { S.faults source.old ≤ S.faults source.new }
 {
@@ -210,7 +211,7 @@ fn begin_fragment<S: Source>(
     ensures nearer { IfOk result (λ p. (empty_max - p.empty) + (1 - p.left) < (empty_max - part.empty) + 1) }
     ensures cause { (front : List ℕ) (start : Option (List ℕ))
         → HasGiven limit front start (S.input source.old) (part_of part)
-        → IfErr result (λ fault. HasNoPiece limit place start (S.input source.new)
+        → IfErr result (λ fault. HasNoPiece (record_start limit place start) (S.input source.new)
         (S.faults source.old) (S.faults source.new) fault) }
     ensures counted { S.faults source.old ≤ S.faults source.new }
 {
@@ -263,7 +264,7 @@ fn read_head<S: Source>(source: &mut S, place: u64) -> Result<Option<Head>, Reco
     ensures none { IfOk result (λ found. IfNone found
         (IsEmpty (S.input source.old) (S.input source.new))) }
     // whatever room and empty fragments there are
-    ensures cause { (room empty : ℕ) → IfErr result (λ fault. HasNoFragment room empty place
+    ensures cause { (room empty : ℕ) → IfErr result (λ fault. HasNoFragment (begun_record room empty place)
         (S.input source.old) (S.input source.new)
         (S.faults source.old) (S.faults source.new) fault) }
     ensures counted { S.faults source.old ≤ S.faults source.new }
@@ -292,7 +293,7 @@ fn read_fragment<S: Source>(
         (fragment f.last (take f.len room.new)))) }
     ensures none { IfOk result (λ found. IfNone found
         (IsEmpty (S.input source.old) (S.input source.new))) }
-    ensures cause { IfErr result (λ fault. HasNoFragment (length room.new) empty place
+    ensures cause { IfErr result (λ fault. HasNoFragment (begun_record (length room.new) empty place)
         (S.input source.old) (S.input source.new)
         (S.faults source.old) (S.faults source.new) fault) }
     ensures counted { S.faults source.old ≤ S.faults source.new }
@@ -321,8 +322,8 @@ fn read_record<S: Source>(
         (S.input source.old) (S.input source.new) place r.end)) }
     ensures none { IfOk result (λ found. IfNone found
         (IsEmpty (S.input source.old) (S.input source.new))) }
-    ensures cause { IfErr result (λ fault. HasCause (length buf.new) place
-        (S.input source.old) (S.input source.new)
+    ensures cause { IfErr result (λ fault.
+        HasCause (record_start (length buf.new) place (S.input source.old)) (S.input source.new)
         (S.faults source.old) (S.faults source.new) fault) }
     ensures counted { S.faults source.old ≤ S.faults source.new }
 {

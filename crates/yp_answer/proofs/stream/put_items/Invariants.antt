@@ -1,5 +1,5 @@
 use Rattle.std.proofs.Common.{◌≡◌, ◌+◌, ◌-◌, ◌<◌, ◌≤◌, length}
-use Rattle.yp_answer.specs.inside.Streams.{PutsParts, item_parts, rows_in}
+use Rattle.yp_answer.specs.inside.Streams.{filled_buffer, PutsParts, item_parts, rows_in}
 use Rattle.yp_version.specs.Limits.{rows_max}
 use Rattle.yp_answer.specs.inside.Items.{items_view}
 use Rattle.yp_answer.specs.declared.stream.TheConstants.{ITEM_MAX}
@@ -9,7 +9,7 @@ abbrev pub invariant-loop-item : goal.invariant-loop-item
 invariant-loop-item l =
     let items = items_view l.items in
     record {
-      puts : PutsParts (item_parts items) l.first l.next l.at l.end l.fn.buf l.buf;
+      puts : PutsParts (item_parts items) (filled_buffer l.first l.at l.fn.buf) (filled_buffer l.next l.end l.buf);
       few : l.first < l.next → l.next ≤ rows_max + 1;
       some : l.first < rows_in items → l.at + ITEM_MAX ≤ length l.fn.buf → l.at < l.end;
     }

@@ -28,8 +28,7 @@ returns-in-Ok-clause-says g c =
     c.in_ok-have_item.ensures.more c.have_item.ensures.same in
     let xid : c.have_item.new.self.xid ≡ c.args.self.now.xid = ap (λ (r : AllReply). r.xid) c.have_item.ensures.same in
     IfOk-weaker _ _ _ (λ end pushes. rows_say _ _ _ c.have_item.new.self c.read_head.new.self c.push_rows.new.self
-    c.have_item.new.buf _ _ _ _ _ end h (rw xid at c.in-Ok.ensures.says) c.read_head.ensures.same refl
-    pushes)
+    c.have_item.new.buf _ _ _ _ _ end h (rw xid at c.in-Ok.ensures.says) c.read_head.ensures.same pushes)
     c.push_rows.ensures.pushes
 
 pub returns-in-Ok-clause-cause : goal.returns-in-Ok-clause-cause

@@ -1,5 +1,0 @@
-use Rattle.yp_host_tests.proofs.worker.mail.served.Given as goal
-
--- the book that was just opened
-abbrev pub ghosts-take_turns : goal.ghosts-take_turns
-ghosts-take_turns g a = record { book = a.opened }

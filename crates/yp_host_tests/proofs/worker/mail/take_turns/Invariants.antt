@@ -1,5 +1,0 @@
-use Rattle.yp_host_tests.proofs.worker.mail.take_turns.Given as goal
-
--- the maps of both hosts
-abbrev pub ghosts-serve_turns : goal.ghosts-serve_turns
-ghosts-serve_turns g a = record { catalogue = a.hosts.0.reader.catalogue }

@@ -1,5 +1,0 @@
-use Rattle.yp_host_tests.proofs.worker.mail.transfers.Given as goal
-
--- the book that was just opened
-abbrev pub ghosts-transfers_behind : goal.ghosts-transfers_behind
-ghosts-transfers_behind g a = record { book = a.opened }

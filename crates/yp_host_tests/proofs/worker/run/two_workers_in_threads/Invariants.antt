@@ -1,5 +1,0 @@
-use Rattle.yp_host_tests.proofs.worker.run.two_workers_in_threads.Given as goal
-
--- the book that was just opened
-abbrev pub ghosts-two : goal.ghosts-two
-ghosts-two g a = record { book = a.opened }

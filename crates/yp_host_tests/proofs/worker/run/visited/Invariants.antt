@@ -1,5 +1,0 @@
-use Rattle.yp_host_tests.proofs.worker.run.visited.Given as goal
-
--- the book that was just opened
-abbrev pub ghosts-one : goal.ghosts-one
-ghosts-one g a = record { book = a.opened }

@@ -1,5 +1,0 @@
-use Rattle.yp_host_tests.proofs.worker.shared.try_row.Given as goal
-
--- the book that was just opened
-abbrev pub ghosts-both : goal.ghosts-both
-ghosts-both g a = record { book = a.opened }
