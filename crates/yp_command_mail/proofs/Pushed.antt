@@ -33,7 +33,7 @@ use Rattle.yp_command_mail.specs.declared.finding.Which.{Which}
 use Rattle.yp_command_mail.specs.declared.finding.Which.TheVariants.{Store, Servers}
 use Rattle.yp_command_mail.specs.declared.push.PushPlan.{PushPlan}
 use Rattle.yp_command_mail.specs.Finding.{Load, LoadsMaps, LoadsFrom, LoadsServers, StopsPush, judged, which_of}
-use Rattle.yp_command_mail.specs.Push.{Job, slaves_in, ledger_of, begun}
+use Rattle.yp_command_mail.specs.Push.{Job, started_at, slaves_in, ledger_of, begun}
 use Rattle.yp_command_mail.specs.inside.Push.{begun_by, IsPlan, Plans, PlansFrom}
 use Rattle.yp_command_mail.specs.Push.{IsPushEnd, TellsPushEnd, TakesPushTurns, dial_seen, IsUnsent, IsSent}
 use Rattle.yp_command_mail.specs.inside.Push.{IsSentBy}
@@ -108,26 +108,30 @@ found_as order servers = record { order = order; servers = servers }
 
 module _ {S K D C A I T : Type 0} (seen : Seeing S K D C A I T) (job : Job) (now : ℕ) (status : Status)
     (old new : Office S K D C A I T) where
-  sent_ends : (found : Found) → IsSent seen job now found status old new → Ends status
+  sent_ends : (found : Found) → IsSent seen (started_at job now) found status old new → Ends status
   sent_ends found h = told_ends h.end h.last status _ _ h.told
 
-  found_no_disk : (found : Found) (map : MapName) → Pushes seen job now (Ok found) status old new → status ≡ DiskFault map → ⊥
+  found_no_disk : (found : Found) (map : MapName) → Pushes seen (started_at job now) (Ok found) status old new
+      → status ≡ DiskFault map → ⊥
   found_no_disk found map (inl (inl h)) e = no_disk status map (inl (inl h.1)) e
   found_no_disk found map (inl (inr (inl h))) e = let no = sym h.1 ∙ e in absurd cc
   found_no_disk found map (inl (inr (inr h))) e = no_disk status map (sent_ends found h.2) e
   found_no_disk found map (inr h) e = no_disk status map (inl (inr (inr h.0))) e
 
-  stop_no_disk : (which : Which) (map : MapName) → Pushes seen job now (Err (stop.NoVersion which)) status old new → status ≡ DiskFault map → ⊥
+  stop_no_disk : (which : Which) (map : MapName)
+      → Pushes seen (started_at job now) (Err (stop.NoVersion which)) status old new → status ≡ DiskFault map → ⊥
   stop_no_disk which map (inl h, unsent) e = none_of_disk job.store which status map h e
   stop_no_disk which map (inr h, unsent) e = no_disk status map (inl (inr (inr h))) e
 
-  unloaded_disk : (which : Which) (fault : SlotFault) (map : MapName) → Pushes seen job now (Err (stop.Unloaded which fault)) status old new
+  unloaded_disk : (which : Which) (fault : SlotFault) (map : MapName)
+      → Pushes seen (started_at job now) (Err (stop.Unloaded which fault)) status old new
       → status ≡ DiskFault map → (fault ≡ slot.DiskFault) × (name_view map ≡ which_of job.store which)
   unloaded_disk which fault map (inl h, unsent) e = of_disk (which_of job.store which) fault status map h e
   unloaded_disk which fault map (inr h, unsent) e = absurd (no_disk status map (inl (inr (inr h))) e)
 
   -- a disk's fault that is told is that of a load
-  pub from_disk : (file : Load) (servers : Option Load) (map : MapName) → Pushes seen job now (judged file servers) status old new
+  pub from_disk : (file : Load) (servers : Option Load) (map : MapName)
+      → Pushes seen (started_at job now) (judged file servers) status old new
       → status ≡ DiskFault map → IsOfDisk job.store (name_view map) file servers
   from_disk (Err fault) servers map h e =
       let is = unloaded_disk Store fault map h e in
@@ -146,13 +150,15 @@ module _ {S K D C A I T : Type 0} (seen : Seeing S K D C A I T) (job : Job) (now
 
   module _ (writes : status ≡ WriteFault → ⊥) (hears : status ≡ InboxFault → ⊥) where
     found_whole : (found : Found) → length (slaves_in job found) ≤ slaves_max
-        → Pushes seen job now (Ok found) status old new → PushIsComplete status
+        → Pushes seen (started_at job now) (Ok found) status old new → PushIsComplete status
     found_whole found few (inl (inl h)) = inl h.1
     found_whole found few (inl (inr (inl h))) = absurd (omega (arith, few, h.0))
     found_whole found few (inl (inr (inr h))) = whole_of status (sent_ends found h.2) writes hears
     found_whole found few (inr h) = inr (inr h.0)
 
-    memory_whole : (which : Which) → Pushes seen job now (Err (stop.Unloaded which slot.NoMemory)) status old new → PushIsComplete status
+    memory_whole : (which : Which)
+        → Pushes seen (started_at job now) (Err (stop.Unloaded which slot.NoMemory)) status old new
+        → PushIsComplete status
     memory_whole which (inl h, unsent) = inr (inr (is_memory (which_of job.store which) status h))
       where
         is_memory : (store : Name) (status : Status) → Fails store slot.NoMemory status → status ≡ NoMemory
@@ -168,7 +174,7 @@ module _ {S K D C A I T : Type 0} (seen : Seeing S K D C A I T) (job : Job) (now
         subst (λ (v : MapVersion). length (slaves_in job (found_as order v)) ≤ slaves_max) same few
 
     whole_alone : (a : Stands) (file : Load) → Loads a file → CanPush job a a → (IsErrOf file slot.DiskFault → ⊥)
-        → Pushes seen job now (judged file None) status old new → PushIsComplete status
+        → Pushes seen (started_at job now) (judged file None) status old new → PushIsComplete status
     whole_alone a (Ok None) loads free disk h = let no = sym free.is_stored ∙ loads in absurd cc
     whole_alone a (Ok (Some version)) loads free disk h =
         found_whole (found_as version.order version) (few_of free.named version (sym free.is_named ∙ loads) free.few version.order) h
@@ -178,7 +184,7 @@ module _ {S K D C A I T : Type 0} (seen : Seeing S K D C A I T) (job : Job) (now
 
     whole_both : (a b : Stands) (file load : Load) → Loads a file → Loads b load → CanPush job a b
         → (IsErrOf file slot.DiskFault → ⊥) → (IsErrOf load slot.DiskFault → ⊥)
-        → Pushes seen job now (judged file (Some load)) status old new → PushIsComplete status
+        → Pushes seen (started_at job now) (judged file (Some load)) status old new → PushIsComplete status
     whole_both a b (Err (slot.Damaged at rule)) load loads more free disk other h =
         let no = sym free.is_stored ∙ loads in absurd cc
     whole_both a b (Err slot.DiskFault) load loads more free disk other h = absurd (disk refl)
@@ -203,7 +209,8 @@ module _ {S K D C A I T : Type 0} (seen : Seeing S K D C A I T) (job : Job) (now
 
   module _ (writes : status ≡ WriteFault → WriteFails seen old new) (hears : status ≡ InboxFault → InboxFails seen old new)
       (file : Load) (disk : IsErrOf file slot.DiskFault → DiskFails seen old new) where
-    alone : (one : Option History) → LoadsFrom one file → Pushes seen job now (judged file None) status old new
+    alone : (one : Option History) → LoadsFrom one file
+        → Pushes seen (started_at job now) (judged file None) status old new
         → IfSome one (λ h. IfSome one (λ s. Whole h s))
     alone None loads h = tt
     alone (Some one) loads h =
@@ -211,7 +218,8 @@ module _ {S K D C A I T : Type 0} (seen : Seeing S K D C A I T) (job : Job) (now
         (λ e. disks (disk e)) h
 
     both : (one two : Option History) (load : Load) → LoadsFrom one file → LoadsFrom two load
-        → (IsErrOf load slot.DiskFault → DiskFails seen old new) → Pushes seen job now (judged file (Some load)) status old new
+        → (IsErrOf load slot.DiskFault → DiskFails seen old new)
+        → Pushes seen (started_at job now) (judged file (Some load)) status old new
         → IfSome one (λ h. IfSome two (λ s. Whole h s))
     both None two load loads more other h = tt
     both (Some one) None load loads more other h = tt
@@ -222,7 +230,7 @@ module _ {S K D C A I T : Type 0} (seen : Seeing S K D C A I T) (job : Job) (now
     at_places : (same : Bool) (servers : Option Load) → LoadsFrom (told_at seen.disk.history 0 old.disks.items) file
         → LoadsServers same (told_at seen.disk.history 1 old.disks.items) servers
         → IfSome servers (λ load. IsErrOf load slot.DiskFault → DiskFails seen old new)
-        → Pushes seen job now (judged file servers) status old new
+        → Pushes seen (started_at job now) (judged file servers) status old new
         → IfSome (told_at seen.disk.history 0 old.disks.items)
         (λ h. IfSome (told_at seen.disk.history (if same then 0 else 1) old.disks.items) (λ s. Whole h s))
     at_places true None one two other h = alone (told_at seen.disk.history 0 old.disks.items) one h
@@ -245,7 +253,7 @@ module _ {S K D C A I T : Type 0} (seen : Seeing S K D C A I T) (job : Job) (now
   pub push_does : (loaded : LoadedFiles)
       → LoadsMaps seen.disk.history seen.disk.faults job.store loaded old.disks.items new.disks.items
       → IfSome (moment seen old) (λ moment. now ≡ moment)
-      → Pushes seen job now (judged loaded.file loaded.servers) status old new
+      → Pushes seen (started_at job now) (judged loaded.file loaded.servers) status old new
       → (status ≡ WriteFault → WriteFails seen old new) → (status ≡ InboxFault → InboxFails seen old new)
       → moment seen new ≡ moment seen old
       → new ≡ record old {
@@ -278,7 +286,7 @@ module _ {S K D C A I T : Type 0} (seen : Seeing S K D C A I T) (job : Job) (now
 
 module _ {S K D C A I T : Type 0} (seen : Seeing S K D C A I T) (job : Job) (now : ℕ) (old new : Office S K D C A I T) where
   not_found : (found : Found) (status : Status) → Plans job now found (Err status) → IsUnsent old new
-      → Pushes seen job now (Ok found) status old new
+      → Pushes seen (started_at job now) (Ok found) status old new
   not_found found (Rows row rule) h unsent =
       inl (inr (inl (h.2, ap (λ (n : ℕ). Rows n rule) h.0 ∙ ap (Rows (slaves_max + 1)) h.1, unsent)))
   not_found found NoMemory h unsent = inr (refl, unsent)
@@ -286,13 +294,13 @@ module _ {S K D C A I T : Type 0} (seen : Seeing S K D C A I T) (job : Job) (now
 
   -- none was made
   pub unplanned : (judged : Result Found PushStop) (status : Status) → PlansFrom job now judged (Err status) → IsUnsent old new
-      → Pushes seen job now judged status old new
+      → Pushes seen (started_at job now) judged status old new
   unplanned (Ok found) status h unsent = not_found found status h unsent
   unplanned (Err stop) status h unsent = (h, unsent)
 
   -- there is no slave
   pub unneeded : (judged : Result Found PushStop) → PlansFrom job now judged (Ok None) → IsUnsent old new
-      → Pushes seen job now judged Done old new
+      → Pushes seen (started_at job now) judged Done old new
   unneeded (Ok found) h unsent = inl (inl (h, refl, unsent))
   unneeded (Err stop) h unsent = absurd h
 
@@ -301,7 +309,8 @@ module _ {S K D C A I T : Type 0} (seen : Seeing S K D C A I T) (job : Job) (now
       record { dial = dial; ledger = ledger; slaves = slaves; request = request; starved = false }
 
   begun_is : (found : Found) (plan : PushPlan) (dial : A) → IsPlan job now found plan
-      → length plan.slaves.items ≡ length (slaves_in job found) → begun_by plan dial ≡ begun job now found dial
+      → length plan.slaves.items ≡ length (slaves_in job found)
+      → begun_by plan dial ≡ begun (started_at job now) found dial
   begun_is found plan dial h count =
       ap (λ (l : Ledger). push_of dial l (map slave_view plan.slaves.items) (request_view plan.request))
       (h.ledger ∙ ap (ledger_of job now) count)
@@ -313,7 +322,7 @@ module _ {S K D C A I T : Type 0} (seen : Seeing S K D C A I T) (job : Job) (now
   pub planned : (judged : Result Found PushStop) (plan : PushPlan) (status : Status) (mid : Office S K D C A I T)
       → mid ≡ record old { disks = mid.disks; clock = mid.clock }
       → PlansFrom job now judged (Ok (Some plan)) → IsSentBy seen job.turns plan status mid new
-      → Pushes seen job now judged status old new
+      → Pushes seen (started_at job now) judged status old new
   planned (Err stop) plan status mid is h sent = absurd h
   planned (Ok found) plan status mid is h (inr none) =
       let e = none.1 ∙ is in
@@ -328,7 +337,7 @@ module _ {S K D C A I T : Type 0} (seen : Seeing S K D C A I T) (job : Job) (now
   planned (Ok found) plan status mid is h (inl takes) =
       let count : length plan.slaves.items ≡ length (slaves_in job found) =
       sym (length-map plan.slaves.items slave_view) ∙ ap length h.slaves in
-      let sent : IsSent seen job now found status old new =
+      let sent : IsSent seen (started_at job now) found status old new =
       subst (λ (first : Pushing A). TakesPushTurns (dial_seen seen) job.turns first status new.dial (box seen old) (box seen new) (seen.sink.output old.wire.sink) (seen.sink.output new.wire.sink))
       (begun_is found plan old.dial h count) (subst (λ (o : Office S K D C A I T). TakesPushTurns (dial_seen seen) job.turns (begun_by plan o.dial) status new.dial (box seen o) (box seen new) (seen.sink.output o.wire.sink) (seen.sink.output new.wire.sink)) is takes) in
       inl (inr (inr (omega (arith, count, h.some_), omega (arith, count, h.few), sent)))

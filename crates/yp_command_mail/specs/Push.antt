@@ -46,6 +46,14 @@ abbrev pub job_of : List ℕ → (port window turns : ℕ) → Name → HostList
 job_of name port window turns store hosts =
     record { name = name; port = port; window = window; turns = turns; store = store; hosts = hosts }
 
+-- a job, and the moment at which it is started
+pub record StartedJob : Type 0 where
+  pub job : Job
+  pub now : ℕ
+
+abbrev pub started_at : Job → ℕ → StartedJob
+started_at job now = record { job = job; now = now }
+
 -- the slaves: the servers of the domain but the own name, in rising order
 abbrev pub slaves_in : Job → Found → List Slave
 slaves_in job found = slaves_of job.name job.hosts found.servers.rows
@@ -59,12 +67,12 @@ abbrev pub ledger_of : Job → (now count : ℕ) → Ledger
 ledger_of job now count = record { slaves = count; first = now; window = job.window; events = [] }
 
 -- a push of this version to these slaves, over a dial, before its first turn
-abbrev pub begun : {A : Type 0} → Job → (now : ℕ) → Found → A → Pushing A
-begun job now found dial = record {
+abbrev pub begun : {A : Type 0} → StartedJob → Found → A → Pushing A
+begun started found dial = record {
   dial = dial;
-  ledger = ledger_of job now (length (slaves_in job found));
-  slaves = slaves_in job found;
-  request = request_of job found;
+  ledger = ledger_of started.job started.now (length (slaves_in started.job found));
+  slaves = slaves_in started.job found;
+  request = request_of started.job found;
   starved = false;
 }
 
@@ -115,30 +123,31 @@ pub record IsUnsent {S K D C A I T : Type 0} (old new : Office S K D C A I T) : 
   pub inbox : new.inbox ≡ old.inbox
 
 -- the slaves were asked in their turns, and what came of each is told
-abbrev pub IsSent : {S K D C A I T : Type 0} → Seeing S K D C A I T → Job → ℕ → Found → Status
+abbrev pub IsSent : {S K D C A I T : Type 0} → Seeing S K D C A I T → StartedJob → Found → Status
     → (old new : Office S K D C A I T) → Type 0
-IsSent seen job now found status old new =
-    TakesPushTurns (dial_seen seen) job.turns (begun job now found old.dial) status new.dial (box seen old)
+IsSent seen started found status old new =
+    TakesPushTurns (dial_seen seen) started.job.turns (begun started found old.dial) status new.dial (box seen old)
     (box seen new)
     (output seen old) (output seen new)
 
 -- By the number of slaves: where there is none, nothing is asked or told, and all is done; where there are too many,
 -- that is told; all others are asked.
-abbrev pub PushesTo : {S K D C A I T : Type 0} → Seeing S K D C A I T → Job → ℕ → Found → Status
+abbrev pub PushesTo : {S K D C A I T : Type 0} → Seeing S K D C A I T → StartedJob → Found → Status
     → (old new : Office S K D C A I T) → Type 0
-PushesTo seen job now found status old new =
-    ((slaves_in job found ≡ []) × (status ≡ Done) × IsUnsent old new)
-    ⊎ (((slaves_max < length (slaves_in job found)) × (status ≡ Rows (slaves_max + 1) rows_rule) × IsUnsent old new)
-    ⊎ ((0 < length (slaves_in job found)) × (length (slaves_in job found) ≤ slaves_max)
-    × IsSent seen job now found status old new))
+PushesTo seen started found status old new =
+    ((slaves_in started.job found ≡ []) × (status ≡ Done) × IsUnsent old new)
+    ⊎ (((slaves_max < length (slaves_in started.job found)) × (status ≡ Rows (slaves_max + 1) rows_rule)
+    × IsUnsent old new)
+    ⊎ ((0 < length (slaves_in started.job found)) × (length (slaves_in started.job found) ≤ slaves_max)
+    × IsSent seen started found status old new))
 
 -- What is done with what was found: it is pushed, or memory runs out, or the reason why not is told.
-abbrev pub Pushes : {S K D C A I T : Type 0} → Seeing S K D C A I T → Job → ℕ → Result Found PushStop → Status
+abbrev pub Pushes : {S K D C A I T : Type 0} → Seeing S K D C A I T → StartedJob → Result Found PushStop → Status
     → (old new : Office S K D C A I T) → Type 0
-Pushes seen job now (Ok found) status old new =
-    PushesTo seen job now found status old new ⊎ ((status ≡ NoMemory) × IsUnsent old new)
-Pushes seen job now (Err stop) status old new =
-    (StopsPush job.store stop status ⊎ (status ≡ NoMemory)) × IsUnsent old new
+Pushes seen started (Ok found) status old new =
+    PushesTo seen started found status old new ⊎ ((status ≡ NoMemory) × IsUnsent old new)
+Pushes seen started (Err stop) status old new =
+    (StopsPush started.job.store stop status ⊎ (status ≡ NoMemory)) × IsUnsent old new
 
 -- the statuses with which `push` may end
 abbrev pub push_may_end : Status → Bool
@@ -204,7 +213,7 @@ pub record PushDoes {S K D C A I T : Type 0} (seen : Seeing S K D C A I T) (job 
   pub loads : LoadsMaps seen.disk.history seen.disk.faults job.store loaded old.disks.items new.disks.items
   pub now : ℕ
   pub is_now : IfSome (moment seen old) (λ moment. now ≡ moment)
-  pub pushes : Pushes seen job now (judged loaded.file loaded.servers) status old new
+  pub pushes : Pushes seen (started_at job now) (judged loaded.file loaded.servers) status old new
   pub complete : IfSome (store_history seen old) (λ h. IfSome (servers_history seen job.store old) (λ s.
       CanPush job (stands h.state.reads) (stands s.state.reads)
       → ¬ DiskFails seen old new → ¬ InboxFails seen old new → ¬ WriteFails seen old new → PushIsComplete status))

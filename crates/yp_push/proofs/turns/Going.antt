@@ -16,7 +16,7 @@ use Rattle.yp_push.specs.declared.event.Event.TheVariants.{Sent, Failed, Refused
 use Rattle.yp_push.specs.declared.outcome.Missed.TheVariants.{Rpc, Maddr}
 use Rattle.yp_push.specs.declared.ledger.Sending.{Sending}
 use Rattle.yp_push.specs.Ledgers.{Ledger, with_event, asked, asked_by, outstanding, next_sending}
-use Rattle.yp_push.specs.turns.Sendings.{SlaveAnswer, IsNoted, ReachesSlave}
+use Rattle.yp_push.specs.turns.Sendings.{SlaveAnswer, IsNoted, PushTells, push_tells, ReachesSlave}
 use Rattle.yp_push.specs.turns.Pushers.{Pushing, sent_to, HasAskedSlave, SendsAll, sends_more}
 
 pub sent_more : {A : Type 0} (tells : A → DialTells) (sending : Sending) (old middle between new : Pushing A)
@@ -58,13 +58,13 @@ noted slave (Ok stat) old new h = behind old new (Refused slave stat) refl h
 noted slave (Err NoMemory) old new h = stays_so old new h
 noted slave (Err fault) old new h = behind old new (Failed slave Rpc) refl h
 
-reached : (to : Option Peer) (request : Value req_xfr) (slave : ℕ) (starved : Bool) (ledger ledger' : Ledger)
-    (old new : DialTells) → ReachesSlave to request slave starved ledger ledger' old new → IsAsMany ledger ledger'
-reached None request slave starved ledger ledger' old new h = behind ledger ledger' (Failed slave Maddr) refl h.1
-reached (Some peer) request slave starved ledger ledger' old new (inl missed) =
-    behind ledger ledger' (Failed slave Rpc) refl missed.noted
-reached (Some peer) request slave starved ledger ledger' old new (inr answered) =
-    noted slave answered.answer ledger ledger' answered.noted
+reached : (to : Option Peer) (request : Value req_xfr) (slave : ℕ) (starved : Bool) (old new : PushTells)
+    → ReachesSlave to request slave starved old new → IsAsMany old.ledger new.ledger
+reached None request slave starved old new h = behind old.ledger new.ledger (Failed slave Maddr) refl h.1
+reached (Some peer) request slave starved old new (inl missed) =
+    behind old.ledger new.ledger (Failed slave Rpc) refl missed.noted
+reached (Some peer) request slave starved old new (inr answered) =
+    noted slave answered.answer old.ledger new.ledger answered.noted
 
 below : (b c : Bool) (x y : Sending) → cond (b && c) (Some x) None ≡ Some y → b ≡ true
 below true c x y e = refl
@@ -84,7 +84,8 @@ pub fewer : {A : Type 0} (tells : A → DialTells) (sending : Sending) (middle b
     → new.ledger.slaves - length (asked new.ledger.events) < middle.ledger.slaves - length (asked middle.ledger.events)
 fewer {A} tells sending middle between new next is did =
     let under = room middle.ledger sending next in
-    let same = reached _ _ _ _ between.ledger new.ledger _ _ did.reaches in
+    let same = reached _ _ _ _ (push_tells between.ledger (tells between.dial))
+    (push_tells new.ledger (tells new.dial)) did.reaches in
     let count = same.asked in
     let slaves = same.slaves in
     let one = asked_more middle.ledger.events (Sent sending.slave) in

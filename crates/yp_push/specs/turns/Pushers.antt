@@ -7,7 +7,7 @@ use Rattle.yp_push.specs.declared.event.Event.TheVariants.{Sent, Quiet}
 use Rattle.yp_push.specs.declared.ledger.Sending.{Sending}
 use Rattle.yp_push.specs.Ledgers.{Ledger, with_event, next_sending, PushIsDone}
 use Rattle.yp_push.specs.turns.Callbacks.{asked_by, reply_to, LedgerIsTold}
-use Rattle.yp_push.specs.turns.Sendings.{Request, xfr_of, ReachesSlave}
+use Rattle.yp_push.specs.turns.Sendings.{Request, xfr_of, push_tells, ReachesSlave}
 
 -- a slave: its name, and its address, where that is known
 abbrev pub Slave : Type 0
@@ -28,7 +28,7 @@ address_of slaves slave = (slice_index_or slaves slave ([], None)).1
 -- A slave that was sent to was asked, where it has an address, and the ledger has what came of it.
 pub record HasAskedSlave {A : Type 0} (tells : A → DialTells) (sending : Sending) (old new : Pushing A) : Type 0 where
   pub reaches : ReachesSlave (address_of old.slaves sending.slave) (xfr_of old.request sending.transid) sending.slave
-      new.starved old.ledger new.ledger (tells old.dial) (tells new.dial)
+      new.starved (push_tells old.ledger (tells old.dial)) (push_tells new.ledger (tells new.dial))
   pub stays : new ≡ record old { dial = new.dial; ledger = new.ledger; starved = new.starved }
 
 -- the ledger has that a slave was sent to

@@ -75,26 +75,32 @@ IsNoted slave (Ok stat) old new = new ≡ with_event old (Refused slave stat)
 IsNoted slave (Err NoMemory) old new = new ≡ old
 IsNoted slave (Err fault) old new = new ≡ with_event old (Failed slave Rpc)
 
+-- what a push tells at a moment: its ledger, and what its dial tells
+pub record PushTells : Type 0 where
+  pub ledger : Ledger
+  pub dial : DialTells
+
+abbrev pub push_tells : Ledger → DialTells → PushTells
+push_tells ledger dial = record { ledger = ledger; dial = dial }
+
 -- A slave that has an address was asked: no wire came, or one did and has an answer. The bytes of the wire fix the
 -- answer, unless the wire failed or memory ran out.
-pub record SlaveIsAnswered (peer : Peer) (request : Value req_xfr) (slave : ℕ) (starved : Bool)
-    (ledger ledger' : Ledger)
-    (old new : DialTells) : Type 0 where
+pub record SlaveIsAnswered (peer : Peer) (request : Value req_xfr) (slave : ℕ) (starved : Bool) (old new : PushTells)
+    : Type 0 where
   pub answer : SlaveAnswer
-  pub asked : IsAsked peer request answer old new
-  pub noted : IsNoted slave answer ledger ledger'
+  pub asked : IsAsked peer request answer old.dial new.dial
+  pub noted : IsNoted slave answer old.ledger new.ledger
   pub memory : starved ≡ starves answer
 
 -- no wire came for a slave, and the ledger has that
-pub record IsMissed (slave : ℕ) (starved : Bool) (ledger ledger' : Ledger) (old new : DialTells) : Type 0 where
-  pub not_dialed : IsNotDialed old new
-  pub noted : ledger' ≡ with_event ledger (Failed slave Rpc)
+pub record IsMissed (slave : ℕ) (starved : Bool) (old new : PushTells) : Type 0 where
+  pub not_dialed : IsNotDialed old.dial new.dial
+  pub noted : new.ledger ≡ with_event old.ledger (Failed slave Rpc)
   pub memory : starved ≡ false
 
 -- One without an address wasn't asked; the dial stays.
-abbrev pub ReachesSlave : Option Peer → Value req_xfr → (slave : ℕ) → (starved : Bool) → (ledger ledger' : Ledger)
-    → (old new : DialTells) → Type 0
-ReachesSlave None request slave starved ledger ledger' old new =
-    (new ≡ old) × (ledger' ≡ with_event ledger (Failed slave Maddr)) × (starved ≡ false)
-ReachesSlave (Some peer) request slave starved ledger ledger' old new =
-    IsMissed slave starved ledger ledger' old new ⊎ SlaveIsAnswered peer request slave starved ledger ledger' old new
+abbrev pub ReachesSlave : Option Peer → Value req_xfr → (slave : ℕ) → (starved : Bool) → (old new : PushTells) → Type 0
+ReachesSlave None request slave starved old new =
+    (new.dial ≡ old.dial) × (new.ledger ≡ with_event old.ledger (Failed slave Maddr)) × (starved ≡ false)
+ReachesSlave (Some peer) request slave starved old new =
+    IsMissed slave starved old new ⊎ SlaveIsAnswered peer request slave starved old new

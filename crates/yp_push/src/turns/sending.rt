@@ -6,7 +6,8 @@ ghost use Rattle.yp_messages.specs.inside.Transfers.{req_xfr_view, ReqXfrIsWithi
 ghost use Rattle.yp_client.specs.States.{ClientModel};
 ghost use Rattle.yp_client.specs.inside.States.{state_of, unspent};
 ghost use Rattle.yp_push.specs.inside.Ledgers.{IsUnanswered};
-ghost use Rattle.yp_push.specs.turns.Sendings.{starves, IsNotDialed, IsCalled, IsAsked, IsNoted, ReachesSlave};
+ghost use Rattle.yp_push.specs.turns.Sendings.{starves, IsNotDialed, IsCalled, IsAsked, IsNoted};
+ghost use Rattle.yp_push.specs.turns.Sendings.{push_tells, ReachesSlave};
 
 use crate::{Missed, Push};
 use std::alloc::Global;
@@ -80,8 +81,8 @@ pub fn send<A: Dial>(
 ) -> bool
     requires within { ReqXfrIsWithin request.now }
     requires unanswered { IsUnanswered push.old slave }
-    ensures { ReachesSlave to (req_xfr_view request.now) slave result push.old push.new
-        (dial_by A.Dial dial.old) (dial_by A.Dial dial.new) }
+    ensures { ReachesSlave to (req_xfr_view request.now) slave result
+        (push_tells push.old (dial_by A.Dial dial.old)) (push_tells push.new (dial_by A.Dial dial.new)) }
 {
     let Some(peer) = to else {
         push.on_failed(slave, Missed::Maddr);
