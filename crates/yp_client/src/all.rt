@@ -7,7 +7,7 @@ ghost use Rattle.yp_xdr.specs.inside.Reading.{end_of};
 ghost use Rattle.yp_xdr.specs.inside.Cursor.{unread};
 ghost use Rattle.yp_rpc.specs.Pieces.{not_begun};
 ghost use Rattle.yp_rpc.specs.inside.Pieces.{HasNoPiece};
-ghost use Rattle.yp_rpc.specs.Records.{TakesRecord};
+ghost use Rattle.yp_rpc.specs.Records.{TakesRecord, record_start};
 ghost use Rattle.yp_version.specs.Drafts.{refused, with_row};
 ghost use Rattle.yp_client.specs.Limits.{reply_max, all_max};
 ghost use Rattle.yp_client.specs.Results.{Says};
