@@ -3,7 +3,7 @@ use Rattle.std.proofs.Common.{◌≡◌, ℕ, Ok, Err, None, refl, inl}
 use Rattle.yp_io.specs.Counts.{HasRisen}
 use Rattle.yp_io.specs.declared.stream.Failed.{Failed}
 use Rattle.yp_rpc.specs.declared.turns.Ended.{Ended}
-use Rattle.yp_rpc.specs.Turns.{TakesTurns, InboxTells, inbox_tells}
+use Rattle.yp_rpc.specs.Turns.{turn_state, TakesTurns, InboxTells, inbox_tells}
 use Rattle.yp_command.specs.declared.office.status.Status.{Status}
 use Rattle.yp_command.specs.declared.office.status.Status.TheVariants.{WriteFault, InboxFault}
 use Rattle.yp_command.specs.declared.office.office.Office.{Office}
@@ -39,7 +39,7 @@ module _ {S K D C A I T : Type 0} (seen : Seeing S K D C A I T) (turns : ℕ) (o
   -- ---- the commands
 
   pub mapper_failed : (first last : Asking) (inbox : I) (why : Failed) → first.answer ≡ None
-      → TakesTurns asking_ways turns (Err why) first last (box seen old) (told_box inbox) → BoxFails inbox
+      → TakesTurns asking_ways turns (Err why) (turn_state first (box seen old)) (turn_state last (told_box inbox)) → BoxFails inbox
       → MapperDoes seen turns first InboxFault old (turned inbox)
   mapper_failed first last inbox why none takes fails = record {
     asks = inl (record {
@@ -56,7 +56,7 @@ module _ {S K D C A I T : Type 0} (seen : Seeing S K D C A I T) (turns : ℕ) (o
 
   pub mapper_told : (first last : Asking) (inbox : I) (sink : K) (status : Status) (end : Ended)
       → first.answer ≡ None
-      → TakesTurns asking_ways turns (Ok end) first last (box seen old) (told_box inbox)
+      → TakesTurns asking_ways turns (Ok end) (turn_state first (box seen old)) (turn_state last (told_box inbox))
       → TellsText (answer_text first.call last.answer) (answer_status turns last.answer) status (seen.sink.output old.wire.sink)
       (seen.sink.output sink)
       → (status ≡ WriteFault → SinkFails sink) → (status ≡ InboxFault → ⊥)

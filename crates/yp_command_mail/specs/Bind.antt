@@ -14,7 +14,7 @@ use Rattle.yp_rpc.specs.Read.{reply_at}
 use Rattle.yp_messages.specs.Messages.{req_domain}
 use Rattle.yp_messages.specs.Numbers.{program, version, domain_nonack_procedure}
 use Rattle.yp_rpc.specs.declared.turns.Ended.{Ended}
-use Rattle.yp_rpc.specs.Turns.{Want, Letter, Turn, Ways, ways_of, TakesTurns}
+use Rattle.yp_rpc.specs.Turns.{Want, Letter, Turn, Ways, ways_of, turn_state, TakesTurns}
 use Rattle.yp_binding.specs.declared.binder.Ping.{Ping}
 use Rattle.yp_binding.specs.declared.binder.Policy.{Policy}
 use Rattle.yp_binding.specs.declared.event.Event.TheVariants.{Called, Offered, Quiet}
@@ -131,7 +131,8 @@ pub record TellsBinding {S K D C A I T : Type 0} (seen : Seeing S K D C A I T) (
     (servers : List Peer) (policy : Policy) (status : Status) (old new : Office S K D C A I T) : Type 0 where
   pub end : Result Ended Failed
   pub last : Bindings
-  pub takes : TakesTurns binding_ways turns end (unbound domain servers policy) last (box seen old) (box seen new)
+  pub takes : TakesTurns binding_ways turns end (turn_state (unbound domain servers policy) (box seen old))
+      (turn_state last (box seen new))
   pub tells : TellsText (bound_text end domain last) (bound_status end) status (output seen old) (output seen new)
 
 -- What `bind` does: it asks and answers in its turns, and tells the server that the domain is bound to; or memory runs

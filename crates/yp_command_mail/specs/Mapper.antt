@@ -9,7 +9,8 @@ use Rattle.yp_xdr.specs.declared.fault.XdrFault.{XdrFault}
 use Rattle.yp_xdr.specs.Faults.{fault_place}
 use Rattle.yp_rpc.specs.declared.turns.Ended.{Ended}
 use Rattle.yp_io.specs.Inboxes.{InboxEvent, Arrived, Silent, Sent}
-use Rattle.yp_rpc.specs.Turns.{Want, Letter, Turn, Nothing, Ways, ways_of, TakesTurns, datagram_max}
+use Rattle.yp_rpc.specs.Turns.{Want, Letter, Turn, Nothing, Ways, ways_of, turn_state, TakesTurns}
+use Rattle.yp_rpc.specs.Turns.{datagram_max}
 use Rattle.yp_binding.specs.Rounds.{is_same_peer}
 use Rattle.yp_binding.specs.declared.portmap.asking.PortCall.{PortCall}
 use Rattle.yp_binding.specs.declared.portmap.asking.PortCall.TheVariants.{GetPort, Set, Unset}
@@ -161,7 +162,7 @@ pub record AsksMapper {S K D C A I T : Type 0} (seen : Seeing S K D C A I T) (tu
     (status : Status) (old new : Office S K D C A I T) : Type 0 where
   pub end : Result Ended Failed
   pub last : Asking
-  pub takes : TakesTurns asking_ways turns end first last (box seen old) (box seen new)
+  pub takes : TakesTurns asking_ways turns end (turn_state first (box seen old)) (turn_state last (box seen new))
   pub tells : TellsText (asked_text first.call end last.answer) (asked_status turns end last.answer) status
       (output seen old) (output seen new)
   pub answered : last.answer ≡ option_map (answer_read first.call) (first_answer first.mapper takes.events)

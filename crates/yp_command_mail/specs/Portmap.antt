@@ -4,7 +4,7 @@ use Rattle.std.specs.Prelude.{Result, Ok, Err, codes, decimal}
 use Rattle.yp_io.specs.declared.stream.Failed.{Failed}
 use Rattle.yp_io.specs.declared.stream.Peer.{Peer}
 use Rattle.yp_rpc.specs.declared.turns.Ended.{Ended}
-use Rattle.yp_rpc.specs.Turns.{Want, Turn, Ways, ways_of, TakesTurns}
+use Rattle.yp_rpc.specs.Turns.{Want, Turn, Ways, ways_of, turn_state, TakesTurns}
 use Rattle.yp_binding.specs.declared.portmap.mapping.Mapping.{Mapping}
 use Rattle.yp_binding.specs.portmap.Replies.{reply as reply_to, after}
 use Rattle.yp_command.specs.declared.office.status.Status.{Status}
@@ -69,7 +69,8 @@ portmap_may_end _ = false
 -- The turns were taken in which the port mapper answers, which begins without mappings.
 pub record ServesPorts {S K D C A I T : Type 0} (seen : Seeing S K D C A I T) (turns : ℕ)
     (end : Result Ended Failed) (mappings : List Mapping) (old new : Office S K D C A I T) : Type 0 where
-  pub takes : TakesTurns mapper_ways turns end (mapper_of []) (mapper_of mappings) (box seen old) (box seen new)
+  pub takes : TakesTurns mapper_ways turns end (turn_state (mapper_of []) (box seen old))
+      (turn_state (mapper_of mappings) (box seen new))
 
 -- The mappings that stand at the end are told. What happened at the inbox fixes them.
 pub record TellsPorts {S K D C A I T : Type 0} (seen : Seeing S K D C A I T) (turns : ℕ) (status : Status)

@@ -11,7 +11,7 @@ use Rattle.yp_board.specs.Catalogues.{Name, name_view}
 use Rattle.yp_board.specs.declared.catalog.MapName.{MapName}
 use Rattle.yp_transfer.specs.HostTable.{HostList}
 use Rattle.yp_rpc.specs.declared.turns.Ended.{Ended}
-use Rattle.yp_rpc.specs.Turns.{TakesTurns, InboxTells}
+use Rattle.yp_rpc.specs.Turns.{turn_state, TakesTurns, InboxTells}
 use Rattle.yp_push.specs.Ledgers.{Ledger, slaves_max}
 use Rattle.yp_push.specs.turns.Sendings.{Request}
 use Rattle.yp_push.specs.turns.Slaves.{slaves_of}
@@ -106,7 +106,7 @@ pub record TakesPushTurns {A : Type 0} (tells : A → DialTells) (turns : ℕ) (
     (before after : InboxTells) (out out' : Option (List ℕ)) : Type 0 where
   pub end : Result Ended Failed
   pub last : Pushing A
-  pub takes : TakesTurns (pushing_ways tells) turns end first last before after
+  pub takes : TakesTurns (pushing_ways tells) turns end (turn_state first before) (turn_state last after)
   pub dial_is : dial ≡ last.dial
   pub told : TellsPushEnd end last status out out'
 

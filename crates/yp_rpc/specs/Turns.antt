@@ -88,11 +88,19 @@ pub record Sees (events : List InboxEvent) (old new : InboxTells) : Type 0 where
   pub turns : new.turns ≡ counted (length (turns_of events)) old.turns
   pub quiets : new.quiets ≡ counted (quiets_of events) old.quiets
 
+-- a handler and its inbox at a moment
+pub record TurnState (E : Type 0) : Type 0 where
+  pub handler : E
+  pub inbox : InboxTells
+
+abbrev pub turn_state : {E : Type 0} → E → InboxTells → TurnState E
+turn_state handler inbox = record { handler = handler; inbox = inbox }
+
 -- A handler had so many turns of an inbox at most, with this end. What happened meanwhile is what the inbox gained.
-pub record TakesTurns {E : Type 0} (ways : Ways E) (most : ℕ) (end : Result Ended Failed) (old new : E)
-    (before after : InboxTells) : Type 0 where
+pub record TakesTurns {E : Type 0} (ways : Ways E) (most : ℕ) (end : Result Ended Failed)
+    (old new : TurnState E) : Type 0 where
   pub events : List InboxEvent
-  pub runs : Runs ways most events end old new
-  pub sees : Sees events before after
+  pub runs : Runs ways most events end old.handler new.handler
+  pub sees : Sees events old.inbox new.inbox
   pub within : length (turns_of events) ≤ most
   pub all : end ≡ Ok Spent → length (turns_of events) ≡ most

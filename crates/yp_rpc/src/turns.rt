@@ -2,8 +2,8 @@
 
 ghost use Rattle.std.specs.Prelude.{◌≡◌, ◌+◌, ◌≤◌, ◌<◌, length};
 ghost use Rattle.yp_io.specs.Counts.{CountsFaults};
-ghost use Rattle.yp_rpc.specs.Turns.{datagram_max, TakesTurns};
-ghost use Rattle.yp_rpc.specs.inside.Turns.{box_by, BeginsTurn, HasTurn, turn_state, IsHeard};
+ghost use Rattle.yp_rpc.specs.Turns.{datagram_max, turn_state, TakesTurns};
+ghost use Rattle.yp_rpc.specs.inside.Turns.{box_by, BeginsTurn, HasTurn, IsHeard};
 ghost use Rattle.yp_rpc.specs.inside.Ways.{ways_by};
 
 use crate::handler::{DATAGRAM_MAX, Handler, Wish};
@@ -113,8 +113,8 @@ pub fn take_turns<I: Inbox, E: Handler>(
     room: &mut Room,
     most: u64,
 ) -> Result<Ended, Failed>
-    ensures takes { TakesTurns (ways_by E.Handler) most result handler.old handler.new
-        (box_by I.Inbox inbox.old) (box_by I.Inbox inbox.new) }
+    ensures takes { TakesTurns (ways_by E.Handler) most result
+        (turn_state handler.old (box_by I.Inbox inbox.old)) (turn_state handler.new (box_by I.Inbox inbox.new)) }
     ensures cause { CountsFaults (I.faults inbox.old) (I.faults inbox.new) result }
 {
     for _ in 0..most {

@@ -23,7 +23,7 @@ use Rattle.yp_command_maps.specs.walk.Turns.{Awaiting, is_on, goes_on, wish, sen
 use Rattle.yp_command_maps.specs.walk.Turns.{walker_ways, heard_of, StandsFor, first_of, Gave, IsCame, WalksTo}
 use Rattle.yp_command_maps.specs.declared.walk.walker.Came.{Came}
 use Rattle.yp_command_maps.specs.declared.walk.walker.Came.TheVariants.{Outcome as HasOutcome, Spent, Failed as HasFailed}
-use Rattle.yp_rpc.specs.Turns.{InboxTells, TakesTurns}
+use Rattle.yp_rpc.specs.Turns.{InboxTells, turn_state, TakesTurns}
 use Rattle.yp_transfer.specs.Fetching.{FetchOutcome}
 use Rattle.yp_transfer.specs.walk.Standings.{IsAsking}
 use Rattle.yp_transfer.specs.walk.Schedules.{outstanding}
@@ -237,7 +237,7 @@ asks_on (HasEnded outcome) h = absurd h
 asks_on _ h = refl
 
 pub walks_ok : (source : Peer) (wanted : Wanted) (most : ℕ) (end : Ended) (last : Awaiting) (before after : InboxTells)
-    (came : Came) → TakesTurns walker_ways most (Ok end) (first_of source wanted) last before after
+    (came : Came) → TakesTurns walker_ways most (Ok end) (turn_state (first_of source wanted) before) (turn_state last after)
     → ((is_on last ≡ true → end ≡ AllTaken) → IsCame (Ok end) last.walk.standing came)
     → WalksTo source wanted most came before after
 walks_ok source wanted most end last before after came takes comes = record {
@@ -249,7 +249,7 @@ walks_ok source wanted most end last before after came takes comes = record {
 }
 
 pub walks_failed : (source : Peer) (wanted : Wanted) (most : ℕ) (why : Failed) (last : Awaiting) (before after : InboxTells)
-    → TakesTurns walker_ways most (Err why) (first_of source wanted) last before after
+    → TakesTurns walker_ways most (Err why) (turn_state (first_of source wanted) before) (turn_state last after)
     → WalksTo source wanted most HasFailed before after
 walks_failed source wanted most why last before after takes = record {
   end = Err why;
@@ -290,12 +290,13 @@ never_failed end standing HasFailed h e = h
 -- the same of a walk that was begun
 pub walks_begun : (source : Peer) (wanted : Wanted) (most : ℕ) (end : Ended) (walk : Walking) (last : Awaiting)
     (before after : InboxTells) (came : Came) → walk ≡ begun source wanted
-    → TakesTurns walker_ways most (Ok end) (record { walk = walk; is_due = true }) last before after
+    → TakesTurns walker_ways most (Ok end) (turn_state {E = Awaiting} (record { walk = walk; is_due = true }) before)
+    (turn_state last after)
     → ((is_on last ≡ true → end ≡ AllTaken) → IsCame (Ok end) last.walk.standing came)
     → WalksTo source wanted most came before after × (came ≡ HasFailed → ⊥)
 walks_begun source wanted most end walk last before after came e takes comes =
-    let here = subst (λ (w : Walking). TakesTurns walker_ways most (Ok end) (record { walk = w; is_due = true }) last before
-    after) e takes in
+    let here = subst (λ (w : Walking). TakesTurns walker_ways most (Ok end)
+    (turn_state {E = Awaiting} (record { walk = w; is_due = true }) before) (turn_state last after)) e takes in
     let spent = λ (on : is_on last ≡ true). on_is_spent source wanted most here.events end (first_of source wanted) last
     here.runs on in (
       walks_ok source wanted most end last before after came here comes,
@@ -304,9 +305,10 @@ walks_begun source wanted most end walk last before after came e takes comes =
 
 pub walks_lost : (source : Peer) (wanted : Wanted) (most : ℕ) (why : Failed) (walk : Walking) (last : Awaiting)
     (before after : InboxTells) → walk ≡ begun source wanted
-    → TakesTurns walker_ways most (Err why) (record { walk = walk; is_due = true }) last before after
+    → TakesTurns walker_ways most (Err why) (turn_state {E = Awaiting} (record { walk = walk; is_due = true }) before)
+    (turn_state last after)
     → WalksTo source wanted most HasFailed before after
 walks_lost source wanted most why walk last before after e takes =
     walks_failed source wanted most why last before after
-    (subst (λ (w : Walking). TakesTurns walker_ways most (Err why) (record { walk = w; is_due = true }) last before after) e
-    takes)
+    (subst (λ (w : Walking). TakesTurns walker_ways most (Err why)
+    (turn_state {E = Awaiting} (record { walk = w; is_due = true }) before) (turn_state last after)) e takes)

@@ -6,7 +6,8 @@ use Rattle.yp_io.specs.declared.stream.Peer.{Peer}
 use Rattle.yp_io.specs.Inboxes.{InboxEvent, Arrived, Silent, Sent}
 use Rattle.yp_rpc.specs.declared.turns.Ended.{Ended}
 use Rattle.yp_rpc.specs.declared.turns.Ended.TheVariants.{Spent as AllTaken}
-use Rattle.yp_rpc.specs.Turns.{Want, Letter, Turn, Nothing, Ways, ways_of, InboxTells, TakesTurns, datagram_max}
+use Rattle.yp_rpc.specs.Turns.{Want, Letter, Turn, Nothing, Ways, ways_of, InboxTells, datagram_max}
+use Rattle.yp_rpc.specs.Turns.{turn_state, TakesTurns}
 use Rattle.yp_transfer.specs.declared.fault.XfrFault.{XfrFault}
 use Rattle.yp_transfer.specs.declared.fault.XfrFault.TheVariants.{NoMemory}
 use Rattle.yp_transfer.specs.Fetching.{Wanted, FetchOutcome}
@@ -112,6 +113,6 @@ pub record WalksTo (source : Peer) (wanted : Wanted) (turns : ℕ) (came : Came)
     (before after : InboxTells) : Type 0 where
   pub end : Result Ended Failed
   pub last : Awaiting
-  pub takes : TakesTurns walker_ways turns end (first_of source wanted) last before after
+  pub takes : TakesTurns walker_ways turns end (turn_state (first_of source wanted) before) (turn_state last after)
   pub stands : StandsFor source wanted (heard_of takes.events) last.walk
   pub comes : IsCame end last.walk.standing came

@@ -10,7 +10,8 @@ use Rattle.yp_rpc.specs.declared.handler.Wish.{Wish}
 use Rattle.yp_rpc.specs.declared.handler.Wish.TheVariants as wish
 use Rattle.yp_rpc.specs.declared.turns.Ended.{Ended}
 use Rattle.yp_rpc.specs.declared.turns.Ended.TheVariants.{Done}
-use Rattle.yp_rpc.specs.Turns.{Want, Ways, Meets, Runs, InboxTells, inbox_tells, Sees, Letter, Turn, Nothing, replies}
+use Rattle.yp_rpc.specs.Turns.{Want, Ways, Meets, Runs, InboxTells, inbox_tells, Sees, TurnState}
+use Rattle.yp_rpc.specs.Turns.{Letter, Turn, Nothing, replies}
 
 -- a handler's wish, with its letter at the front of a buffer
 abbrev pub want_of : Wish → List ℕ → Want
@@ -82,14 +83,6 @@ abbrev pub HasTurn : {E T : Type 0} → Ways E → Result T Failed → E → E �
 HasTurn ways (Ok x) old new before after = MeetsTurn ways old new before after
 HasTurn ways (Err why) old new before after =
     ((new ≡ old) × Sees [] before after) ⊎ LosesReply ways old new before after
-
--- a handler and its inbox at a moment
-pub record TurnState (E : Type 0) : Type 0 where
-  pub handler : E
-  pub inbox : InboxTells
-
-abbrev pub turn_state : {E : Type 0} → E → InboxTells → TurnState E
-turn_state handler inbox = record { handler = handler; inbox = inbox }
 
 -- a datagram that is heard, with its reply, which the inbox may refuse
 abbrev pub IsHeard : {E T : Type 0} → Ways E → Peer → List ℕ → Result T Failed → TurnState E → TurnState E → Type 0

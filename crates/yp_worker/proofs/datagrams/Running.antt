@@ -6,7 +6,7 @@ use Rattle.yp_io.specs.declared.stream.Peer.{Peer}
 use Rattle.yp_io.specs.declared.stream.Failed.{Failed}
 use Rattle.yp_io.specs.Inboxes.{InboxEvent, Arrived}
 use Rattle.yp_answer.specs.session.Hosts.{Counts, Conduct}
-use Rattle.yp_rpc.specs.Turns.{Meets, drops, listens, replies, is_quiet, Runs, is_spent, is_done, sends, loses_letter, takes, loses_turn, loses_reply, InboxTells, datagram_max, TakesTurns}
+use Rattle.yp_rpc.specs.Turns.{Meets, drops, listens, replies, is_quiet, Runs, is_spent, is_done, sends, loses_letter, takes, loses_turn, loses_reply, InboxTells, datagram_max, turn_state, TakesTurns}
 use Rattle.yp_rpc.specs.declared.turns.Ended.{Ended}
 use Rattle.yp_rpc.specs.declared.turns.Ended.TheVariants.{Done, Spent}
 use Rattle.yp_board.specs.Views.{Seen}
@@ -265,7 +265,7 @@ module _ {H T : Type 0} (conduct : Conduct H) (counted : H → T) where
       (end_later most (length serves.served) end serves.rest serves.last new.host serves.ends))
 
   pub serves_mail : (most : ℕ) (end : Result Ended Failed) (old last new : Mailing H) (a b : InboxTells)
-      → TakesTurns (mail_ways conduct counted) most end old last a b → Closes conduct end last new → ServesMail conduct counted most end old new a b
+      → TakesTurns (mail_ways conduct counted) most end (turn_state old a) (turn_state last b) → Closes conduct end last new → ServesMail conduct counted most end old new a b
   serves_mail most end old last new a b took closes =
       let serves = served_in most took.events end old last new took.runs closes in
       let went = whole_later most end took.events old new serves in
