@@ -179,7 +179,8 @@ module _ {E : Type 0} (ways : Ways E) where
   counts_all most events end old new (loses_reply left turn reply why a w b goes meets) is = absurd cc
 
   takes_all : (most : ℕ) (events : List InboxEvent) (end : Result Ended Failed) (old new : E) (a b : InboxTells)
-      → Runs ways most events end old new → Sees events a b → TakesTurns ways most end (turn_state old a) (turn_state new b)
+      → Runs ways most events end old new → Sees events a b
+      → TakesTurns ways most end (turn_state old a) (turn_state new b)
   takes_all most events end old new a b runs sees = record {
     events = events;
     runs = runs;
@@ -226,7 +227,8 @@ module _ {E : Type 0} (ways : Ways E) where
       whole.sees
 
   pub whole_stops : (most n left : ℕ) (end : Result Ended Failed) (old last new : E) (a b c : InboxTells) → n ≡ suc left
-      → Whole most n old last a b → EndsWithoutTurn ways end last new b c → TakesTurns ways most end (turn_state old a) (turn_state new c)
+      → Whole most n old last a b → EndsWithoutTurn ways end last new b c
+      → TakesTurns ways most end (turn_state old a) (turn_state new c)
   whole_stops most n left end old last new a b c is whole stops =
       takes_all most (whole.events ++ stops.events) end old new a c
       (whole.leads stops.events end new (subst (λ (k : ℕ). Runs ways k stops.events end last new) (sym is) (stops.runs left)))
@@ -234,7 +236,8 @@ module _ {E : Type 0} (ways : Ways E) where
 
   pub whole_lost : (most n left : ℕ) (why : Failed) (old last waiting new : E) (a b c d : InboxTells) → n ≡ suc left
       → Whole most n old last a b → WaitsForTurn ways last waiting b c
-      → ((new ≡ waiting) × Sees [] c d) ⊎ LosesReply ways waiting new c d → TakesTurns ways most (Err why) (turn_state old a) (turn_state new d)
+      → ((new ≡ waiting) × Sees [] c d) ⊎ LosesReply ways waiting new c d
+      → TakesTurns ways most (Err why) (turn_state old a) (turn_state new d)
   whole_lost most n left why old last waiting new a b c d is whole waits (inl lost) =
       let turn = subst (λ (e : E). ways.goes waits.last Turn e) (sym lost.0) waits.turn in
       takes_all most (whole.events ++ (waits.events ++ [])) (Err why) old new a d
@@ -259,7 +262,8 @@ module _ {E : Type 0} (ways : Ways E) where
 
   pub fails_at : (result : Result Ended Failed) (most n left : ℕ) (why : Failed) (old last waiting new : E) (a b c d : InboxTells)
       → IsErr result → n ≡ suc left → Whole most n old last a b → WaitsForTurn ways last waiting b c
-      → ((new ≡ waiting) × Sees [] c d) ⊎ LosesReply ways waiting new c d → TakesTurns ways most result (turn_state old a) (turn_state new d)
+      → ((new ≡ waiting) × Sees [] c d) ⊎ LosesReply ways waiting new c d
+      → TakesTurns ways most result (turn_state old a) (turn_state new d)
   fails_at (Ok x) most n left why old last waiting new a b c d is count whole waits lost = absurd cc
   fails_at (Err other) most n left why old last waiting new a b c d is count whole waits lost =
       whole_lost most n left other old last waiting new a b c d count whole waits lost

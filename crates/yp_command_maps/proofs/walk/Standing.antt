@@ -237,7 +237,8 @@ asks_on (HasEnded outcome) h = absurd h
 asks_on _ h = refl
 
 pub walks_ok : (source : Peer) (wanted : Wanted) (most : ℕ) (end : Ended) (last : Awaiting) (before after : InboxTells)
-    (came : Came) → TakesTurns walker_ways most (Ok end) (turn_state (first_of source wanted) before) (turn_state last after)
+    (came : Came) → TakesTurns walker_ways most (Ok end) (turn_state (first_of source wanted) before)
+    (turn_state last after)
     → ((is_on last ≡ true → end ≡ AllTaken) → IsCame (Ok end) last.walk.standing came)
     → WalksTo source wanted most came before after
 walks_ok source wanted most end last before after came takes comes = record {
