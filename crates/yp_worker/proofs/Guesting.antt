@@ -7,7 +7,7 @@ use Rattle.yp_io.specs.declared.ready.TrySource as try_source
 use Rattle.yp_io.specs.declared.ready.TrySink as try_sink
 use Rattle.yp_answer.specs.session.Hosts.{Conduct}
 use Rattle.yp_answer.specs.session.Cuts.{Deed}
-use Rattle.yp_answer.specs.inside.session.Cuts.{DoesDeeds, GoesOn, Talk, cut_of}
+use Rattle.yp_answer.specs.inside.session.Cuts.{DoesDeeds, GoesOn, Talk, cut_of, talking}
 use Rattle.yp_worker.specs.Working.{WorkerStep, Learned, TookOver, Did, deeds_of, TakesSteps}
 use Rattle.yp_worker.specs.inside.GuestStates.{GuestState}
 use Rattle.yp_worker.specs.inside.Guests.{steps_then, came_with, WorksOn}
@@ -75,7 +75,7 @@ module _ {H T : Type 0} (conduct : Conduct H) (counted : H → T) where
   -- ---- one guest goes on
 
   pub works_on : {S K : Type 0} (source : try_source.Ghosts S) (sink : try_sink.Ghosts K) (carries : Bool) (guest : GuestState S K) (talk : Talk S K) (old new : H)
-      → GoesOn conduct guest.origin.peer carries old new (cut_of source sink guest.talk) (cut_of source sink talk)
+      → GoesOn conduct guest.origin.peer carries (talking old (cut_of source sink guest.talk)) (talking new (cut_of source sink talk))
       → WorksOn conduct counted source sink guest (record guest { talk = talk }) old new
   works_on source sink carries guest talk old new goes = record {
     deeds = goes.deeds;

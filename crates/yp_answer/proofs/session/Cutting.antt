@@ -20,7 +20,7 @@ use Rattle.yp_answer.specs.session.Runs.{sent_reply}
 use Rattle.yp_answer.specs.session.Cuts.{Deed, Answered, Carried, Read, turns_of, waiting_behind, sent_over, IsPaidUp, AreInOrder, Cut, AreFramed, messages_of, written, IsCut}
 use Rattle.yp_answer.specs.session.Makes.{may_make}
 use Rattle.yp_answer.proofs.session.Making.{unmade}
-use Rattle.yp_answer.specs.inside.session.Cuts.{DoesDeeds, SeesOn, IsBrief, Follows, FollowsRead, GoesOn}
+use Rattle.yp_answer.specs.inside.session.Cuts.{DoesDeeds, SeesOn, IsBrief, Follows, FollowsRead, GoesOn, talking}
 
 -- ---- lists of deeds
 
@@ -90,18 +90,18 @@ module _ {H : Type 0} (conduct : Conduct H) (peer : Peer) (carries : Bool) where
 
   -- a conversation goes on, and its host stays
   pub goes_by : (deeds : List Deed) (host : H) (a b : Cut) → DoesDeeds conduct peer deeds host host → All IsBrief deeds → Follows deeds a b
-      → GoesOn conduct peer carries host host a b
+      → GoesOn conduct peer carries (talking host a) (talking host b)
   goes_by deeds host a b does brief follows =
       record { deeds = deeds; does = does; brief = λ e. brief; follows = follows; sees = sees_same (conduct.seen host) }
 
-  pub goes_still : (host : H) (a b : Cut) → Follows [] a b → GoesOn conduct peer carries host host a b
+  pub goes_still : (host : H) (a b : Cut) → Follows [] a b → GoesOn conduct peer carries (talking host a) (talking host b)
   goes_still host a b follows = goes_by [] host a b refl (All-nil IsBrief) follows
 
-  pub goes_read : (host : H) (a b : Cut) → FollowsRead a b → GoesOn conduct peer carries host host a b
+  pub goes_read : (host : H) (a b : Cut) → FollowsRead a b → GoesOn conduct peer carries (talking host a) (talking host b)
   goes_read host a b (inl follows) = goes_still host a b follows
   goes_read host a b (inr follows) = goes_by (Read a.wire ∷ []) host a b (host, refl, refl) (All-cons IsBrief (Read a.wire) [] tt (All-nil IsBrief)) follows
 
-  pub goes_then : (old mid new : H) (a b c : Cut) → GoesOn conduct peer carries old mid a b → GoesOn conduct peer carries mid new b c → GoesOn conduct peer carries old new a c
+  pub goes_then : (old mid new : H) (a b c : Cut) → GoesOn conduct peer carries (talking old a) (talking mid b) → GoesOn conduct peer carries (talking mid b) (talking new c) → GoesOn conduct peer carries (talking old a) (talking new c)
   goes_then old mid new a b c first second = record {
     deeds = first.deeds ++ second.deeds;
     does = does_then first.deeds second.deeds old mid new first.does second.does;
@@ -236,7 +236,7 @@ carried_follow taken old settled waiting start before is =
     }
 
 pub goes_carried : {H : Type 0} (conduct : Conduct H) (peer : Peer) (carries : Bool) (taken : Taken) (old new : H) (cut : Cut) → carries ≡ true
-    → cut.settled ≡ true → cut.waiting ≡ Some taken → CarriesOut conduct taken peer old new → GoesOn conduct peer carries old new cut (record cut { waiting = None })
+    → cut.settled ≡ true → cut.waiting ≡ Some taken → CarriesOut conduct taken peer old new → GoesOn conduct peer carries (talking old cut) (talking new (record cut { waiting = None }))
 goes_carried conduct peer carries taken old new cut does settled waiting carried = record {
   deeds = Carried taken cut.wire ∷ [];
   does = (new, carried, refl);
@@ -301,7 +301,7 @@ answers_follow turn old new sound free waiting answers start before is =
 
 pub goes_answered : {H : Type 0} (conduct : Conduct H) (peer : Peer) (carries : Bool) (turn : Turn) (old new : H) (a b : Cut) → a.broken ≡ false → a.rest ≡ []
     → a.waiting ≡ None → turn.flushed ≡ false → Link conduct Stream peer turn old new → (carries ≡ false → may_make Stream peer turn.message ≡ false)
-    → SeesOn (conduct.seen old) (conduct.seen new) → Answers turn a b → GoesOn conduct peer carries old new a b
+    → SeesOn (conduct.seen old) (conduct.seen new) → Answers turn a b → GoesOn conduct peer carries (talking old a) (talking new b)
 goes_answered conduct peer carries turn old new a b sound free waiting unsent link short sees answers = record {
   deeds = Answered turn ∷ [];
   does = (new, (unsent, link), refl);

@@ -17,7 +17,7 @@ ghost use Rattle.yp_answer.specs.inside.session.Errands.{IsDue};
 ghost use Rattle.yp_answer.specs.declared.procedure.Path.TheVariants.{Stream};
 ghost use Rattle.yp_answer.specs.session.Makes.{may_make};
 ghost use Rattle.yp_answer.specs.session.Cuts.{IsAtRest};
-ghost use Rattle.yp_answer.specs.inside.session.Cuts.{ComesTo, Follows, FollowsRead, GoesOn, awaited_in, cut_of};
+ghost use Rattle.yp_answer.specs.inside.session.Cuts.{ComesTo, Follows, FollowsRead, GoesOn, awaited_in, cut_of, talking};
 
 use crate::session::buffers::Buffers;
 use crate::session::errand::Errand;
@@ -205,8 +205,9 @@ impl<S: TrySource, K: TrySink> Conversation<S, K> {
         steps: u32,
     ) -> Advance
         requires due { IfSome self.old.waiting (IsDue (length (H.seen host.old).catalogue.maps)) }
-        ensures goes { GoesOn (conduct_by H.Host) terms.now.peer terms.now.carries host.old host.new
-            (cut_of S.TrySource K.TrySink self.old) (cut_of S.TrySource K.TrySink self.new) }
+        ensures goes { GoesOn (conduct_by H.Host) terms.now.peer terms.now.carries
+            (talking host.old (cut_of S.TrySource K.TrySink self.old))
+            (talking host.new (cut_of S.TrySource K.TrySink self.new)) }
         ensures comes_to { ComesTo terms.now.peer terms.now.most result (cut_of S.TrySource K.TrySink self.new) }
         ensures due { IfSome self.new.waiting (IsDue (length (H.seen host.new).catalogue.maps)) }
     {
@@ -225,8 +226,9 @@ impl<S: TrySource, K: TrySink> Conversation<S, K> {
     /// Goes on by one step.
     fn step<H: Host>(&mut self, host: &mut H, buffers: &mut Buffers, terms: &Terms) -> Advance
         requires due { IfSome self.old.waiting (IsDue (length (H.seen host.old).catalogue.maps)) }
-        ensures goes { GoesOn (conduct_by H.Host) terms.now.peer terms.now.carries host.old host.new
-            (cut_of S.TrySource K.TrySink self.old) (cut_of S.TrySource K.TrySink self.new) }
+        ensures goes { GoesOn (conduct_by H.Host) terms.now.peer terms.now.carries
+            (talking host.old (cut_of S.TrySource K.TrySink self.old))
+            (talking host.new (cut_of S.TrySource K.TrySink self.new)) }
         ensures comes_to { ComesTo terms.now.peer terms.now.most result (cut_of S.TrySource K.TrySink self.new) }
         ensures due { IfSome self.new.waiting (IsDue (length (H.seen host.new).catalogue.maps)) }
     {
@@ -298,8 +300,9 @@ impl<S: TrySource, K: TrySink> Conversation<S, K> {
         requires settled { self.old.settled ≡ true }
         requires waits { self.old.waiting ≢ None }
         requires due { IfSome self.old.waiting (IsDue (length (H.seen host.old).catalogue.maps)) }
-        ensures goes { GoesOn (conduct_by H.Host) terms.now.peer terms.now.carries host.old host.new
-            (cut_of S.TrySource K.TrySink self.old) (cut_of S.TrySource K.TrySink self.new) }
+        ensures goes { GoesOn (conduct_by H.Host) terms.now.peer terms.now.carries
+            (talking host.old (cut_of S.TrySource K.TrySink self.old))
+            (talking host.new (cut_of S.TrySource K.TrySink self.new)) }
         ensures waiting { self.new.waiting ≡ None }
     {
         let Some(errand) = self.errand.take() else {
@@ -313,8 +316,9 @@ impl<S: TrySource, K: TrySink> Conversation<S, K> {
         requires sound { self.old.broken ≡ false }
         requires whole { self.old.stream ≡ None }
         requires free { self.old.waiting ≡ None }
-        ensures goes { GoesOn (conduct_by H.Host) terms.now.peer terms.now.carries host.old host.new
-            (cut_of S.TrySource K.TrySink self.old) (cut_of S.TrySource K.TrySink self.new) }
+        ensures goes { GoesOn (conduct_by H.Host) terms.now.peer terms.now.carries
+            (talking host.old (cut_of S.TrySource K.TrySink self.old))
+            (talking host.new (cut_of S.TrySource K.TrySink self.new)) }
         ensures comes_to { ComesTo terms.now.peer terms.now.most result (cut_of S.TrySource K.TrySink self.new) }
         ensures due { IfSome self.new.waiting (IsDue (length (H.seen host.new).catalogue.maps)) }
     {
@@ -351,8 +355,9 @@ impl<S: TrySource, K: TrySink> Conversation<S, K> {
         requires free { self.old.waiting ≡ None }
         requires record { BeginsWith record_max (Whole len spelled) self.old.incoming buffers.old }
         requires brief { terms.now.carries ≡ false → may_make Stream terms.now.peer (take len buffers.old) ≡ false }
-        ensures goes { GoesOn (conduct_by H.Host) terms.now.peer terms.now.carries host.old host.new
-            (cut_of S.TrySource K.TrySink self.old) (cut_of S.TrySource K.TrySink self.new) }
+        ensures goes { GoesOn (conduct_by H.Host) terms.now.peer terms.now.carries
+            (talking host.old (cut_of S.TrySource K.TrySink self.old))
+            (talking host.new (cut_of S.TrySource K.TrySink self.new)) }
         ensures due { IfSome self.new.waiting (IsDue (length (H.seen host.new).catalogue.maps)) }
     {
         self.outgoing.hold(self.incoming.len() > spelled);

@@ -102,15 +102,22 @@ IsBrief (Answered turn) = turn.made ≡ None
 IsBrief (Carried taken wire) = ⊥
 IsBrief (Read wire) = ⊤
 
+-- a conversation at one moment: its host, and its cut
+pub record Talking (H : Type 0) : Type 0 where
+  pub host : H
+  pub cut : Cut
+
+abbrev pub talking : {H : Type 0} → H → Cut → Talking H
+talking host cut = record { host = host; cut = cut }
+
 -- A conversation went on, and its host with it: what that knew before is a front of what it knows. Where it carries
 -- nothing out it did nothing that takes long.
-pub record GoesOn {H : Type 0} (conduct : Conduct H) (peer : Peer) (carries : Bool) (old new : H) (before after : Cut)
-    : Type 0 where
+pub record GoesOn {H : Type 0} (conduct : Conduct H) (peer : Peer) (carries : Bool) (old new : Talking H) : Type 0 where
   pub deeds : List Deed
-  pub does : DoesDeeds conduct peer deeds old new
+  pub does : DoesDeeds conduct peer deeds old.host new.host
   pub brief : carries ≡ false → All IsBrief deeds
-  pub follows : Follows deeds before after
-  pub sees : SeesOn (conduct.seen old) (conduct.seen new)
+  pub follows : Follows deeds old.cut new.cut
+  pub sees : SeesOn (conduct.seen old.host) (conduct.seen new.host)
 
 -- what came of going on with a peer: What takes long is a transfer that waits, or a MAKE that came and isn't taken yet;
 -- all is paid before that.
