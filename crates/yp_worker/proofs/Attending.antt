@@ -983,7 +983,12 @@ module _ {H T S K : Type 0} (source : try_source.Ghosts S) (sink : try_sink.Ghos
   -- all guests are gone
   pub all_gone : (serving : Serving S K) (worker : Working H) → slab_len serving.guests ≡ 0
       → HasServed source sink conduct counting terms past serving worker
-      → HasEnded conduct counting terms past serving.tally.connections serving.tally.calls worker serving.closed serving.closed_count serving.let_go
+      → HasEnded conduct counting terms past worker (record {
+        tally = serving.tally;
+        closed = serving.closed;
+        closed_count = serving.closed_count;
+        let_go = serving.let_go;
+      })
   all_gone serving worker none has = record {
     first = has.first;
     steps = has.steps;
