@@ -208,16 +208,12 @@ pub record IsKept {S K : Type 0} (key : ℕ) (old new : Slab (GuestState S K)) (
   pub out : after.out + 1 ≡ before.out
   pub same : after ≡ record before { out = after.out }
 
--- The guest at a key went on, and all others stand as they stood. What waits of it is a transfer of the host's maps.
-pub record GoesOnAt {H T S K : Type 0} (conduct : Conduct H) (counted : H → T) (source : try_source.Ghosts S)
-    (sink : try_sink.Ghosts K) (key : ℕ) (old new : Slab (GuestState S K)) (before after : H)
-    (P : GuestState S K → Type 0) : Type 0 where
+-- The guest at a key has changed so, and all others stand as they stood.
+pub record ChangesAt {S K : Type 0} (key : ℕ) (old new : Slab (GuestState S K))
+    (Change : GuestState S K → GuestState S K → Type 0) : Type 0 where
   pub was : GuestState S K
   pub now : GuestState S K
   pub found : get old key ≡ Some was
   pub updates : Updates old new key (Some now)
   pub count : slab_len new ≡ slab_len old
-  pub works : WorksOn conduct counted source sink (record { guest = was; host = before })
-      (record { guest = now; host = after })
-  pub due : IfSome now.talk.waiting (IsDue (length (conduct.seen after).catalogue.maps))
-  pub comes_to : P now
+  pub change : Change was now
