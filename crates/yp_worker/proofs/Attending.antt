@@ -33,7 +33,7 @@ use Rattle.yp_worker.specs.Working.{Working, WorkerStep, Learned, TookOver, Did,
 use Rattle.yp_worker.specs.Receptions.{Terms, IsUnder}
 use Rattle.yp_worker.specs.Summing.{Counting, ServedConnection, LeftConnection, ends_of, let_go_of, ended_at, IsOver, HadBefore, WasServed, WasHandedOn, numbers_of, AreApart, IsStepOf}
 use Rattle.yp_worker.specs.inside.GuestStates.{GuestState, WaitingGuest}
-use Rattle.yp_worker.specs.inside.Guests.{came_with, came_as, IsGuest, Serving, Comes, came_to, closed_door, number_at, let_go_where, IsOwned, IsSeated, HasServed, IsToSeat, IsWaiting, GoesOnAt}
+use Rattle.yp_worker.specs.inside.Guests.{came_with, came_as, IsGuest, Serving, Comes, came_to, closed_door, number_at, let_go_where, IsOwned, IsSeated, HasServed, IsToSeat, IsWaiting, WorksOn, ChangesAt}
 use Rattle.yp_worker.specs.inside.Receptions.{IsExpectedCall, Passed}
 use Rattle.yp_worker.specs.inside.Summing.{HasEnded}
 use Rattle.yp_worker.proofs.Guesting.{left_out, deeds_append, own_deeds, other_deeds}
@@ -660,15 +660,17 @@ module _ {H T S K : Type 0} (source : try_source.Ghosts S) (sink : try_sink.Ghos
 
   -- ---- a guest goes on
 
-  pub goes : (old new : Serving S K) (before after : Working H) (key : ℕ) (P : GuestState S K → Type 0)
+  pub goes : (old new : Serving S K) (before after : Working H) (key : ℕ) (Change : GuestState S K → GuestState S K → Type 0)
       → HasServed source sink conduct counting terms past old before → new ≡ record old { guests = new.guests }
-      → GoesOnAt conduct counting.counted source sink key old.guests new.guests before.host after.host P → after.carries ≡ before.carries
-      → (conduct.seen after.host).catalogue ≡ terms.catalogue
+      → (went : ChangesAt key old.guests new.guests Change)
+      → WorksOn conduct counting.counted source sink (record { guest = went.was; host = before.host })
+      (record { guest = went.now; host = after.host })
+      → IfSome went.now.talk.waiting (IsDue (length (conduct.seen after.host).catalogue.maps))
+      → after.carries ≡ before.carries → (conduct.seen after.host).catalogue ≡ terms.catalogue
       → HasServed source sink conduct counting terms past new after
-  goes old new before after key P has same went kept maps =
+  goes old new before after key Change has same went works due kept maps =
       let was = went.was in
       let now = went.now in
-      let works = went.works in
       let more = map (Did was.number was.origin.peer) works.deeds in
       let steps' = has.steps ++ more in
       let next : new.next ≡ old.next = ap (λ (s : Serving S K). s.next) same in
@@ -721,7 +723,7 @@ module _ {H T S K : Type 0} (source : try_source.Ghosts S) (sink : try_sink.Ghos
                   subst C (append_assoc seat.earlier (deeds_of was.number has.steps) works.deeds ∙ ap (λ (l : List Deed). seat.earlier ++ l) (sym deeds))
                   (works.own past (seat.earlier ++ deeds_of was.number has.steps) seat.is);
               low = let number = works.number in omega (arith, seat.low, next, number);
-              due = let D : Catalogue → Type 0 = λ c. IfSome now.talk.waiting (IsDue (length c.maps)) in subst D maps went.due;
+              due = let D : Catalogue → Type 0 = λ c. IfSome now.talk.waiting (IsDue (length c.maps)) in subst D maps due;
             }) has.guests;
         differ = λ one two n apart first second. has.differ one two n apart (sym (named one) ∙ first) (sym (named two) ∙ second);
         served =
@@ -983,7 +985,12 @@ module _ {H T S K : Type 0} (source : try_source.Ghosts S) (sink : try_sink.Ghos
   -- all guests are gone
   pub all_gone : (serving : Serving S K) (worker : Working H) → slab_len serving.guests ≡ 0
       → HasServed source sink conduct counting terms past serving worker
-      → HasEnded conduct counting terms past serving.tally.connections serving.tally.calls worker serving.closed serving.closed_count serving.let_go
+      → HasEnded conduct counting terms past worker (record {
+        tally = serving.tally;
+        closed = serving.closed;
+        closed_count = serving.closed_count;
+        let_go = serving.let_go;
+      })
   all_gone serving worker none has = record {
     first = has.first;
     steps = has.steps;

@@ -76,7 +76,8 @@ module _ {H T : Type 0} (conduct : Conduct H) (counted : H → T) where
 
   pub works_on : {S K : Type 0} (source : try_source.Ghosts S) (sink : try_sink.Ghosts K) (carries : Bool) (guest : GuestState S K) (talk : Talk S K) (old new : H)
       → GoesOn conduct guest.origin.peer carries (talking old (cut_of source sink guest.talk)) (talking new (cut_of source sink talk))
-      → WorksOn conduct counted source sink guest (record guest { talk = talk }) old new
+      → WorksOn conduct counted source sink (record { guest = guest; host = old })
+      (record { guest = record guest { talk = talk }; host = new })
   works_on source sink carries guest talk old new goes = record {
     deeds = goes.deeds;
     origin = refl;

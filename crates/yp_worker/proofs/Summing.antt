@@ -14,7 +14,7 @@ use Rattle.yp_answer.specs.session.Hosts.{Conduct}
 use Rattle.yp_worker.specs.Working.{Working}
 use Rattle.yp_worker.specs.Receptions.{Terms, GainsWhereTold, ListenTells}
 use Rattle.yp_worker.specs.Summing.{Counting, ServedConnection, ends_of, calls_of, let_go_of, WorkerRun, IsWorkerRun, calls_over, TellsClosed, SumsUp}
-use Rattle.yp_worker.specs.inside.Summing.{worker_run_of, HasEnded}
+use Rattle.yp_worker.specs.inside.Summing.{worker_run_of, EndTells, HasEnded}
 use Rattle.yp_worker.proofs.Growing.{front_then}
 
 -- a closer that has closed these has closed one more
@@ -131,20 +131,21 @@ module _ {H T : Type 0} (conduct : Conduct H) (counting : Counting H T) (terms :
 
   -- a worker has ended, and its closer was taken in; the log goes on from what all others knew, and from what its host
   -- knew
-  pub sums_ended : (old now new : ListenTells) (out calls : ℕ) (sum : T) (before after : Log) (connections read : ℕ)
-      (worker : Working H) (closed : Option (List ClosedConnection)) (count let_go : ℕ) → GainsWhereTold old.past now.past out
+  pub sums_ended : (old now new : ListenTells) (out calls : ℕ) (sum : T) (before after : Log) (worker : Working H)
+      (end : EndTells) → GainsWhereTold old.past now.past out
       → SumsUp conduct counting terms old now calls sum before
-      → HasEnded conduct counting terms old.past connections read worker closed count let_go
-      → new.past ≡ taken_in now.past closed → new.returned ≡ capped now.returned count → new.let_go ≡ capped now.let_go let_go
+      → HasEnded conduct counting terms old.past worker end
+      → new.past ≡ taken_in now.past end.closed → new.returned ≡ capped now.returned end.closed_count
+      → new.let_go ≡ capped now.let_go end.let_go
       → IsFront (conduct.seen worker.host).known after → IsFront before after
-      → SumsUp conduct counting terms old new (capped calls read) (counting.plus sum (counting.counted worker.host))
+      → SumsUp conduct counting terms old new (capped calls end.tally.calls) (counting.plus sum (counting.counted worker.host))
       after
-  sums_ended old now new out calls sum before after connections read worker closed count let_go tells sums has taken returned gone covered kept =
+  sums_ended old now new out calls sum before after worker end tells sums has taken returned gone covered kept =
       let worker_run = worker_run_of has.first worker has.steps has.stays has.left in record {
         worker_runs = sums.worker_runs ++ worker_run ∷ [];
         closed = subst (λ (lists : List (List ClosedConnection)). TellsClosed old.past new.past lists)
             (sym (map-append (λ (s : WorkerRun H). ends_of s.stays) sums.worker_runs (worker_run ∷ [])))
-            (told_more old.past now.past new.past out (map list_of sums.worker_runs) (ends_of has.stays) closed tells sums.closed
+            (told_more old.past now.past new.past out (map list_of sums.worker_runs) (ends_of has.stays) end.closed tells sums.closed
             has.told taken);
         returned =
             let more = fold-append (λ (n : ℕ) (s : WorkerRun H). n + length s.stays) 0 sums.worker_runs (worker_run ∷ []) in
@@ -167,7 +168,7 @@ module _ {H T : Type 0} (conduct : Conduct H) (counting : Counting H T) (terms :
               front = covered;
             });
         calls_read =
-            ap (λ (n : ℕ). capped n read) sums.calls_read
+            ap (λ (n : ℕ). capped n end.tally.calls) sums.calls_read
             ∙ ap (λ (n : ℕ). capped (calls_over sums.worker_runs) n) has.calls_are
             ∙ sym (fold-append (λ (n : ℕ) (s : WorkerRun H). capped n (calls_of s.stays)) 0 sums.worker_runs (worker_run ∷ []));
         sum_is =

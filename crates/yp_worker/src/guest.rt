@@ -154,8 +154,8 @@ impl<S: TrySource, K: TrySink, G: Gate> Guest<S, K, G> {
         steps: u32,
     ) -> Advance
         requires due { IfSome self.old.talk.waiting (IsDue (length (H.seen host.old).catalogue.maps)) }
-        ensures works { WorksOn (conduct_by H.Host) H.counted S.TrySource K.TrySink self.old self.new
-            host.old host.new }
+        ensures works { WorksOn (conduct_by H.Host) H.counted S.TrySource K.TrySink
+            (record { guest = self.old; host = host.old }) (record { guest = self.new; host = host.new }) }
         ensures comes_to { ComesTo self.new.origin.peer most result (cut_of S.TrySource K.TrySink self.new.talk) }
         ensures due { IfSome self.new.talk.waiting (IsDue (length (H.seen host.new).catalogue.maps)) }
     {

@@ -355,9 +355,12 @@ impl<J: Reception, E: Ledger, H: HandsOver, L: Hall, G> Listening<J, E, H, L, G>
     )
         requires out { tally.now.connections ≤ pass.old.out }
         requires served { HasEnded (conduct_by H.Host) (counting_of H.counted H.none H.plus)
-            (terms_by J.Reception) J.opening.past
-            tally.now.connections tally.now.calls worker.old (L.closed closer) (L.closed_count closer)
-            (L.Watch.Watch.let_go watch) }
+            (terms_by J.Reception) J.opening.past worker.old (record {
+              tally = tally.now;
+              closed = L.closed closer;
+              closed_count = L.closed_count closer;
+              let_go = L.Watch.Watch.let_go watch;
+            }) }
         ensures out { pass.new.out + tally.now.connections ≡ pass.old.out }
         ensures same { pass.new ≡ record pass.old { out = pass.new.out } }
         ensures seen { H.seen worker.new.host ≡ H.seen worker.old.host }

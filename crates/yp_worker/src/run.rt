@@ -13,7 +13,7 @@ ghost use Rattle.yp_worker.specs.Receptions.{IsUnder};
 ghost use Rattle.yp_worker.specs.Working.{IsTold};
 ghost use Rattle.yp_worker.specs.inside.Receptions.{Admits, IsExpectedCall, IsNotLeft, terms_by};
 ghost use Rattle.yp_worker.specs.Summing.{IsOver, counting_of};
-ghost use Rattle.yp_worker.specs.inside.Guests.{Comes, GoesOnAt, HasServed, IsKept, IsToSeat, IsWaiting};
+ghost use Rattle.yp_worker.specs.inside.Guests.{ChangesAt, Comes, HasServed, IsKept, IsToSeat, IsWaiting, WorksOn};
 ghost use Rattle.yp_worker.specs.inside.Guests.{let_go_where, serving_of, came_to};
 
 use crate::catch_up::HandsOver;
@@ -509,10 +509,12 @@ impl<H: HandsOver, G: Gate + Copy + Drop> Worker<H, G> {
         requires due { IfSome (get guests.old key) (λ guest.
             IfSome guest.talk.waiting (IsDue (length (H.seen self.old.host).catalogue.maps))) }
         ensures none { IfNone result ((guests.new ≡ guests.old) × (self.new ≡ self.old)) }
-        ensures went { IfSome result (λ went. GoesOnAt (conduct_by H.Host) H.counted L.In.TrySource L.Out.TrySink
-            key guests.old guests.new self.old.host self.new.host
-            (λ guest. ComesTo guest.origin.peer self.old.most went.advance
-            (cut_of L.In.TrySource L.Out.TrySink guest.talk))) }
+        ensures went { IfSome result (λ went. ChangesAt key guests.old guests.new (λ was now.
+            WorksOn (conduct_by H.Host) H.counted L.In.TrySource L.Out.TrySink
+            (record { guest = was; host = self.old.host }) (record { guest = now; host = self.new.host })
+            × IfSome now.talk.waiting (IsDue (length (H.seen self.new.host).catalogue.maps))
+            × ComesTo now.origin.peer self.old.most went.advance
+            (cut_of L.In.TrySource L.Out.TrySink now.talk))) }
         ensures same { self.new ≡ record self.old { host = self.new.host } }
     {
         let guest = guests.get_mut(key)?;

@@ -23,7 +23,7 @@ use Rattle.yp_worker.specs.datagrams.Carrying.{CarrierStep, Carried, Replied, An
 use Rattle.yp_worker.proofs.datagrams.Answering.{Later, later_then, same}
 use Rattle.yp_worker.proofs.datagrams.Sending.{sends_none, sends_one, sends_then}
 use Rattle.yp_worker.specs.inside.Queues.{Dealt, all_parts, Balances}
-use Rattle.yp_worker.specs.inside.Mailing.{Carrying, carrier_told, FaultsRise, DoesLeft, CarriesOn, CarriesRest, sent_unless}
+use Rattle.yp_worker.specs.inside.Mailing.{Carrying, carrier_told, FaultsRise, CarrierState, carrier_state, DoesLeft, CarriesOn, CarriesRest, sent_unless}
 
 pub behind_twice : (holding : Holding) (a t b u : List Deferred)
     → held_behind (held_behind holding a t) b u ≡ held_behind holding (a ++ b) (t ++ u)
@@ -103,24 +103,23 @@ sent_or_not (Err e) peer bytes answer a b some gains none turns quiets = sends_n
 
 -- the count of faults of an inbox meanwhile
 pub rises_at : {X E I : Type 0} (faults : I → ℕ) (sent : Result X E) (old new : I) → faults old ≤ faults new
-    → OnErr sent (HasRisen (faults old) (faults new)) → FaultsRise faults false (is_err sent) old new
+    → OnErr sent (HasRisen (faults old) (faults new)) → FaultsRise false (is_err sent) (faults old) (faults new)
 rises_at faults (Ok x) old new never risen = record { never_fall = never; risen = λ _ some. cc }
 rises_at faults (Err e) old new never risen = record { never_fall = never; risen = λ _ _. risen }
 
 pub rises_never : {I : Type 0} (faults : I → ℕ) (before after : Bool) (old new : I) → after ≡ before → new ≡ old
-    → FaultsRise faults before after old new
+    → FaultsRise before after (faults old) (faults new)
 rises_never faults before after old new same is = record {
   never_fall = let e : faults new ≡ faults old = ap faults is in omega (arith, e);
   risen = λ none some. let no : true ≡ false = sym some ∙ same ∙ none in cc;
 }
 
-rises_then : {I : Type 0} (faults : I → ℕ) (f g h : Bool) (a b c : I) → FaultsRise faults f g a b → FaultsRise faults g h b c
-    → FaultsRise faults f h a c
-rises_then faults f true h a b c first second = record {
+rises_then : (f g h : Bool) (a b c : ℕ) → FaultsRise f g a b → FaultsRise g h b c → FaultsRise f h a c
+rises_then f true h a b c first second = record {
   never_fall = omega (arith, first.never_fall, second.never_fall);
   risen = λ none some. omega (arith, first.risen none refl, second.never_fall);
 }
-rises_then faults f false h a b c first second = record {
+rises_then f false h a b c first second = record {
   never_fall = omega (arith, first.never_fall, second.never_fall);
   risen = λ none some. omega (arith, first.never_fall, second.risen refl some);
 }
@@ -163,10 +162,9 @@ module _ {I H T : Type 0} (conduct : Conduct H) (counted : H → T) (box : I →
       (steps_later steps takes.0 new takes.2)
 
   -- the catalogue stays where what was left is done
-  pub done_keeps : (left : Deferred) (before after : Bool) (old new : H) (inbox inbox' : I)
-      → DoesLeft conduct counted box faults left before after old new inbox inbox'
-      → (conduct.seen new).catalogue ≡ (conduct.seen old).catalogue
-  done_keeps left before after old new inbox inbox' does = (step_later does.step old new does.takes).catalogue
+  pub done_keeps : (left : Deferred) (old new : CarrierState H) → DoesLeft conduct counted left old new
+      → (conduct.seen new.host).catalogue ≡ (conduct.seen old.host).catalogue
+  done_keeps left old new does = (step_later does.step old.host new.host does.takes).catalogue
 
   steps_then : (xs ys : List CarrierStep) (a b c : H) → TakesCarrierSteps conduct counted xs a b
       → TakesCarrierSteps conduct counted ys b c → TakesCarrierSteps conduct counted (xs ++ ys) a c
@@ -196,7 +194,7 @@ module _ {I H T : Type 0} (conduct : Conduct H) (counted : H → T) (box : I →
   one_on_where : (fault : Bool) (step : CarrierStep) (a b : Carrying I H) → b.fault ≡ fault
       → TakesCarrierStep conduct counted step a.host b.host
       → Sends (sent_unless fault (sent_in step)) (box a.inbox) (box b.inbox) → (a.fault ≡ true → b.fault ≡ true)
-      → FaultsRise faults a.fault b.fault a.inbox b.inbox → b.holding ≡ held_behind a.holding [] (left_for step ∷ [])
+      → FaultsRise a.fault b.fault (faults a.inbox) (faults b.inbox) → b.holding ≡ held_behind a.holding [] (left_for step ∷ [])
       → CarriesOn conduct counted box faults a b
   one_on_where true step a b is takes sends ended cause holding = record {
     steps = [];
@@ -225,7 +223,7 @@ module _ {I H T : Type 0} (conduct : Conduct H) (counted : H → T) (box : I →
 
   -- a transfer was carried out
   pub transfer_done : (one : Awaited) (fault : Bool) (old new : H) (inbox : I) → CarriesOut conduct one.0 one.1 old new
-      → DoesLeft conduct counted box faults (Transfer one) fault fault old new inbox inbox
+      → DoesLeft conduct counted (Transfer one) (carrier_state box faults old inbox fault) (carrier_state box faults new inbox fault)
   transfer_done one fault old new inbox out = record {
     step = Carried one;
     step_is = refl;
@@ -239,8 +237,9 @@ module _ {I H T : Type 0} (conduct : Conduct H) (counted : H → T) (box : I →
   pub call_done : (peer : Peer) (message : List ℕ) (known : Log) (turn : Turn) (before after : Bool) (old new : H) (inbox inbox' : I)
       → turn.message ≡ message → AnswersLeft conduct counted peer turn known old new
       → Sends (sent_unless after (reply_posts peer turn.answer)) (box inbox) (box inbox') → (before ≡ true → after ≡ true)
-      → FaultsRise faults before after inbox inbox'
-      → DoesLeft conduct counted box faults (Call peer message known) before after old new inbox inbox'
+      → FaultsRise before after (faults inbox) (faults inbox')
+      → DoesLeft conduct counted (Call peer message known) (carrier_state box faults old inbox before)
+      (carrier_state box faults new inbox' after)
   call_done peer message known turn before after old new inbox inbox' is answers sends ended cause = record {
     step = Replied peer turn known;
     step_is = ap (λ (l : List ℕ). Call peer l known) is;
@@ -252,7 +251,7 @@ module _ {I H T : Type 0} (conduct : Conduct H) (counted : H → T) (box : I →
 
   -- what was taken over was done
   pub done_on : (left : Deferred) (a b : Carrying I H)
-      → DoesLeft conduct counted box faults left a.fault b.fault a.host b.host a.inbox b.inbox
+      → DoesLeft conduct counted left (carrier_state box faults a.host a.inbox a.fault) (carrier_state box faults b.host b.inbox b.fault)
       → b.holding ≡ held_behind a.holding [] (left ∷ []) → CarriesOn conduct counted box faults a b
   done_on left a b does holding =
       one_on_where b.fault does.step a b refl does.takes does.sends does.ended does.cause
@@ -276,7 +275,7 @@ module _ {I H T : Type 0} (conduct : Conduct H) (counted : H → T) (box : I →
           whole = λ none. let no : true ≡ false = sym over.1 ∙ none in cc;
         };
         ended = λ some. ((first.ended some).0, over.1);
-        cause = rises_then faults a.fault b.fault c.fault a.inbox b.inbox c.inbox first.cause second.cause;
+        cause = rises_then a.fault b.fault c.fault (faults a.inbox) (faults b.inbox) (faults c.inbox) first.cause second.cause;
         holding = second.holding
             ∙ ap (λ (h : Holding). held_behind h [] (map left_for (second.steps ++ second.unsent))) first.holding
             ∙ behind_twice a.holding [] (map left_for (first.steps ++ first.unsent)) [] (map left_for (second.steps ++ second.unsent))
@@ -300,7 +299,7 @@ module _ {I H T : Type 0} (conduct : Conduct H) (counted : H → T) (box : I →
           whole = second.delivers.whole;
         };
         ended = λ some. let no : true ≡ false = sym (first.ended some).1 ∙ is in cc;
-        cause = rises_then faults a.fault b.fault c.fault a.inbox b.inbox c.inbox first.cause second.cause;
+        cause = rises_then a.fault b.fault c.fault (faults a.inbox) (faults b.inbox) (faults c.inbox) first.cause second.cause;
         holding = second.holding
             ∙ ap (λ (h : Holding). held_behind h [] (map left_for (second.steps ++ second.unsent))) first.holding
             ∙ behind_twice a.holding [] (map left_for (first.steps ++ first.unsent)) [] (map left_for (second.steps ++ second.unsent))
@@ -332,6 +331,6 @@ module _ {I H T : Type 0} (conduct : Conduct H) (counted : H → T) (box : I →
         delivers = subst (λ (m : Carrying I H). Delivers conduct counted (record { sent = second.steps; unsent = second.unsent })
             c.fault (carrier_told box m) (carrier_told box c)) is second.delivers;
         ended = λ some. second.ended (ap (λ (m : Carrying I H). m.fault) is ∙ some);
-        cause = subst (λ (m : Carrying I H). FaultsRise faults m.fault c.fault m.inbox c.inbox) is second.cause;
+        cause = subst (λ (m : Carrying I H). FaultsRise m.fault c.fault (faults m.inbox) (faults c.inbox)) is second.cause;
         holding = refl;
       })

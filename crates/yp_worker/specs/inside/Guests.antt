@@ -51,17 +51,22 @@ module _ {S K : Type 0} (source : try_source.Ghosts S) (sink : try_sink.Ghosts K
         (sink.output guest.origin.wire.sink)
     pub cut : IsCut (came_with guest) deeds (cut_of source sink guest.talk)
 
+-- a guest, and the host of the worker that it is with
+pub record HostedGuest (H S K : Type 0) : Type 0 where
+  pub guest : GuestState S K
+  pub host : H
+
 -- A worker went on with one of its guests, which is cut behind more deeds than before.
 pub record WorksOn {H T S K : Type 0} (conduct : Conduct H) (counted : H → T) (source : try_source.Ghosts S)
-    (sink : try_sink.Ghosts K) (old new : GuestState S K) (before after : H) : Type 0 where
+    (sink : try_sink.Ghosts K) (old new : HostedGuest H S K) : Type 0 where
   pub deeds : List Deed
-  pub origin : new.origin ≡ old.origin
-  pub number : new.number ≡ old.number
-  pub own : (past : Option ListenerHistory) (earlier : List Deed) → IsGuest source sink past earlier old
-      → IsGuest source sink past (earlier ++ deeds) new
-  pub taken : (first : H) (steps : List WorkerStep) → TakesSteps conduct counted steps first before
-      → TakesSteps conduct counted (steps_then steps old.number old.origin.peer deeds) first after
-  pub sees : SeesOn (conduct.seen before) (conduct.seen after)
+  pub origin : new.guest.origin ≡ old.guest.origin
+  pub number : new.guest.number ≡ old.guest.number
+  pub own : (past : Option ListenerHistory) (earlier : List Deed) → IsGuest source sink past earlier old.guest
+      → IsGuest source sink past (earlier ++ deeds) new.guest
+  pub taken : (first : H) (steps : List WorkerStep) → TakesSteps conduct counted steps first old.host
+      → TakesSteps conduct counted (steps_then steps old.guest.number old.guest.origin.peer deeds) first new.host
+  pub sees : SeesOn (conduct.seen old.host) (conduct.seen new.host)
 
 -- ---- all guests of a worker
 
@@ -203,15 +208,12 @@ pub record IsKept {S K : Type 0} (key : ℕ) (old new : Slab (GuestState S K)) (
   pub out : after.out + 1 ≡ before.out
   pub same : after ≡ record before { out = after.out }
 
--- The guest at a key went on, and all others stand as they stood. What waits of it is a transfer of the host's maps.
-pub record GoesOnAt {H T S K : Type 0} (conduct : Conduct H) (counted : H → T) (source : try_source.Ghosts S)
-    (sink : try_sink.Ghosts K) (key : ℕ) (old new : Slab (GuestState S K)) (before after : H)
-    (P : GuestState S K → Type 0) : Type 0 where
+-- The guest at a key has changed so, and all others stand as they stood.
+pub record ChangesAt {S K : Type 0} (key : ℕ) (old new : Slab (GuestState S K))
+    (Change : GuestState S K → GuestState S K → Type 0) : Type 0 where
   pub was : GuestState S K
   pub now : GuestState S K
   pub found : get old key ≡ Some was
   pub updates : Updates old new key (Some now)
   pub count : slab_len new ≡ slab_len old
-  pub works : WorksOn conduct counted source sink was now before after
-  pub due : IfSome now.talk.waiting (IsDue (length (conduct.seen after).catalogue.maps))
-  pub comes_to : P now
+  pub change : Change was now

@@ -8,7 +8,7 @@ ghost use Rattle.yp_rpc.specs.Turns.{datagram_max};
 ghost use Rattle.yp_rpc.specs.inside.Turns.{box_by};
 ghost use Rattle.yp_worker.specs.datagrams.Mailing.{Call, held_behind};
 ghost use Rattle.yp_worker.specs.datagrams.Queues.{WeighTheSame};
-ghost use Rattle.yp_worker.specs.inside.Mailing.{CarriesOn, CarriesRest, DoesLeft, carrier_of};
+ghost use Rattle.yp_worker.specs.inside.Mailing.{CarriesOn, CarriesRest, DoesLeft, carrier_of, carrier_state};
 ghost use Rattle.yp_worker.specs.inside.Queues.{IsReady, all_parts, deferred_as};
 
 use crate::datagrams::deferred::{DeferredCall, Work};
@@ -33,9 +33,9 @@ fn answer_left<I: Inbox, H: HandsOver>(
     requires buf { datagram_max ≤ length buf.old }
     requires makes { may_make paths.Datagram call.peer call.message.items ≡ true }
     requires short { length call.message.items ≤ datagram_max }
-    ensures { DoesLeft (conduct_by H.Host) H.counted (box_by I.Inbox) I.faults
-        (Call call.peer call.message.items (H.Front.known call.front)) fault result host.old host.new
-        inbox.old inbox.new }
+    ensures { DoesLeft (conduct_by H.Host) H.counted (Call call.peer call.message.items (H.Front.known call.front))
+        (carrier_state (box_by I.Inbox) I.faults host.old inbox.old fault)
+        (carrier_state (box_by I.Inbox) I.faults host.new inbox.new result) }
 {
     let DeferredCall {
         peer,
@@ -64,8 +64,9 @@ fn carry_out<I: Inbox, H: HandsOver>(
 ) -> bool
     requires buf { datagram_max ≤ length buf.old }
     requires ready { IsReady (length (H.seen host.old).catalogue.maps) (deferred_as H.Front.known work) }
-    ensures { DoesLeft (conduct_by H.Host) H.counted (box_by I.Inbox) I.faults (deferred_as H.Front.known work)
-        fault result host.old host.new inbox.old inbox.new }
+    ensures { DoesLeft (conduct_by H.Host) H.counted (deferred_as H.Front.known work)
+        (carrier_state (box_by I.Inbox) I.faults host.old inbox.old fault)
+        (carrier_state (box_by I.Inbox) I.faults host.new inbox.new result) }
 {
     match work {
         Work::Transfer { errand, peer } => {

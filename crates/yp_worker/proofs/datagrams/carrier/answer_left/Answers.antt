@@ -68,5 +68,5 @@ returns g c =
     (sent_or_not c.send.result c.args.call.peer _ replied.0.answer (box c.args.inbox.now) (box c.send.new.self) some sent.sent sent.none
     sent.turns sent.quiets)
     (λ some. let no : true ≡ false = sym some ∙ c.if-fault.false in cc)
-    (subst (λ (b : Bool). FaultsRise g.I.Inbox.faults b (is_err c.send.result) c.args.inbox.now c.send.new.self) (sym c.if-fault.false)
+    (subst (λ (b : Bool). FaultsRise b (is_err c.send.result) (g.I.Inbox.faults c.args.inbox.now) (g.I.Inbox.faults c.send.new.self)) (sym c.if-fault.false)
     (rises_at g.I.Inbox.faults c.send.result c.args.inbox.now c.send.new.self sent.cause.never_falls sent.cause.risen)))

@@ -28,8 +28,13 @@ invariant_of-self g c =
           accepted returned faults;
       sums = rw (c.hand_over.ensures.added, c.saturating_add-self-inside.ensures) (sums_ended conduct counting terms
           g.J.Reception.opening (seen c.self.inside.listen) (seen c.end.new.self) _ _
-          (g.H.HandsOver.summed c.self.inside.sum) (g.H.HandsOver.reached c.self.inside.sum) _ _ _ c.args.worker.now
-          (g.L.Hall.closed c.args.closer) (g.L.Hall.closed_count c.args.closer) (g.L.Watch.Watch.let_go c.args.watch)
+          (g.H.HandsOver.summed c.self.inside.sum) (g.H.HandsOver.reached c.self.inside.sum) _ c.args.worker.now
+          (record {
+            tally = c.args.tally.now;
+            closed = g.L.Hall.closed c.args.closer;
+            closed_count = g.L.Hall.closed_count c.args.closer;
+            let_go = g.L.Watch.Watch.let_go c.args.watch;
+          })
           c.self.invariant.state.tells c.self.invariant.sums has past returned let_go c.hand_over.ensures.covered
           c.hand_over.ensures.kept);
       held = c.self.invariant.held;

@@ -12,7 +12,9 @@ returns-clause-went g c =
       found = found;
       updates = one_written c.args.guests.now c.args.key was now found;
       count = kept_len c.args.guests.now c.args.key was now found;
-      works = rw (c.take_moved.ensures, ← c.self.view_is) c.advance-advance.ensures.works;
-      due = rw c.take_moved.ensures c.advance-advance.ensures.due;
-      comes_to = rw (c.take_moved.ensures, ← c.self.view_is) c.advance-advance.ensures.comes_to;
+      change = (
+        rw (c.take_moved.ensures, ← c.self.view_is) c.advance-advance.ensures.works,
+        rw c.take_moved.ensures c.advance-advance.ensures.due,
+        rw (c.take_moved.ensures, ← c.self.view_is) c.advance-advance.ensures.comes_to,
+      );
     }

@@ -5,7 +5,7 @@ use Rattle.yp_board.specs.Catalogues.{Catalogue}
 use Rattle.yp_answer.specs.session.Hosts.{conduct_of}
 use Rattle.yp_rpc.specs.Turns.{datagram_max}
 use Rattle.yp_rpc.specs.inside.Turns.{box_by}
-use Rattle.yp_worker.specs.inside.Mailing.{DoesLeft}
+use Rattle.yp_worker.specs.inside.Mailing.{DoesLeft, carrier_state}
 use Rattle.yp_worker.specs.inside.Queues.{IsReady, deferred_as}
 use Rattle.yp_worker.proofs.datagrams.Carrying.{still_on, done_on, done_keeps}
 use Rattle.yp_worker.proofs.datagrams.carrier.Carrier.carry_oldest.Goals as goal
@@ -19,14 +19,16 @@ returns-in_default-clause-carries g c =
 pub returns-clause-carries : goal.returns-clause-carries
 returns-clause-carries g c =
     let conduct = conduct_of g.H.View.seen g.H.Host.told g.H.Host.counts g.H.View.stepped g.H.Host.made g.H.Host.carried in
-    let does = subst (λ d. DoesLeft conduct g.H.CatchUp.counted (box_by g.I.Inbox) g.I.Inbox.faults d c.self.inside.fault c.carry_out-self-inside.result
-    c.self.inside.host c.carry_out-self-inside.new.host c.self.inside.inbox c.carry_out-self-inside.new.inbox) c.into_work.ensures c.carry_out-self-inside.ensures in
+    let does = subst (λ d. DoesLeft conduct g.H.CatchUp.counted d
+    (carrier_state (box_by g.I.Inbox) g.I.Inbox.faults c.self.inside.host c.self.inside.inbox c.self.inside.fault)
+    (carrier_state (box_by g.I.Inbox) g.I.Inbox.faults c.carry_out-self-inside.new.host c.carry_out-self-inside.new.inbox c.carry_out-self-inside.result))
+    c.into_work.ensures c.carry_out-self-inside.ensures in
     rw (← c.self.view_is) (done_on conduct g.H.CatchUp.counted (box_by g.I.Inbox) g.I.Inbox.faults c.in-Some.deferred _ _ does c.in-Some.ensures.one.0)
 
 pub invariant_of-self-2 : goal.invariant_of-self-2
 invariant_of-self-2 g c =
     let conduct = conduct_of g.H.View.seen g.H.Host.told g.H.Host.counts g.H.View.stepped g.H.Host.made g.H.Host.carried in
-    let kept = done_keeps conduct g.H.CatchUp.counted (box_by g.I.Inbox) g.I.Inbox.faults _ _ _ _ _ _ _ c.carry_out-self-inside.ensures in
+    let kept = done_keeps conduct g.H.CatchUp.counted (box_by g.I.Inbox) g.I.Inbox.faults _ _ _ c.carry_out-self-inside.ensures in
     let letter = c.self.inside.letter in
     let buf = c.carry_out-self-inside.new.buf in
     let size : length buf ≡ letter.len = grind (arith, common_steps) in
