@@ -37,7 +37,7 @@ use Rattle.yp_transfer.specs.Dialing.{FetchesFrom}
 use Rattle.yp_transfer.specs.Installing.{marking, of_install, fetched_offer, IsTaken, IsNotTaken, Offers, InstallsFetched}
 use Rattle.yp_transfer.specs.Installing.{OpensAndOffers}
 use Rattle.yp_transfer.specs.Requests.{TransferRequest, request_of}
-use Rattle.yp_transfer.specs.Transfers.{wanted_at, InstallsOutcome}
+use Rattle.yp_transfer.specs.Transfers.{wanted_at, InstallsOutcome, transfer_state}
 use Rattle.yp_transfer.specs.Transfers as transfers
 use Rattle.yp_command.specs.office.Disks.{only_history, total_faults}
 use Rattle.yp_command_maps.specs.declared.xfr.XfrStop.TheVariants as stop
@@ -449,8 +449,8 @@ module _ {D : Type 0} (history : D → Option History) (faults : D → ℕ) (job
       (result : Result Installed XfrFault) (from to : Dialing) → length disks ≡ 1
       → BeginsLevel history faults (catalogue_of job) disks old
       → news ≡ map (λ (kept : StoredMap D). kept.disk) new.maps
-      → transfers.Transfers keeping (job.host ∷ []) (request_of 0 job.host.0 job.force job.flag) result from to
-      old new → Did result from to disks news
+      → transfers.Transfers keeping (job.host ∷ []) (request_of 0 job.host.0 job.force job.flag) result
+      (transfer_state from old) (transfer_state to new) → Did result from to disks news
   did_only disks news old new result from to one begins given did =
       let installs = installed_only disks news old new did.outcome result one begins given did.installs in
       let maps = ap (λ (c : Catalogue). c.maps) begins.catalogue in
@@ -478,13 +478,15 @@ module _ {D : Type 0} (history : D → Option History) (faults : D → ℕ) (job
       → length disks ≡ 1 → served ≡ catalogue_of job → BeginsLevel history faults served disks old
       → news ≡ map (λ (kept : StoredMap D). kept.disk) new.maps → hosts ≡ job.host ∷ []
       → request ≡ request_of 0 job.host.0 job.force job.flag
-      → transfers.Transfers keeping hosts request result from to old new → Did result from to disks news
+      → transfers.Transfers keeping hosts request result (transfer_state from old) (transfer_state to new)
+      → Did result from to disks news
   did_named disks news old new served result from to hosts request one named begins given table is did =
       did_only disks news old new result from to one
       (subst (λ (c : Catalogue). BeginsLevel history faults c disks old) named begins) given
-      (subst (λ (h : HostList). transfers.Transfers keeping h (request_of 0 job.host.0 job.force job.flag) result from
-      to old new) table
-      (subst (λ (r : TransferRequest). transfers.Transfers keeping hosts r result from to old new) is did))
+      (subst (λ (h : HostList). transfers.Transfers keeping h (request_of 0 job.host.0 job.force job.flag) result
+      (transfer_state from old) (transfer_state to new)) table
+      (subst (λ (r : TransferRequest). transfers.Transfers keeping hosts r result (transfer_state from old) (transfer_state to new))
+      is did))
 
   -- ---- where no publisher was opened
 

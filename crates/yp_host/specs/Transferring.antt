@@ -6,7 +6,7 @@ use Rattle.yp_answer.specs.Transfer.{Taken}
 use Rattle.yp_publisher.specs.Keeping.{Keeping}
 use Rattle.yp_transfer.specs.declared.calling_back.Asker.{Asker}
 use Rattle.yp_transfer.specs.Requests.{TransferRequest, request_of}
-use Rattle.yp_transfer.specs.Transfers.{TransfersFor}
+use Rattle.yp_transfer.specs.Transfers.{TransfersFor, transfer_state}
 use Rattle.yp_host.specs.Locals.{Local, Telling, IsUsed}
 
 -- what a taken transfer asks for: it isn't forced, and has no mark of its own
@@ -23,7 +23,7 @@ pub record MapIsTransferred {D B E : Type 0} (keeping : Keeping D B) (telling : 
     (old new : Local D B E) : Type 0 where
   pub inside : taken.map < length old.published.maps
   pub transfers : TransfersFor keeping (telling.hosts old.desk) (request_for taken) (asker_of taken peer)
-      (telling.dial old.desk) (telling.dial new.desk) old.published new.published
+      (transfer_state (telling.dial old.desk) old.published) (transfer_state (telling.dial new.desk) new.published)
   pub used : IsUsed telling old.desk new.desk
   pub asked : new.asked ≡ old.asked
   pub files : new.files ≡ old.files

@@ -4,7 +4,7 @@ ghost use Rattle.std.specs.Prelude.{◌≡◌, ◌<◌, length};
 ghost use Rattle.yp_board.specs.Views.{IsFront};
 ghost use Rattle.yp_publisher.specs.Keeping.{keeping_of};
 ghost use Rattle.yp_answer.specs.inside.Transfer.{taken_view};
-ghost use Rattle.yp_transfer.specs.Transfers.{TransfersFor};
+ghost use Rattle.yp_transfer.specs.Transfers.{TransfersFor, transfer_state};
 ghost use Rattle.yp_host.specs.Locals.{IsUsed};
 ghost use Rattle.yp_host.specs.inside.Locals.{telling_by};
 ghost use Rattle.yp_host.specs.Transferring.{request_for, asker_of};
@@ -31,7 +31,8 @@ pub(crate) fn carry_out<D: Disk, B: Show, A: Dial, T: Texts, C: Clock>(
     requires { job.now.map < length publisher.old.maps }
     ensures transfers { TransfersFor (keeping_of D.history D.faults B.log) desk.old.hosts
         (request_for (taken_view job.now)) (asker_of (taken_view job.now) peer)
-        (dial_by A.Dial desk.old.dial) (dial_by A.Dial desk.new.dial) publisher.old publisher.new }
+        (transfer_state (dial_by A.Dial desk.old.dial) publisher.old)
+        (transfer_state (dial_by A.Dial desk.new.dial) publisher.new) }
     ensures used { IsUsed (telling_by T.Texts C.Clock A.Dial) desk.old desk.new }
     ensures catalogue { publisher.new.catalogue ≡ publisher.old.catalogue }
     ensures grown { IsFront (B.log publisher.old.board) (B.log publisher.new.board) }

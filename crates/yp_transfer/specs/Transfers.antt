@@ -29,22 +29,30 @@ InstallsOutcome keeping request (Ok version) result old new =
     InstallsFetched keeping request version result old new
 InstallsOutcome keeping request (Err fault) result old new = (result ≡ Err fault) × (new ≡ old)
 
+-- what a transfer changes, at one moment: what the dial tells, and the maps
+pub record TransferState (T D B : Type 0) : Type 0 where
+  pub dial : T
+  pub published : Published D B
+
+abbrev pub transfer_state : {T D B : Type 0} → T → Published D B → TransferState T D B
+transfer_state dial published = record { dial = dial; published = published }
+
 -- The map was fetched from the source, the wire was given back, and then what came of it was installed.
 pub record Transfers {D B : Type 0} (keeping : Keeping D B) (hosts : HostList) (request : TransferRequest)
-    (result : Result Installed XfrFault) (before after : Dialing) (old new : Published D B) : Type 0 where
+    (result : Result Installed XfrFault) (old new : TransferState Dialing D B) : Type 0 where
   pub outcome : FetchOutcome
-  pub fetches : IfSome (slice_get old.catalogue.maps request.number)
-      (λ name. FetchesFrom hosts request.source (wanted_at keeping request name old) outcome before after)
-  pub installs : InstallsOutcome keeping request outcome result old new
+  pub fetches : IfSome (slice_get old.published.catalogue.maps request.number)
+      (λ name. FetchesFrom hosts request.source (wanted_at keeping request name old.published) outcome old.dial new.dial)
+  pub installs : InstallsOutcome keeping request outcome result old.published new.published
 
 -- A map was transferred for a caller, and then, from this moment of the dial on, the caller was told what came of it.
 -- But for its faults the dial then tells the wires of the end and the letters of the start.
 pub record TransfersFor {D B : Type 0} (keeping : Keeping D B) (hosts : HostList) (request : TransferRequest)
-    (asker : Asker)
-    (before after : DialTells) (old new : Published D B) : Type 0 where
+    (asker : Asker) (old new : TransferState DialTells D B) : Type 0 where
   pub result : Result Installed XfrFault
   pub fetched : DialTells
-  pub transfers : Transfers keeping hosts request result (wires_told before) (wires_told fetched) old new
-  pub unposted : fetched.letters ≡ before.letters
-  pub never_falls : min before.faults last_count ≤ fetched.faults
-  pub called_back : CallsBack (wants_call asker) asker (outcome_stat result) fetched after
+  pub transfers : Transfers keeping hosts request result (transfer_state (wires_told old.dial) old.published)
+      (transfer_state (wires_told fetched) new.published)
+  pub unposted : fetched.letters ≡ old.dial.letters
+  pub never_falls : min old.dial.faults last_count ≤ fetched.faults
+  pub called_back : CallsBack (wants_call asker) asker (outcome_stat result) fetched new.dial

@@ -6,7 +6,7 @@ ghost use Rattle.yp_publisher.specs.Keeping.{keeping_of};
 ghost use Rattle.yp_io.specs.Dials.{dialing_of};
 ghost use Rattle.yp_transfer.specs.inside.Dials.{dial_by};
 ghost use Rattle.yp_transfer.specs.inside.Requests.{request_view, asked_view};
-ghost use Rattle.yp_transfer.specs.Transfers.{Transfers, TransfersFor};
+ghost use Rattle.yp_transfer.specs.Transfers.{Transfers, TransfersFor, transfer_state};
 
 use crate::calling_back::{stat_of, tell_back};
 use crate::dialed::fetch_from;
@@ -34,7 +34,8 @@ pub fn transfer<D: Disk, B: Show, A: Dial>(
 ) -> Result<Installed, XfrFault>
     requires { request.now.map < length publisher.old.maps }
     ensures transfers { Transfers (keeping_of D.history D.faults B.log) hosts.now (request_view request.now) result
-        (dialing_of A.past A.faults dial.old) (dialing_of A.past A.faults dial.new) publisher.old publisher.new }
+        (transfer_state (dialing_of A.past A.faults dial.old) publisher.old)
+        (transfer_state (dialing_of A.past A.faults dial.new) publisher.new) }
     ensures letters { A.letters dial.new ≡ A.letters dial.old }
     ensures faults { min (A.faults dial.old) last_count ≤ A.faults dial.new }
 {
@@ -63,7 +64,8 @@ pub fn transfer_for<D: Disk, B: Show, A: Dial>(
 )
     requires { asked.now.map < length publisher.old.maps }
     ensures { TransfersFor (keeping_of D.history D.faults B.log) hosts.now (asked_view asked.now) asked.now.asker
-        (dial_by A.Dial dial.old) (dial_by A.Dial dial.new) publisher.old publisher.new }
+        (transfer_state (dial_by A.Dial dial.old) publisher.old)
+        (transfer_state (dial_by A.Dial dial.new) publisher.new) }
 {
     let request = TransferRequest {
         map: asked.map,
