@@ -80,7 +80,8 @@ pub record CountsAll {H T : Type 0} (conduct : Conduct H) (counting : Counting H
   pub connections : T
   pub datagrams : List T
   pub deferred : T
-  pub of_connections : SumsUp conduct counting terms door door' calls connections log
+  pub of_connections : SumsUp conduct counting terms door door'
+      (record { calls = calls; sum = connections; reached = log })
   pub of_datagrams : CountsInboxes (mail_service conduct counting terms.catalogue terms.starts log turns) fault
       before after out out' datagrams deferred
   pub all_is : all ≡ counting.plus (fold counting.plus connections datagrams) deferred

@@ -46,7 +46,7 @@ module _ {H T : Type 0} (conduct : Conduct H) (counting : Counting H T) (terms :
   none_more new after more same returned let_go falls fault over = record {
     state = kept_none_more old now.listen new now.connections now.failed now.out now.ended is.state after more same
         returned falls fault over;
-    sums = sums_same conduct counting terms old now.listen new now.calls now.sum now.reached
+    sums = sums_same conduct counting terms old now.listen new now.totals
         (ap (λ (a : Accepting). a.past) same) returned let_go is.sums;
     held = is.held;
     one_part = is.one_part;

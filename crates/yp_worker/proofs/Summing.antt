@@ -13,7 +13,7 @@ use Rattle.yp_board.specs.Views.{IsFront}
 use Rattle.yp_answer.specs.session.Hosts.{Conduct}
 use Rattle.yp_worker.specs.Working.{Working}
 use Rattle.yp_worker.specs.Receptions.{Terms, GainsWhereTold, ListenTells}
-use Rattle.yp_worker.specs.Summing.{Counting, ServedConnection, ends_of, calls_of, let_go_of, WorkerRun, IsWorkerRun, calls_over, TellsClosed, SumsUp}
+use Rattle.yp_worker.specs.Summing.{Counting, ServedConnection, ends_of, calls_of, let_go_of, WorkerRun, IsWorkerRun, calls_over, TellsClosed, WorkTotals, SumsUp}
 use Rattle.yp_worker.specs.inside.Summing.{worker_run_of, EndTells, HasEnded}
 use Rattle.yp_worker.proofs.Growing.{front_then}
 
@@ -55,7 +55,8 @@ told_more (Some old) (Some now) new out lists list closed tells told is taken =
 
 module _ {H T : Type 0} (conduct : Conduct H) (counting : Counting H T) (terms : Terms) where
   -- before the first connection
-  pub sums_none : (now : ListenTells) (reached : Log) → SumsUp conduct counting terms now now 0 counting.none reached
+  pub sums_none : (now : ListenTells) (reached : Log)
+      → SumsUp conduct counting terms now now (record { calls = 0; sum = counting.none; reached = reached })
   sums_none now reached = record {
     worker_runs = [];
     closed = told_none now.past;
@@ -67,11 +68,11 @@ module _ {H T : Type 0} (conduct : Conduct H) (counting : Counting H T) (terms :
   }
 
   -- one more came
-  pub sums_came : (wire : Connected) (old now new : ListenTells) (out calls : ℕ) (sum : T) (reached : Log)
-      → GainsWhereTold old.past now.past out → SumsUp conduct counting terms old now calls sum reached
+  pub sums_came : (wire : Connected) (old now new : ListenTells) (out : ℕ) (totals : WorkTotals T)
+      → GainsWhereTold old.past now.past out → SumsUp conduct counting terms old now totals
       → GainsCall wire now.past new.past → new.returned ≡ now.returned → new.let_go ≡ now.let_go
-      → SumsUp conduct counting terms old new calls sum reached
-  sums_came wire old now new out calls sum reached tells sums gained returned let_go = record {
+      → SumsUp conduct counting terms old new totals
+  sums_came wire old now new out totals tells sums gained returned let_go = record {
     worker_runs = sums.worker_runs;
     closed = told_came wire old.past now.past new.past out (map list_of sums.worker_runs) tells sums.closed gained;
     returned = ap (λ (r : ℕ). capped r 0) returned ∙ sums.returned;
@@ -82,10 +83,10 @@ module _ {H T : Type 0} (conduct : Conduct H) (counting : Counting H T) (terms :
   }
 
   -- it tells what it told
-  pub sums_same : (old now new : ListenTells) (calls : ℕ) (sum : T) (reached : Log) → new.past ≡ now.past
-      → new.returned ≡ now.returned → new.let_go ≡ now.let_go → SumsUp conduct counting terms old now calls sum reached
-      → SumsUp conduct counting terms old new calls sum reached
-  sums_same old now new calls sum reached same returned let_go sums = record {
+  pub sums_same : (old now new : ListenTells) (totals : WorkTotals T) → new.past ≡ now.past
+      → new.returned ≡ now.returned → new.let_go ≡ now.let_go → SumsUp conduct counting terms old now totals
+      → SumsUp conduct counting terms old new totals
+  sums_same old now new totals same returned let_go sums = record {
     worker_runs = sums.worker_runs;
     closed = subst (λ (past : Option ListenerHistory). TellsClosed old.past past (map list_of sums.worker_runs)) (sym same) sums.closed;
     returned = ap (λ (r : ℕ). capped r 0) returned ∙ sums.returned;
@@ -117,8 +118,8 @@ module _ {H T : Type 0} (conduct : Conduct H) (counting : Counting H T) (terms :
 
   -- the log goes on
   pub sums_further : (old now : ListenTells) (calls : ℕ) (sum : T) (reached log : Log)
-      → SumsUp conduct counting terms old now calls sum reached → IsFront reached log
-      → SumsUp conduct counting terms old now calls sum log
+      → SumsUp conduct counting terms old now (record { calls = calls; sum = sum; reached = reached }) → IsFront reached log
+      → SumsUp conduct counting terms old now (record { calls = calls; sum = sum; reached = log })
   sums_further old now calls sum reached log sums grown = record {
     worker_runs = sums.worker_runs;
     closed = sums.closed;
@@ -131,16 +132,19 @@ module _ {H T : Type 0} (conduct : Conduct H) (counting : Counting H T) (terms :
 
   -- a worker has ended, and its closer was taken in; the log goes on from what all others knew, and from what its host
   -- knew
-  pub sums_ended : (old now new : ListenTells) (out calls : ℕ) (sum : T) (before after : Log) (worker : Working H)
+  pub sums_ended : (old now new : ListenTells) (out : ℕ) (totals : WorkTotals T) (after : Log) (worker : Working H)
       (end : EndTells) → GainsWhereTold old.past now.past out
-      → SumsUp conduct counting terms old now calls sum before
+      → SumsUp conduct counting terms old now totals
       → HasEnded conduct counting terms old.past worker end
       → new.past ≡ taken_in now.past end.closed → new.returned ≡ capped now.returned end.closed_count
       → new.let_go ≡ capped now.let_go end.let_go
-      → IsFront (conduct.seen worker.host).known after → IsFront before after
-      → SumsUp conduct counting terms old new (capped calls end.tally.calls) (counting.plus sum (counting.counted worker.host))
-      after
-  sums_ended old now new out calls sum before after worker end tells sums has taken returned gone covered kept =
+      → IsFront (conduct.seen worker.host).known after → IsFront totals.reached after
+      → SumsUp conduct counting terms old new (record {
+        calls = capped totals.calls end.tally.calls;
+        sum = counting.plus totals.sum (counting.counted worker.host);
+        reached = after;
+      })
+  sums_ended old now new out totals after worker end tells sums has taken returned gone covered kept =
       let worker_run = worker_run_of has.first worker has.steps has.stays has.left in record {
         worker_runs = sums.worker_runs ++ worker_run ∷ [];
         closed = subst (λ (lists : List (List ClosedConnection)). TellsClosed old.past new.past lists)
@@ -156,7 +160,7 @@ module _ {H T : Type 0} (conduct : Conduct H) (counting : Counting H T) (terms :
             let was = sums.let_go in
             omega (arith, more, was, gone, has.let_go_are);
         work = All-push (IsWorkerRun conduct counting terms old.past after) sums.worker_runs worker_run
-            (all_further old.past before after kept sums.worker_runs sums.work) (record {
+            (all_further old.past totals.reached after kept sums.worker_runs sums.work) (record {
               under = has.under;
               from_none = has.from_none;
               takes = has.takes;

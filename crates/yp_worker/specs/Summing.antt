@@ -192,15 +192,22 @@ abbrev pub TellsClosed : Option ListenerHistory → Option ListenerHistory → L
 TellsClosed (Some old) (Some new) more = new.closed ≡ old.closed ++ more
 TellsClosed _ _ more = ⊤
 
+-- what is told of all workers that have ended: how many records of their connections were read, the sum of what they
+-- counted, and a log of which each connection was answered on a front
+pub record WorkTotals (T : Type 0) : Type 0 where
+  pub calls : ℕ
+  pub sum : T
+  pub reached : Log
+
 -- A listener took in the closers of workers that worked so. What each closer tells is what its worker closed, in that
 -- order, and as many were closed as they served. No more were let go than its watches say. So many of their records
 -- were read, and this is the sum of what was counted in them. What each was answered on is a front of one log.
 pub record SumsUp {H T : Type 0} (conduct : Conduct H) (counting : Counting H T) (terms : Terms) (old new : ListenTells)
-    (calls : ℕ) (sum : T) (reached : Log) : Type 0 where
+    (totals : WorkTotals T) : Type 0 where
   pub worker_runs : List (WorkerRun H)
   pub closed : TellsClosed old.past new.past (map (λ worker_run. ends_of worker_run.stays) worker_runs)
   pub returned : capped new.returned 0 ≡ capped old.returned (stays_over worker_runs)
   pub let_go : capped old.let_go (let_go_over worker_runs) ≤ capped new.let_go 0
-  pub work : All (IsWorkerRun conduct counting terms old.past reached) worker_runs
-  pub calls_read : calls ≡ calls_over worker_runs
-  pub sum_is : sum ≡ sum_over counting worker_runs
+  pub work : All (IsWorkerRun conduct counting terms old.past totals.reached) worker_runs
+  pub calls_read : totals.calls ≡ calls_over worker_runs
+  pub sum_is : totals.sum ≡ sum_over counting worker_runs

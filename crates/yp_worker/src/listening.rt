@@ -167,12 +167,10 @@ impl<J: Reception, E: Ledger, H: HandsOver, L: Hall, G> Model for Listening<J, E
         (counting_of H.counted H.none H.plus) (terms_of J.catalogue J.starts J.most) J.opening (record {
           listen = opening_by L.Hall l.listen;
           connections = l.connections;
-          calls = l.calls;
           failed = l.failed;
           out = l.out.total;
           ended = l.ended.total;
-          sum = H.summed l.sum;
-          reached = H.reached l.sum;
+          totals = record { calls = l.calls; sum = H.summed l.sum; reached = H.reached l.sum };
           waiting = l.left;
           held = l.held.amount;
           held_parts = l.held.parts;
@@ -395,8 +393,11 @@ impl<J: Reception, E: Ledger, H: HandsOver, L: Hall, G> Listening<J, E, H, L, G>
         ensures kept { IsListenerState J.opening (opening_by L.Hall result.0) result.1.connections
             result.1.listen_fault 0 1 }
         ensures summed { SumsUp (conduct_by H.Host) (counting_of H.counted H.none H.plus) (terms_by J.Reception)
-            J.opening (opening_by L.Hall result.0)
-            result.1.calls (H.summed result.2) (H.reached result.2) }
+            J.opening (opening_by L.Hall result.0) (record {
+              calls = result.1.calls;
+              sum = H.summed result.2;
+              reached = H.reached result.2;
+            }) }
         ensures same { pass.new ≡ record pass.old { parts = J.parts } }
     {
         let Listening {

@@ -215,9 +215,11 @@ fn cover<J: Reception, H: HandsOver, L: Hall, B: Tell>(
 )
     requires reached { H.reached sum.now ≡ B.kept front.now }
     requires summed { SumsUp (conduct_by H.Host) (counting_of H.counted H.none H.plus) (terms_by J.Reception) J.opening
-        (opening_by L.Hall listen.now) tally.now.calls (H.summed sum.now) (H.reached sum.now) }
+        (opening_by L.Hall listen.now)
+        (record { calls = tally.now.calls; sum = H.summed sum.now; reached = H.reached sum.now }) }
     ensures { SumsUp (conduct_by H.Host) (counting_of H.counted H.none H.plus) (terms_by J.Reception) J.opening
-        (opening_by L.Hall listen.now) tally.now.calls (H.summed sum.now) (B.log writer.new) }
+        (opening_by L.Hall listen.now)
+        (record { calls = tally.now.calls; sum = H.summed sum.now; reached = B.log writer.new }) }
 {
     writer.covers(front);
     laws::sums_reach_further::<H>();

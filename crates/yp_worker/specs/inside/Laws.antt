@@ -14,8 +14,9 @@ use Rattle.yp_worker.specs.inside.Mailing.{Carrying, CarriesOn}
 abbrev pub SumsReachFurther : {H T : Type 0} → Conduct H → Counting H T → Type 0
 SumsReachFurther {H} {T} conduct counting =
     (terms : Terms) (old now : ListenTells) (calls : ℕ) (sum : T) (reached log : Log)
-    → SumsUp conduct counting terms old now calls sum reached → IsFront reached log
-    → SumsUp conduct counting terms old now calls sum log
+    → SumsUp conduct counting terms old now (record { calls = calls; sum = sum; reached = reached })
+    → IsFront reached log
+    → SumsUp conduct counting terms old now (record { calls = calls; sum = sum; reached = log })
 
 -- A carrier that took in what servers held between two times has done what it did in both.
 abbrev pub CarriersGoOn : {I H T : Type 0} → Conduct H → (H → T) → (I → InboxTells) → (I → ℕ) → Type 0

@@ -19,7 +19,7 @@ invariant_of-self-in-Ok-Came g c =
           g.J.Reception.opening (seen c.self.inside.listen) (seen c.try_accept.new.self) _ _ _ _ c.self.invariant.state _ c.if-self.false
           comes c.in-Ok-Came.ensures.returned c.in-Ok-Came.ensures.cause.never_falls);
       sums = sums_came conduct counting terms _ g.J.Reception.opening (seen c.self.inside.listen) (seen c.try_accept.new.self) _ _
-          (g.H.HandsOver.summed c.self.inside.sum) (g.H.HandsOver.reached c.self.inside.sum) c.self.invariant.state.tells
+          c.self.invariant.state.tells
           c.self.invariant.sums comes.gained c.in-Ok-Came.ensures.returned c.in-Ok-Came.ensures.let_go;
       held = c.self.invariant.held;
       one_part = c.self.invariant.one_part;

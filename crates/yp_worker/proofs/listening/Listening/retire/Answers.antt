@@ -27,8 +27,13 @@ invariant_of-self g c =
           (omega (arith, c.sub.ensures.total, has.connections_are, longer)) has.told (omega (arith, has.closed_are, longer)) past most
           accepted returned faults;
       sums = rw (c.hand_over.ensures.added, c.saturating_add-self-inside.ensures) (sums_ended conduct counting terms
-          g.J.Reception.opening (seen c.self.inside.listen) (seen c.end.new.self) _ _
-          (g.H.HandsOver.summed c.self.inside.sum) (g.H.HandsOver.reached c.self.inside.sum) _ c.args.worker.now
+          g.J.Reception.opening (seen c.self.inside.listen) (seen c.end.new.self) _
+          (record {
+            calls = c.self.inside.calls;
+            sum = g.H.HandsOver.summed c.self.inside.sum;
+            reached = g.H.HandsOver.reached c.self.inside.sum;
+          })
+          _ c.args.worker.now
           (record {
             tally = c.args.tally.now;
             closed = g.L.Hall.closed c.args.closer;

@@ -28,7 +28,9 @@ returns-clause-carries g c =
 pub invariant_of-self-2 : goal.invariant_of-self-2
 invariant_of-self-2 g c =
     let conduct = conduct_of g.H.View.seen g.H.Host.told g.H.Host.counts g.H.View.stepped g.H.Host.made g.H.Host.carried in
-    let kept = done_keeps conduct g.H.CatchUp.counted (box_by g.I.Inbox) g.I.Inbox.faults _ _ _ c.carry_out-self-inside.ensures in
+    let kept = done_keeps conduct g.H.CatchUp.counted (box_by g.I.Inbox) g.I.Inbox.faults _ _
+    (carrier_state (box_by g.I.Inbox) g.I.Inbox.faults c.carry_out-self-inside.new.host c.carry_out-self-inside.new.inbox c.carry_out-self-inside.result)
+    c.carry_out-self-inside.ensures in
     let letter = c.self.inside.letter in
     let buf = c.carry_out-self-inside.new.buf in
     let size : length buf ≡ letter.len = grind (arith, common_steps) in
