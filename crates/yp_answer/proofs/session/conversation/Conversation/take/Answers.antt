@@ -17,6 +17,16 @@ returns-in-TooLong-clause-goes g c =
     let conduct = conduct_of g.H.View.seen g.H.Host.told g.H.Host.counts g.H.View.stepped g.H.Host.made g.H.Host.carried in
     goes_still conduct c.args.terms.now.peer c.args.terms.now.carries c.args.host.now _ _ c.rest-in-TooLong.ensures.follows
 
+pub returns-then-self-terms-clause-goes : goal.returns-then-self-terms-clause-goes
+returns-then-self-terms-clause-goes g c =
+    let conduct = conduct_of g.H.View.seen g.H.Host.told g.H.Host.counts g.H.View.stepped g.H.Host.made g.H.Host.carried in
+    goes_still conduct c.args.terms.now.peer c.args.terms.now.carries c.args.host.now _ _ c.rest.ensures.follows
+
+pub returns-then-may_make-clause-goes : goal.returns-then-may_make-clause-goes
+returns-then-may_make-clause-goes g c =
+    let conduct = conduct_of g.H.View.seen g.H.Host.told g.H.Host.counts g.H.View.stepped g.H.Host.made g.H.Host.carried in
+    goes_still conduct c.args.terms.now.peer c.args.terms.now.carries c.args.host.now _ _ c.rest-then-may_make.ensures.follows
+
 pub returns-then-may_make-clause-comes_to : goal.returns-then-may_make-clause-comes_to
 returns-then-may_make-clause-comes_to g c =
     let long : length c.first.new.buf ≡ record_max = search rules in
