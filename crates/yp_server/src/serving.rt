@@ -24,7 +24,7 @@ ghost use Rattle.yp_host.specs.workers.Wires.{CoversOrders, CoversSources};
 ghost use Rattle.yp_transfer.specs.inside.Dials.{dial_by};
 ghost use Rattle.yp_host.specs.inside.workers.Uses.{dial_told};
 ghost use Rattle.yp_server.specs.Counting.{CountsAndTells, FilesAreCovered, file_tells, count_told};
-ghost use Rattle.yp_server.specs.Origins.{ComesFrom, EachComesFrom};
+ghost use Rattle.yp_server.specs.Origins.{served_maps, ComesFrom, EachComesFrom};
 
 use crate::datagrams::CarrierResources;
 use crate::locks::{Blanks, CallBackParts, lock_up, unlock};
@@ -147,8 +147,8 @@ where
     ensures origins { IfOk result (λ served. IsStart (publisher_state B.log resources.publisher)
         → AreTold D.history served.disks.items → ComesFrom D.history
         (IsBuiltAsNamed (T.text resources.desk.texts) resources.publisher.catalogue)
-        (publisher_state B.log resources.publisher) resources.publisher.catalogue
-        (B.log served.writer) served.disks.items served.totals.made
+        (served_maps resources.publisher.catalogue (publisher_state B.log resources.publisher)
+        (B.log served.writer) served.disks.items) served.totals.made
         (A.past resources.desk.dial) (A.past served.desk.dial)) }
 
     // Each version that was shown was new behind the log before it: it was built, or a wire gave it. At each moment a
@@ -156,8 +156,8 @@ where
     // for a version that was new; and a map that is behind at the end is behind a version that is new.
     ensures traced { IfOk result (λ served. IsStart (publisher_state B.log resources.publisher)
         → EachComesFrom D.history (IsBuiltAsNamed (T.text resources.desk.texts) resources.publisher.catalogue)
-        resources.publisher.catalogue (B.log resources.publisher.board) (B.log served.writer)
-        (map D.history (disks_of resources.publisher.maps)) served.disks.items
+        (served_maps resources.publisher.catalogue (publisher_state B.log resources.publisher)
+        (B.log served.writer) served.disks.items) (map D.history (disks_of resources.publisher.maps))
         (A.past resources.desk.dial) (A.past served.desk.dial)) }
 
     // Want of memory, before a connection was accepted or a turn was taken. Nothing has changed.
@@ -286,10 +286,11 @@ where
     ensures sources { IfOk result (λ served. CoversSources J.wires (A.past served.desk.dial)
         J.dial_faults (A.faults served.desk.dial) served.totals.outcomes.source) }
     ensures origins { IfOk result (λ served. IsStart J.first → AreTold D.history served.disks.items
-        → ComesFrom D.history J.built J.first J.catalogue (B.log served.writer) served.disks.items
+        → ComesFrom D.history J.built (served_maps J.catalogue J.first (B.log served.writer) served.disks.items)
         served.totals.made J.wires (A.past served.desk.dial)) }
-    ensures traced { IfOk result (λ served. IsStart J.first → EachComesFrom D.history J.built J.catalogue J.first.log
-        (B.log served.writer) J.histories served.disks.items J.wires (A.past served.desk.dial)) }
+    ensures traced { IfOk result (λ served. IsStart J.first → EachComesFrom D.history J.built
+        (served_maps J.catalogue J.first (B.log served.writer) served.disks.items) J.histories J.wires
+        (A.past served.desk.dial)) }
     ensures refused { IfErr result (λ refused. (refused.desk ≡ resources.desk) × (refused.listen ≡ resources.listen)
         × (refused.inboxes ≡ resources.inboxes) × (refused.outbox ≡ resources.outbox)) }
     ensures disks { IfErr result (λ refused. refused.disks.items ≡ disks_of resources.publisher.maps) }
@@ -400,10 +401,11 @@ where
     ensures sources { IfOk result (λ served. CoversSources J.wires (A.past served.desk.dial)
         J.dial_faults (A.faults served.desk.dial) served.totals.outcomes.source) }
     ensures origins { IfOk result (λ served. IsStart J.first → AreTold D.history served.disks.items
-        → ComesFrom D.history J.built J.first J.catalogue (B.log served.writer) served.disks.items
+        → ComesFrom D.history J.built (served_maps J.catalogue J.first (B.log served.writer) served.disks.items)
         served.totals.made J.wires (A.past served.desk.dial)) }
-    ensures traced { IfOk result (λ served. IsStart J.first → EachComesFrom D.history J.built J.catalogue J.first.log
-        (B.log served.writer) J.histories served.disks.items J.wires (A.past served.desk.dial)) }
+    ensures traced { IfOk result (λ served. IsStart J.first → EachComesFrom D.history J.built
+        (served_maps J.catalogue J.first (B.log served.writer) served.disks.items) J.histories J.wires
+        (A.past served.desk.dial)) }
     ensures refused { IfErr result (λ refused. (refused.desk ≡ resources.desk) × (refused.listen ≡ resources.listen)
         × (refused.inboxes ≡ resources.inboxes) × (refused.outbox ≡ resources.outbox)) }
     ensures disks { IfErr result (λ refused. refused.disks.items ≡ disks_of resources.publisher.maps) }

@@ -23,7 +23,7 @@ use Rattle.yp_host.specs.workers.Wires.{CoversOrders, CoversSources}
 use Rattle.yp_worker.specs.Receptions.{ListenTells, IsListenerState, opening_by, terms_of}
 use Rattle.yp_server.specs.Serving.{conduct_at, mail_service, ServesInboxes, DisksStand}
 use Rattle.yp_server.specs.Counting.{CountsAndTells, FilesAreCovered, file_tells, count_told}
-use Rattle.yp_server.specs.Origins.{ComesFrom, EachComesFrom}
+use Rattle.yp_server.specs.Origins.{served_maps, ComesFrom, EachComesFrom}
 use Rattle.yp_command.specs.declared.office.office.Office.{Office}
 use Rattle.yp_command_serve.specs.declared.serve.serve.Doors.{Doors}
 use Rattle.yp_command_serve.specs.declared.serve.serve.Outside.{Outside}
@@ -132,9 +132,11 @@ pub record IsAccounted {D : Type 0} (seen : disk.Ghosts D) (setup : ServeSetup) 
   pub sources : CoversSources old.supply.dial.past new.supply.dial.past old.supply.dial.faults new.supply.dial.faults
       hosted.totals.outcomes.source
   pub origins : AreTold seen.history new.disks → ComesFrom seen.history (IsBuiltAsNamed setup.text setup.catalogue)
-      growth.first setup.catalogue growth.log new.disks hosted.totals.made old.supply.dial.past new.supply.dial.past
-  pub traced : EachComesFrom seen.history (IsBuiltAsNamed setup.text setup.catalogue) setup.catalogue growth.first.log
-      growth.log (map seen.history old.disks) new.disks old.supply.dial.past new.supply.dial.past
+      (served_maps setup.catalogue growth.first growth.log new.disks) hosted.totals.made old.supply.dial.past
+      new.supply.dial.past
+  pub traced : EachComesFrom seen.history (IsBuiltAsNamed setup.text setup.catalogue)
+      (served_maps setup.catalogue growth.first growth.log new.disks) (map seen.history old.disks)
+      old.supply.dial.past new.supply.dial.past
 
 -- Maps that were loaded were served, and what their files stood for was shown before the first caller came. What was
 -- shown since stands behind that in one log. So many connections came, and all were closed. Each datagram had its turn,
