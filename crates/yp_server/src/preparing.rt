@@ -18,7 +18,7 @@ ghost use Rattle.yp_rpc.specs.Turns.{datagram_max};
 ghost use Rattle.yp_rpc.specs.inside.Turns.{box_by};
 ghost use Rattle.yp_server.specs.Serving.{conduct_at, IsAtStart, SomeHasRisen};
 ghost use Rattle.yp_server.specs.declared.datagrams.DatagramWorker.{DatagramWorker};
-ghost use Rattle.yp_server.specs.inside.Counting.{BeginsMail};
+ghost use Rattle.yp_server.specs.inside.Counting.{mail_start, BeginsMail};
 ghost use Rattle.yp_server.specs.inside.Serving.{before_work, fresh_worker};
 ghost use Rattle.yp_server.specs.inside.Shares.{SharesFor};
 ghost use Rattle.yp_server.specs.inside.Workers.{workers_of, connections_of, datagram_worker_of};
@@ -271,8 +271,8 @@ impl<
             × (length inbox_resources.inboxes.items < parts.old.parts) }
         ensures workers { (datagram_workers : List (DatagramWorker I J (WorkerState B.Reader)
             B.Knowledge R)) × (all_workers.new.items ≡ workers_of datagram_workers 0 before_work)
-            × AllZip (BeginsMail (conduct_at B.Reader.seen B.Reader.stepped J.text J.hosts) count_told J.catalogue
-            J.starts self.now.pending.now inbox_resources.turns) inbox_resources.inboxes.items datagram_workers }
+            × AllZip (BeginsMail (conduct_at B.Reader.seen B.Reader.stepped J.text J.hosts) count_told
+            (mail_start J.catalogue J.starts self.now.pending.now inbox_resources.turns)) inbox_resources.inboxes.items datagram_workers }
         ensures count { length all_workers.new.items ≡ length inbox_resources.inboxes.items }
         ensures room { vec_capacity all_workers.new ≡ vec_capacity all_workers.old }
         ensures readers { length readers.new.items + length inbox_resources.inboxes.items
@@ -391,8 +391,8 @@ impl<
         ensures workers { (datagram_workers : List (DatagramWorker I J (WorkerState B.Reader)
             B.Knowledge R)) × (all_workers.new.items ≡ workers_of datagram_workers
             (length worker_resources.memory.all_buffers.items) before_work)
-            × AllZip (BeginsMail (conduct_at B.Reader.seen B.Reader.stepped J.text J.hosts) count_told J.catalogue
-            J.starts self.now.pending.now worker_resources.turns) worker_resources.inboxes.items datagram_workers }
+            × AllZip (BeginsMail (conduct_at B.Reader.seen B.Reader.stepped J.text J.hosts) count_told
+            (mail_start J.catalogue J.starts self.now.pending.now worker_resources.turns)) worker_resources.inboxes.items datagram_workers }
         ensures count { length all_workers.new.items
             ≡ length worker_resources.memory.all_buffers.items + length worker_resources.inboxes.items }
         ensures shares { SharesFor 0 0 shares.new }
