@@ -14,7 +14,7 @@ use Rattle.yp_server.specs.declared.datagrams.DatagramWorker.{DatagramWorker}
 use Rattle.yp_server.specs.inside.Workers.{AnswersDatagrams}
 use Rattle.yp_worker.specs.Summing.{Counting}
 use Rattle.yp_server.specs.Serving.{MailService, mail_service, at_rest, EachServes, ServesInboxes, SomeHasRisen}
-use Rattle.yp_server.specs.Counting.{CountsDatagrams, EachCounts, CountsInboxes}
+use Rattle.yp_server.specs.Counting.{CountsDatagrams, EachCounts, CountsInboxes, mail_tells}
 use Rattle.yp_server.specs.inside.Counting.{mail_start, BeginsMail}
 use Rattle.yp_server.specs.inside.Handing.{left_by, took_by, parts_of}
 
@@ -55,7 +55,7 @@ module _ {H T : Type 0} (service : MailService H T) where
       started failed old new left_here count one
 
   pub starts_in : (fault : Bool) (before after : List InboxTells) (out out' : InboxTells) (counts : List T) (of_carrier : T)
-      → 0 < length before → CountsInboxes service fault before after out out' counts of_carrier
+      → 0 < length before → CountsInboxes service fault (mail_tells before out) (mail_tells after out') counts of_carrier
       → IsFront service.starts service.log
   starts_in fault before after out out' counts of_carrier some all =
       each_starts all.failed before after all.left counts some all.each
@@ -82,7 +82,7 @@ module _ {H T : Type 0} (service : MailService H T) where
       )
 
   pub served_of : (fault : Bool) (before after : List InboxTells) (out out' : InboxTells) (counts : List T) (of_carrier : T)
-      → CountsInboxes service fault before after out out' counts of_carrier
+      → CountsInboxes service fault (mail_tells before out) (mail_tells after out') counts of_carrier
       → ServesInboxes service fault before after out out'
   served_of fault before after out out' counts of_carrier all = record {
     failed = all.failed;

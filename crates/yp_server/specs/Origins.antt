@@ -10,8 +10,8 @@ use Rattle.yp_publisher.specs.sharing.Tracing.{FetchLog, IsNewBehind, Traces}
 use Rattle.yp_host.specs.workers.Wires.{IsGood, CoversBy, AllCameByWire}
 use Rattle.yp_server.specs.Serving.{DisksStand}
 
--- maps that were served: which they are, what had been shown of them at first and how they stood then, what was shown at
--- the end, and their disks then
+-- maps that were served: which they are, what had been shown of them at first and how they stood then, what was shown
+-- at the end, and their disks then
 pub record ServedMaps (D : Type 0) : Type 0 where
   pub catalogue : Catalogue
   pub first : PublisherState

@@ -8,7 +8,7 @@ use Rattle.yp_worker.specs.Receptions.{opening_by, terms_of}
 use Rattle.yp_host.specs.inside.workers.Charges.{counted_by}
 use Rattle.yp_worker.specs.datagrams.Mailing.{QueueName, Holding, nothing_held}
 use Rattle.yp_server.specs.inside.Serving.{before_work}
-use Rattle.yp_server.specs.Counting.{CountsAll, count_told}
+use Rattle.yp_server.specs.Counting.{CountsAll, count_told, server_terms, endpoint_tells, server_end}
 use Rattle.yp_server.specs.Serving.{conduct_at, IsAtStart, SomeHasRisen}
 use Rattle.yp_server.specs.inside.Counting.{mail_start, BeginsMail, BeginsCarrying}
 use Rattle.yp_server.proofs.Crossing.{board_front_send, host_send, account_send}
@@ -105,9 +105,11 @@ returns-clause-counted g c = λ log reached.
     (sym queue) added.2 in
     let made = c.run_workers-listen.result in
     let box = box_by g.I.Inbox in
-    subst (λ (i : g.row.I.Denot). CountsAll conduct count_told (terms_of g.J.Site.catalogue g.J.Reception.starts g.J.Reception.most)
-    g.J.Reception.opening (opening_by g.L.Hall made.0) made.1.calls log turns made.2.fault (map box inboxes)
-    (map box made.2.inboxes.items) (box i) (box made.2.outbox) (counted_by made.3))
+    subst (λ (i : g.row.I.Denot). CountsAll conduct count_told
+    (server_terms (terms_of g.J.Site.catalogue g.J.Reception.starts g.J.Reception.most) turns)
+    (endpoint_tells g.J.Reception.opening (map box inboxes) (box i))
+    (endpoint_tells (opening_by g.L.Hall made.0) (map box made.2.inboxes.items) (box made.2.outbox))
+    (server_end made.1.calls made.2.fault (counted_by made.3) log))
     (ap (λ m. m.inbox) c.carrier-carrier.ensures)
     (c.run_workers-listen.ensures.counted inboxes added.0
     (manned added.0 before_work (length c.args.worker_resources.memory.all_buffers.items) g.J.Ledger.parts _ (let some = c.requires.some.0 in omega (arith, some))
