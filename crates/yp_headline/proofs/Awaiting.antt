@@ -25,7 +25,7 @@ use Rattle.yp_host.specs.workers.Charges.{counted_of, counted_plus, nothing_coun
 use Rattle.yp_host.specs.workers.Statuses.{HasStatus}
 use Rattle.yp_host.specs.workers.Workers.{WorkerState, TellsOf}
 use Rattle.yp_server.specs.Serving.{MailService, mail_service}
-use Rattle.yp_server.specs.Counting.{count_told, CountsDatagrams, EachCounts, CountsBeside, CountsInboxes}
+use Rattle.yp_server.specs.Counting.{count_told, CountsDatagrams, EachCounts, CountsBeside, CountsInboxes, mail_tells}
 use Rattle.yp_headline.specs.World.{World}
 use Rattle.yp_headline.specs.Publishing.{IsAmong}
 use Rattle.yp_headline.proofs.Steps.{front_then, known, catalogue_of}
@@ -248,7 +248,7 @@ module _ {V : Type 0} (seen : V → Seen) (stepped : V → V → Type 0) (text :
   -- what was left by those that served datagrams, and by one beside them, on top of others
   pub inboxes_tell : (loses : Bool) (turns : ℕ) (fault : Bool) (before after : List InboxTells) (out out' : InboxTells)
       (counts : List Counted) (of_carrier : Counted)
-      → (counted : CountsInboxes (service turns) fault before after out out' counts of_carrier)
+      → (counted : CountsInboxes (service turns) fault (mail_tells before out) (mail_tells after out') counts of_carrier)
       → AllByRecursion Q (taken_by world.catalogue begun log loses its count_told turns counted.failed before after counted.left
       counts counted.each)
       → (sum : Counted) → AllByRecursion P sum.told

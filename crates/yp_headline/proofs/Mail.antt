@@ -35,7 +35,7 @@ use Rattle.yp_worker.specs.Summing.{Counting}
 use Rattle.yp_server.specs.Serving.{MailService, mail_service, ServesDatagrams}
 use Rattle.yp_worker.specs.datagrams.Carrying.{CarrierStep, left_for, sent_over}
 use Rattle.yp_worker.specs.datagrams.Queues.{weigh, WeighTheSame}
-use Rattle.yp_server.specs.Counting.{CountsDatagrams, EachCounts, CountsInboxes}
+use Rattle.yp_server.specs.Counting.{CountsDatagrams, EachCounts, CountsInboxes, mail_tells}
 use Rattle.yp_headline.specs.World.{Datagram}
 use Rattle.yp_headline.specs.Answering.{answer, programs}
 use Rattle.yp_headline.specs.Publishing.{IsAmong}
@@ -830,7 +830,7 @@ module _ (catalogue : Catalogue) (begun log : Log) (loses : Bool) where
 
     pub boxes_served : (turns : ℕ) (fault : Bool) (before after : List InboxTells) (out out' : InboxTells) (counts : List T)
         (of_carrier : T) → (fault ≡ true → loses ≡ true)
-        → (counted : CountsInboxes (service conduct counting turns) fault before after out out' counts of_carrier)
+        → (counted : CountsInboxes (service conduct counting turns) fault (mail_tells before out) (mail_tells after out') counts of_carrier)
         → (inboxes : List Heard) → map (λ box. box.past) before ≡ map (λ one. Some one.before) inboxes
         → map (λ box. box.past) after ≡ map (λ one. Some (one.before ++ one.more)) inboxes
         → (heard : Heard) → out.past ≡ Some heard.before → out'.past ≡ Some (heard.before ++ heard.more)

@@ -32,7 +32,7 @@ use Rattle.yp_host.specs.workers.Charges.{counted_of, nothing_counted}
 use Rattle.yp_host.specs.workers.Desks.{texts_alone}
 use Rattle.yp_host.specs.workers.Makings.{IsBuiltAsNamed}
 use Rattle.yp_host.specs.workers.Wires.{AtLeast, BytesGive, GivesVersion, CoversBy, CameByWire}
-use Rattle.yp_server.specs.Counting.{count_told, CountsAll}
+use Rattle.yp_server.specs.Counting.{count_told, CountsAll, server_terms, endpoint_tells, server_end}
 use Rattle.yp_command.specs.declared.office.disks.NamedDisk.{NamedDisk}
 use Rattle.yp_command.specs.declared.office.status.Status.{Status}
 use Rattle.yp_command.specs.declared.office.status.Status.TheVariants as status
@@ -161,10 +161,12 @@ module _ {S K D C A I T : Type 0} (seen : Seeing S K D C A I T) (job : Job) (s :
       (all_served (conduct (setup seen job old.office)) count_told (terms_of (catalogue_of job) begun CALLS_MAX) old.doors.listen.past
       log sums.worker_runs sums.work (subst (λ (l : List ClosedConnection). AllByRecursion IsToldClosed l) all tell.told_closed))
 
-  abbrev counts : CountsAll (conduct (setup seen job old.office)) count_told (terms_of (catalogue_of job) begun CALLS_MAX)
-      old.doors.listen new.doors.listen serves.hosted.tally.calls log job.turns serves.hosted.inbox_fault ((place seen old).boxes)
-      ((place seen new).boxes) ((place seen old).out) ((place seen new).out)
-      (record { totals = serves.hosted.totals; told = serves.is_hosted.served.accounted.counted.told })
+  abbrev counts : CountsAll (conduct (setup seen job old.office)) count_told
+      (server_terms (terms_of (catalogue_of job) begun CALLS_MAX) job.turns)
+      (endpoint_tells old.doors.listen ((place seen old).boxes) ((place seen old).out))
+      (endpoint_tells new.doors.listen ((place seen new).boxes) ((place seen new).out))
+      (server_end serves.hosted.tally.calls serves.hosted.inbox_fault
+      (record { totals = serves.hosted.totals; told = serves.is_hosted.served.accounted.counted.told }) log)
   counts = serves.is_hosted.served.accounted.counted.counted
 
   abbrev its : Conduct (WorkerState Seen)

@@ -14,8 +14,8 @@ use Rattle.yp_server.specs.declared.datagrams.DatagramWorker.{DatagramWorker}
 use Rattle.yp_server.specs.inside.Workers.{AnswersDatagrams}
 use Rattle.yp_worker.specs.Summing.{Counting}
 use Rattle.yp_server.specs.Serving.{MailService, mail_service, at_rest, EachServes, ServesInboxes, SomeHasRisen}
-use Rattle.yp_server.specs.Counting.{CountsDatagrams, EachCounts, CountsInboxes}
-use Rattle.yp_server.specs.inside.Counting.{BeginsMail}
+use Rattle.yp_server.specs.Counting.{CountsDatagrams, EachCounts, CountsInboxes, mail_tells}
+use Rattle.yp_server.specs.inside.Counting.{mail_start, BeginsMail}
 use Rattle.yp_server.specs.inside.Handing.{left_by, took_by, parts_of}
 
 pub front_then : (a b c : Log) → IsFront a b → IsFront b c → IsFront a c
@@ -55,7 +55,7 @@ module _ {H T : Type 0} (service : MailService H T) where
       started failed old new left_here count one
 
   pub starts_in : (fault : Bool) (before after : List InboxTells) (out out' : InboxTells) (counts : List T) (of_carrier : T)
-      → 0 < length before → CountsInboxes service fault before after out out' counts of_carrier
+      → 0 < length before → CountsInboxes service fault (mail_tells before out) (mail_tells after out') counts of_carrier
       → IsFront service.starts service.log
   starts_in fault before after out out' counts of_carrier some all =
       each_starts all.failed before after all.left counts some all.each
@@ -82,7 +82,7 @@ module _ {H T : Type 0} (service : MailService H T) where
       )
 
   pub served_of : (fault : Bool) (before after : List InboxTells) (out out' : InboxTells) (counts : List T) (of_carrier : T)
-      → CountsInboxes service fault before after out out' counts of_carrier
+      → CountsInboxes service fault (mail_tells before out) (mail_tells after out') counts of_carrier
       → ServesInboxes service fault before after out out'
   served_of fault before after out out' counts of_carrier all = record {
     failed = all.failed;
@@ -100,7 +100,7 @@ module _ {I J H F R T : Type 0} (conduct : Conduct H) (counting : Counting H T) 
     (catalogue : Catalogue) (starts : Log) (queue : QueueName) (turns : ℕ) where
   mailed : (log : Log) (inbox : I) (first last : DatagramWorker I J H F R)
       → AnswersDatagrams conduct counting.counted box faults first last
-      → BeginsMail conduct counting catalogue starts queue turns inbox first → IsFront (conduct.seen last.server.host).known log
+      → BeginsMail conduct counting (mail_start catalogue starts queue turns) inbox first → IsFront (conduct.seen last.server.host).known log
       → CountsDatagrams (mail_service conduct counting catalogue starts log turns) last.fault (box inbox) (box last.inbox)
       last.server.holding.left (counting.counted last.server.host)
   mailed log inbox first last mails begins front =
@@ -129,7 +129,7 @@ module _ {I J H F R T : Type 0} (conduct : Conduct H) (counting : Counting H T) 
 
   -- the same of all of them
   pub each_mailed : (log : Log) (inboxes : List I) (firsts lasts : List (DatagramWorker I J H F R))
-      → AllZip (BeginsMail conduct counting catalogue starts queue turns) inboxes firsts
+      → AllZip (BeginsMail conduct counting (mail_start catalogue starts queue turns)) inboxes firsts
       → AllZip (AnswersDatagrams conduct counting.counted box faults) firsts lasts
       → AllByRecursion (λ (m : Mailing H). IsFront (conduct.seen m.host).known log) (map (λ (m : DatagramWorker I J H F R). m.server) lasts)
       → EachCounts (mail_service conduct counting catalogue starts log turns) (list_any (λ (m : DatagramWorker I J H F R). m.fault) lasts)
@@ -154,7 +154,7 @@ module _ {I J H F R T : Type 0} (conduct : Conduct H) (counting : Counting H T) 
 
   -- each had one part of the queue, and has it still
   pub queues : (inboxes : List I) (firsts lasts : List (DatagramWorker I J H F R))
-      → AllZip (BeginsMail conduct counting catalogue starts queue turns) inboxes firsts
+      → AllZip (BeginsMail conduct counting (mail_start catalogue starts queue turns)) inboxes firsts
       → AllZip (AnswersDatagrams conduct counting.counted box faults) firsts lasts
       → AllByRecursion (λ (m : DatagramWorker I J H F R). m.server.holding.queue ≡ queue) lasts
   queues [] [] [] begin mails = tt
@@ -168,7 +168,7 @@ module _ {I J H F R T : Type 0} (conduct : Conduct H) (counting : Counting H T) 
   )
 
   pub parts_are : (inboxes : List I) (firsts lasts : List (DatagramWorker I J H F R))
-      → AllZip (BeginsMail conduct counting catalogue starts queue turns) inboxes firsts
+      → AllZip (BeginsMail conduct counting (mail_start catalogue starts queue turns)) inboxes firsts
       → AllZip (AnswersDatagrams conduct counting.counted box faults) firsts lasts
       → parts_of (map (λ (m : DatagramWorker I J H F R). m.server) lasts) ≡ length inboxes
   parts_are [] [] [] begin mails = refl
@@ -185,7 +185,7 @@ module _ {I J H F R T : Type 0} (conduct : Conduct H) (counting : Counting H T) 
 
   -- none has taken anything over from there
   pub took_none : (inboxes : List I) (firsts lasts : List (DatagramWorker I J H F R))
-      → AllZip (BeginsMail conduct counting catalogue starts queue turns) inboxes firsts
+      → AllZip (BeginsMail conduct counting (mail_start catalogue starts queue turns)) inboxes firsts
       → AllZip (AnswersDatagrams conduct counting.counted box faults) firsts lasts
       → took_by (map (λ (m : DatagramWorker I J H F R). m.server) lasts) ≡ []
   took_none [] [] [] begin mails = refl
@@ -202,7 +202,7 @@ module _ {I J H F R T : Type 0} (conduct : Conduct H) (counting : Counting H T) 
 
   -- where one has failed, the count of its inbox rose
   pub some_fails : (inboxes : List I) (firsts lasts : List (DatagramWorker I J H F R))
-      → AllZip (BeginsMail conduct counting catalogue starts queue turns) inboxes firsts
+      → AllZip (BeginsMail conduct counting (mail_start catalogue starts queue turns)) inboxes firsts
       → AllZip (AnswersDatagrams conduct counting.counted box faults) firsts lasts
       → list_any (λ (m : DatagramWorker I J H F R). m.fault) lasts ≡ true
       → SomeHasRisen (map faults inboxes) (map faults (map (λ (m : DatagramWorker I J H F R). m.inbox) lasts))

@@ -8,7 +8,7 @@ use Rattle.yp_publisher.specs.Rising.{PublisherState, publisher_state}
 use Rattle.yp_publisher.specs.sharing.Sources.{Building, IsSourced}
 use Rattle.yp_server.specs.Serving.{DisksStand}
 use Rattle.yp_publisher.specs.sharing.Tracing.{FetchLog, IsNewBehind, Traces}
-use Rattle.yp_server.specs.Origins.{Stems, LeavesTraced}
+use Rattle.yp_server.specs.Origins.{served_maps, Stems, LeavesTraced}
 
 module _ {D B : Type 0} (history : D → Option History) (Is : Building) (first : PublisherState) (catalogue : Catalogue)
     (log : B → Log) where
@@ -17,10 +17,10 @@ module _ {D B : Type 0} (history : D → Option History) (Is : Building) (first 
       → published.catalogue ≡ catalogue → board ≡ published.board
       → (leaves : DisksStand history published.catalogue (log published.board) disks) → leaves.kept ≡ published.maps
       → IsSourced Is first (publisher_state log published) made fetched
-      → Stems history Is first catalogue (log board) disks made fetched
+      → Stems history Is (served_maps catalogue first (log board) disks) made fetched
   stems published board disks made fetched named same leaves maps sourced =
-      subst (λ (c : Catalogue). Stems history Is first c (log board) disks made fetched) named
-      (subst (λ (b : B). Stems history Is first published.catalogue (log b) disks made fetched) (sym same) (record {
+      subst (λ (c : Catalogue). Stems history Is (served_maps c first (log board) disks) made fetched) named
+      (subst (λ (b : B). Stems history Is (served_maps published.catalogue first (log b) disks) made fetched) (sym same) (record {
         leaves = leaves;
         sourced = subst (λ (l : List (StoredMap D)). IsSourced Is first
             (record { log = log published.board; standings = map (λ kept. kept.standing) l }) made fetched) (sym maps) sourced;
@@ -30,10 +30,10 @@ module _ {D B : Type 0} (history : D → Option History) (Is : Building) (first 
       (disks : List D) → published.catalogue ≡ catalogue → board ≡ published.board
       → (leaves : DisksStand history published.catalogue (log published.board) disks) → leaves.kept ≡ published.maps
       → Traces history (IsNewBehind Is fetches) first.log (log published.board) histories published.maps
-      → LeavesTraced history Is fetches catalogue first.log (log board) histories disks
+      → LeavesTraced history Is fetches (served_maps catalogue first (log board) disks) histories
   leaves_traced fetches histories published board disks named same leaves maps traced =
-      subst (λ (c : Catalogue). LeavesTraced history Is fetches c first.log (log board) histories disks) named
-      (subst (λ (b : B). LeavesTraced history Is fetches published.catalogue first.log (log b) histories disks) (sym same) (record {
+      subst (λ (c : Catalogue). LeavesTraced history Is fetches (served_maps c first (log board) disks) histories) named
+      (subst (λ (b : B). LeavesTraced history Is fetches (served_maps published.catalogue first (log b) disks) histories) (sym same) (record {
         leaves = leaves;
         traced = subst (λ (l : List (StoredMap D)). Traces history (IsNewBehind Is fetches) first.log (log published.board) histories l)
             (sym maps) traced;

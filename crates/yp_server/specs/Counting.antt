@@ -26,6 +26,50 @@ use Rattle.yp_host.specs.workers.Charges.{nothing_counted, counted_plus, counted
 use Rattle.yp_transfer.specs.HostTable.{HostList}
 use Rattle.yp_server.specs.Serving.{MailService, mail_service, ServesDatagrams, CarriesBeside}
 
+-- what inboxes tell at a moment, and the one from which what they left is replied to
+pub record MailTells : Type 0 where
+  pub boxes : List InboxTells
+  pub out : InboxTells
+
+abbrev pub mail_tells : List InboxTells → InboxTells → MailTells
+mail_tells boxes out = record { boxes = boxes; out = out }
+
+-- what a listener and inboxes tell at a moment
+pub record EndpointTells : Type 0 where
+  pub listen : ListenTells
+  pub mail : MailTells
+
+abbrev pub endpoint_tells : ListenTells → List InboxTells → InboxTells → EndpointTells
+endpoint_tells listen boxes out = record { listen = listen; mail = mail_tells boxes out }
+
+-- what a server's network tells at a moment: its listener and inboxes, and its dial
+pub record NetworkTells : Type 0 where
+  pub endpoints : EndpointTells
+  pub dial : DialTells
+
+abbrev pub network_tells : EndpointTells → DialTells → NetworkTells
+network_tells endpoints dial = record { endpoints = endpoints; dial = dial }
+
+-- what a server is started with: what every connection gets, and the most turns of each inbox
+pub record ServerTerms : Type 0 where
+  pub connections : Terms
+  pub turns : ℕ
+
+abbrev pub server_terms : Terms → ℕ → ServerTerms
+server_terms connections turns = record { connections = connections; turns = turns }
+
+-- what a server's workers tell at the end: how many records of the connections were read, whether an inbox has failed,
+-- and what all of them counted; and what was shown by then
+pub record ServerEnd (T : Type 0) : Type 0 where
+  pub calls : ℕ
+  pub inbox_fault : Bool
+  pub counted : T
+  pub log : Log
+
+abbrev pub server_end : {T : Type 0} → ℕ → Bool → T → Log → ServerEnd T
+server_end calls inbox_fault counted log =
+    record { calls = calls; inbox_fault = inbox_fault; counted = counted; log = log }
+
 -- how the hosts of workers count
 abbrev pub count_told : {V : Type 0} → Counting (WorkerState V) Counted
 count_told = counting_of counted_of nothing_counted counted_plus
@@ -60,46 +104,44 @@ pub record CountsBeside {H T : Type 0} (service : MailService H T) (fault : Bool
 -- Inboxes were served, each so by a host of its own, and one host more did what those left, beside them, and replied
 -- from an inbox of its own. One of all inboxes has failed exactly where that is said. All that was left was done, as
 -- often as it was left.
-pub record CountsInboxes {H T : Type 0} (service : MailService H T) (fault : Bool) (before after : List InboxTells)
-    (out out' : InboxTells) (counts : List T) (of_carrier : T) : Type 0 where
+pub record CountsInboxes {H T : Type 0} (service : MailService H T) (fault : Bool) (old new : MailTells)
+    (counts : List T) (of_carrier : T) : Type 0 where
   pub failed : Bool
   pub lost : Bool
   pub fault_is : fault ≡ failed || lost
   pub left : List Deferred
   pub took : List Deferred
-  pub each : EachCounts service failed before after left counts
-  pub carrier : CountsBeside service lost out out' took of_carrier
+  pub each : EachCounts service failed old.boxes new.boxes left counts
+  pub carrier : CountsBeside service lost old.out new.out took of_carrier
   pub all : WeighTheSame left took
 
 -- What all hosts did and counted: in the connections that workers served, of which so many records were read, in the
 -- turns of the datagrams of each inbox, and in what one more did that these left. What was known at the end of each is
--- a front of this log.
-pub record CountsAll {H T : Type 0} (conduct : Conduct H) (counting : Counting H T) (terms : Terms)
-    (door door' : ListenTells) (calls : ℕ) (log : Log) (turns : ℕ) (fault : Bool) (before after : List InboxTells)
-    (out out' : InboxTells) (all : T) : Type 0 where
+-- a front of what was shown by then.
+pub record CountsAll {H T : Type 0} (conduct : Conduct H) (counting : Counting H T) (terms : ServerTerms)
+    (old new : EndpointTells) (end : ServerEnd T) : Type 0 where
   pub connections : T
   pub datagrams : List T
   pub deferred : T
-  pub of_connections : SumsUp conduct counting terms door door'
-      (record { calls = calls; sum = connections; reached = log })
-  pub of_datagrams : CountsInboxes (mail_service conduct counting terms.catalogue terms.starts log turns) fault
-      before after out out' datagrams deferred
-  pub all_is : all ≡ counting.plus (fold counting.plus connections datagrams) deferred
+  pub of_connections : SumsUp conduct counting terms.connections old.listen new.listen
+      (record { calls = end.calls; sum = connections; reached = end.log })
+  pub of_datagrams : CountsInboxes (mail_service conduct counting terms.connections.catalogue terms.connections.starts
+      end.log terms.turns) end.inbox_fault old.mail new.mail datagrams deferred
+  pub all_is : end.counted ≡ counting.plus (fold counting.plus connections datagrams) deferred
 
--- What all hosts did and counted, in these totals, and what a dial was used for meanwhile: transfers of these maps
--- alone. Each caller was told what a host left it, and each that a host left something was told it, as often as it was
--- left; and each version that was shown by a transfer whose caller was told so came by a wire.
-pub record CountsAndTells {V : Type 0} (conduct : Conduct (WorkerState V)) (terms : Terms) (door door' : ListenTells)
-    (calls : ℕ) (log : Log) (turns : ℕ) (fault : Bool) (before after : List InboxTells) (out out' : InboxTells)
-    (totals : Totals) (hosts : HostList) (dial dial' : DialTells) : Type 0 where
+-- What all hosts did and counted, in totals, and what the dial was used for meanwhile: transfers of the maps alone,
+-- from these hosts. Each caller was told what a host left it, and each that a host left something was told it, as often
+-- as it was left; and each version that was shown by a transfer whose caller was told so came by a wire.
+pub record CountsAndTells {V : Type 0} (conduct : Conduct (WorkerState V)) (terms : ServerTerms) (hosts : HostList)
+    (old new : NetworkTells) (end : ServerEnd Totals) : Type 0 where
   pub told : List CallBack
-  pub counted : CountsAll conduct count_told terms door door' calls log turns fault before after out out'
-      (record { totals = totals; told = told })
+  pub counted : CountsAll conduct count_told terms old.endpoints new.endpoints
+      (server_end end.calls end.inbox_fault (record { totals = end.counted; told = told }) end.log)
   pub posted : List CallBack
-  pub used : IsUsedForTransfers hosts terms.catalogue.maps posted dial dial'
+  pub used : IsUsedForTransfers hosts terms.connections.catalogue.maps posted old.dial new.dial
   pub same : WeighTheSame posted told
   pub came : (call_back : CallBack) → Contains told call_back
-      → IfSome (version_in call_back) (CameByWire dial.past dial'.past)
+      → IfSome (version_in call_back) (CameByWire old.dial.past new.dial.past)
 
 -- A disk tells what a crash may leave, its count of faults doesn't stand at its last value, and the last generation of
 -- its file isn't reached.

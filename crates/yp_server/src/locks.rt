@@ -18,7 +18,7 @@ ghost use Rattle.yp_host.specs.inside.workers.CallBacks.{holds_none, holds_more}
 ghost use Rattle.yp_host.specs.inside.workers.Uses.{TellsAllLeft};
 ghost use Rattle.yp_host.specs.inside.workers.Uses.{dial_told};
 ghost use Rattle.yp_server.specs.Counting.{DiskTellsFaults};
-ghost use Rattle.yp_server.specs.Origins.{ComesFrom, EachComesFrom};
+ghost use Rattle.yp_server.specs.Origins.{served_maps, ComesFrom, EachComesFrom};
 ghost use Rattle.yp_server.specs.Serving.{DisksStand};
 
 use crate::resources::{EndedService, take_apart};
@@ -347,10 +347,12 @@ where
     ensures orders { CoversOrders S.wires (A.past result.desk.dial) result.totals.outcomes.reached }
     ensures sources { CoversSources S.wires (A.past result.desk.dial) S.dial_faults (A.faults result.desk.dial)
         result.totals.outcomes.source }
-    ensures origins { IsStart S.first → AreTold D.history result.disks.items → ComesFrom D.history S.built S.first
-        S.catalogue (B.log result.writer) result.disks.items result.totals.made S.wires (A.past result.desk.dial) }
-    ensures traced { IsStart S.first → EachComesFrom D.history S.built S.catalogue S.first.log (B.log result.writer)
-        S.histories result.disks.items S.wires (A.past result.desk.dial) }
+    ensures origins { IsStart S.first → AreTold D.history result.disks.items → ComesFrom D.history S.built
+        (served_maps S.catalogue S.first (B.log result.writer) result.disks.items) result.totals.made S.wires
+        (A.past result.desk.dial) }
+    ensures traced { IsStart S.first → EachComesFrom D.history S.built
+        (served_maps S.catalogue S.first (B.log result.writer) result.disks.items) S.histories S.wires
+        (A.past result.desk.dial) }
     ensures told { TellsAllLeft S.hosts S.catalogue.maps S.shares
         (holds_more (holds_none S.call_backs S.shares) ended.account.told [])
         (dial_told S.wires S.letters S.dial_faults) (dial_by A.Dial result.desk.dial) }

@@ -18,11 +18,11 @@ ghost use Rattle.yp_rpc.specs.Turns.{datagram_max};
 ghost use Rattle.yp_rpc.specs.inside.Turns.{box_by};
 ghost use Rattle.yp_server.specs.Serving.{conduct_at, IsAtStart, SomeHasRisen};
 ghost use Rattle.yp_server.specs.declared.datagrams.DatagramWorker.{DatagramWorker};
-ghost use Rattle.yp_server.specs.inside.Counting.{BeginsMail};
+ghost use Rattle.yp_server.specs.inside.Counting.{mail_start, BeginsMail};
 ghost use Rattle.yp_server.specs.inside.Serving.{before_work, fresh_worker};
 ghost use Rattle.yp_server.specs.inside.Shares.{SharesFor};
 ghost use Rattle.yp_server.specs.inside.Workers.{workers_of, connections_of, datagram_worker_of};
-ghost use Rattle.yp_server.specs.Counting.{CountsAll, count_told};
+ghost use Rattle.yp_server.specs.Counting.{CountsAll, count_told, server_terms, endpoint_tells, server_end};
 
 use crate::datagrams::{CarrierResources, DatagramResources, DatagramWorker};
 use crate::hosts::charges_of;
@@ -271,8 +271,9 @@ impl<
             × (length inbox_resources.inboxes.items < parts.old.parts) }
         ensures workers { (datagram_workers : List (DatagramWorker I J (WorkerState B.Reader)
             B.Knowledge R)) × (all_workers.new.items ≡ workers_of datagram_workers 0 before_work)
-            × AllZip (BeginsMail (conduct_at B.Reader.seen B.Reader.stepped J.text J.hosts) count_told J.catalogue
-            J.starts self.now.pending.now inbox_resources.turns) inbox_resources.inboxes.items datagram_workers }
+            × AllZip (BeginsMail (conduct_at B.Reader.seen B.Reader.stepped J.text J.hosts) count_told
+            (mail_start J.catalogue J.starts self.now.pending.now inbox_resources.turns))
+            inbox_resources.inboxes.items datagram_workers }
         ensures count { length all_workers.new.items ≡ length inbox_resources.inboxes.items }
         ensures room { vec_capacity all_workers.new ≡ vec_capacity all_workers.old }
         ensures readers { length readers.new.items + length inbox_resources.inboxes.items
@@ -391,8 +392,9 @@ impl<
         ensures workers { (datagram_workers : List (DatagramWorker I J (WorkerState B.Reader)
             B.Knowledge R)) × (all_workers.new.items ≡ workers_of datagram_workers
             (length worker_resources.memory.all_buffers.items) before_work)
-            × AllZip (BeginsMail (conduct_at B.Reader.seen B.Reader.stepped J.text J.hosts) count_told J.catalogue
-            J.starts self.now.pending.now worker_resources.turns) worker_resources.inboxes.items datagram_workers }
+            × AllZip (BeginsMail (conduct_at B.Reader.seen B.Reader.stepped J.text J.hosts) count_told
+            (mail_start J.catalogue J.starts self.now.pending.now worker_resources.turns))
+            worker_resources.inboxes.items datagram_workers }
         ensures count { length all_workers.new.items
             ≡ length worker_resources.memory.all_buffers.items + length worker_resources.inboxes.items }
         ensures shares { SharesFor 0 0 shares.new }
@@ -496,10 +498,12 @@ impl<
             result.tally.listen_fault 0 1 }
         ensures counted { (log : Log) → IsFront result.account.reached log
             → CountsAll (conduct_at B.Reader.seen B.Reader.stepped J.text J.hosts) count_told
-            (terms_by J.Reception) J.opening (opening_by L.Hall result.listen) result.tally.calls log
-            worker_resources.turns result.mailed.fault (map (box_by I.Inbox) worker_resources.inboxes.items)
-            (map (box_by I.Inbox) result.mailed.inboxes.items) (box_by I.Inbox carrier_resources.outbox)
-            (box_by I.Inbox result.mailed.outbox) (counted_by result.account) }
+            (server_terms (terms_by J.Reception) worker_resources.turns)
+            (endpoint_tells J.opening (map (box_by I.Inbox) worker_resources.inboxes.items)
+            (box_by I.Inbox carrier_resources.outbox))
+            (endpoint_tells (opening_by L.Hall result.listen) (map (box_by I.Inbox) result.mailed.inboxes.items)
+            (box_by I.Inbox result.mailed.outbox))
+            (server_end result.tally.calls result.mailed.fault (counted_by result.account) log) }
         ensures cause { result.mailed.fault ≡ true
             → SomeHasRisen (map I.faults (carrier_resources.outbox ∷ worker_resources.inboxes.items))
             (map I.faults (result.mailed.outbox ∷ result.mailed.inboxes.items)) }

@@ -12,7 +12,7 @@ ghost use Rattle.yp_publisher.specs.inside.Rising.{IsStart};
 ghost use Rattle.yp_publisher.specs.Grown.{AreTold};
 ghost use Rattle.yp_publisher.specs.sharing.Failures.{disks_of, faults_over};
 ghost use Rattle.yp_rpc.specs.Turns.{datagram_max};
-ghost use Rattle.yp_server.specs.Origins.{LeavesTraced, Stems};
+ghost use Rattle.yp_server.specs.Origins.{served_maps, LeavesTraced, Stems};
 
 use crate::datagrams::EndedMail;
 use crate::spec::{ServeRefused, ServerResources};
@@ -84,9 +84,10 @@ pub(crate) fn take_apart<S: Site + Accounts, D: Disk, B: Tell>(
         → S.disk_faults + charge.old.failures ≤ faults_over D.faults result.0.items }
     ensures rises { IsStart S.first → AreTold D.history result.0.items → IsRisingLog (B.log result.1) }
     ensures sourced { (made : ℕ) → made ≤ charge.old.made → IsStart S.first → AreTold D.history result.0.items
-        → Stems D.history S.built S.first S.catalogue (B.log result.1) result.0.items made result.2.amount }
-    ensures traced { IsStart S.first → LeavesTraced D.history S.built result.3 S.catalogue S.first.log
-        (B.log result.1) S.histories result.0.items }
+        → Stems D.history S.built (served_maps S.catalogue S.first (B.log result.1) result.0.items) made
+        result.2.amount }
+    ensures traced { IsStart S.first → LeavesTraced D.history S.built result.3
+        (served_maps S.catalogue S.first (B.log result.1) result.0.items) S.histories }
 {
     locked.covers(front);
     let (publisher, versions, fetches) = locked.close(charge);

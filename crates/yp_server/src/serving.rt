@@ -24,7 +24,8 @@ ghost use Rattle.yp_host.specs.workers.Wires.{CoversOrders, CoversSources};
 ghost use Rattle.yp_transfer.specs.inside.Dials.{dial_by};
 ghost use Rattle.yp_host.specs.inside.workers.Uses.{dial_told};
 ghost use Rattle.yp_server.specs.Counting.{CountsAndTells, FilesAreCovered, file_tells, count_told};
-ghost use Rattle.yp_server.specs.Origins.{ComesFrom, EachComesFrom};
+ghost use Rattle.yp_server.specs.Counting.{server_terms, endpoint_tells, network_tells, server_end};
+ghost use Rattle.yp_server.specs.Origins.{served_maps, ComesFrom, EachComesFrom};
 
 use crate::datagrams::CarrierResources;
 use crate::locks::{Blanks, CallBackParts, lock_up, unlock};
@@ -125,12 +126,15 @@ where
     // each caller was told what was left it, as often as it was left.
     ensures counted { IfOk result (λ served. CountsAndTells
         (conduct_at B.Reader.seen B.Reader.stepped (T.text resources.desk.texts) resources.desk.hosts)
-        (terms_of resources.publisher.catalogue (B.log resources.publisher.board) spec.now.most)
-        (opening_by L.Hall resources.listen) (opening_by L.Hall served.listen)
-        served.tally.calls (B.log served.writer) spec.now.turns served.inbox_fault
-        (map (box_by I.Inbox) resources.inboxes.items) (map (box_by I.Inbox) served.inboxes.items)
-        (box_by I.Inbox resources.outbox) (box_by I.Inbox served.outbox) served.totals
-        resources.desk.hosts (dial_by A.Dial resources.desk.dial) (dial_by A.Dial served.desk.dial)) }
+        (server_terms (terms_of resources.publisher.catalogue (B.log resources.publisher.board) spec.now.most)
+        spec.now.turns) resources.desk.hosts
+        (network_tells (endpoint_tells (opening_by L.Hall resources.listen)
+        (map (box_by I.Inbox) resources.inboxes.items) (box_by I.Inbox resources.outbox))
+        (dial_by A.Dial resources.desk.dial))
+        (network_tells (endpoint_tells (opening_by L.Hall served.listen)
+        (map (box_by I.Inbox) served.inboxes.items) (box_by I.Inbox served.outbox))
+        (dial_by A.Dial served.desk.dial))
+        (server_end served.tally.calls served.inbox_fault served.totals (B.log served.writer))) }
 
     // What bounds what was counted: FILEs are at most as many as the faults of the texts and of the disks, orders that
     // were reached as the wires that begin with one, and failed sources as the faults of the dial and the wires that
@@ -147,8 +151,8 @@ where
     ensures origins { IfOk result (λ served. IsStart (publisher_state B.log resources.publisher)
         → AreTold D.history served.disks.items → ComesFrom D.history
         (IsBuiltAsNamed (T.text resources.desk.texts) resources.publisher.catalogue)
-        (publisher_state B.log resources.publisher) resources.publisher.catalogue
-        (B.log served.writer) served.disks.items served.totals.made
+        (served_maps resources.publisher.catalogue (publisher_state B.log resources.publisher)
+        (B.log served.writer) served.disks.items) served.totals.made
         (A.past resources.desk.dial) (A.past served.desk.dial)) }
 
     // Each version that was shown was new behind the log before it: it was built, or a wire gave it. At each moment a
@@ -156,8 +160,8 @@ where
     // for a version that was new; and a map that is behind at the end is behind a version that is new.
     ensures traced { IfOk result (λ served. IsStart (publisher_state B.log resources.publisher)
         → EachComesFrom D.history (IsBuiltAsNamed (T.text resources.desk.texts) resources.publisher.catalogue)
-        resources.publisher.catalogue (B.log resources.publisher.board) (B.log served.writer)
-        (map D.history (disks_of resources.publisher.maps)) served.disks.items
+        (served_maps resources.publisher.catalogue (publisher_state B.log resources.publisher)
+        (B.log served.writer) served.disks.items) (map D.history (disks_of resources.publisher.maps))
         (A.past resources.desk.dial) (A.past served.desk.dial)) }
 
     // Want of memory, before a connection was accepted or a turn was taken. Nothing has changed.
@@ -272,12 +276,15 @@ where
         → IsRisingLog (B.log served.writer)) }
     ensures desk { IfOk result (λ served. IsSupplied T.Texts J.text J.hosts served.desk) }
     ensures counted { IfOk result (λ served. CountsAndTells
-        (conduct_at B.Reader.seen B.Reader.stepped J.text J.hosts) (terms_by J.Reception) J.opening
-        (opening_by L.Hall served.listen) served.tally.calls (B.log served.writer)
-        setting.entry.spec.turns served.inbox_fault
-        (map (box_by I.Inbox) resources.inboxes.items) (map (box_by I.Inbox) served.inboxes.items)
-        (box_by I.Inbox resources.outbox) (box_by I.Inbox served.outbox) served.totals
-        J.hosts (dial_told J.wires J.letters J.dial_faults) (dial_by A.Dial served.desk.dial)) }
+        (conduct_at B.Reader.seen B.Reader.stepped J.text J.hosts)
+        (server_terms (terms_by J.Reception) setting.entry.spec.turns) J.hosts
+        (network_tells (endpoint_tells J.opening
+        (map (box_by I.Inbox) resources.inboxes.items) (box_by I.Inbox resources.outbox))
+        (dial_told J.wires J.letters J.dial_faults))
+        (network_tells (endpoint_tells (opening_by L.Hall served.listen)
+        (map (box_by I.Inbox) served.inboxes.items) (box_by I.Inbox served.outbox))
+        (dial_by A.Dial served.desk.dial))
+        (server_end served.tally.calls served.inbox_fault served.totals (B.log served.writer))) }
     ensures files { IfOk result (λ served. FilesAreCovered D.history D.faults
         (file_tells (T.faults resources.desk.texts) (disks_of resources.publisher.maps))
         (file_tells (T.faults served.desk.texts) served.disks.items) served.totals) }
@@ -286,10 +293,11 @@ where
     ensures sources { IfOk result (λ served. CoversSources J.wires (A.past served.desk.dial)
         J.dial_faults (A.faults served.desk.dial) served.totals.outcomes.source) }
     ensures origins { IfOk result (λ served. IsStart J.first → AreTold D.history served.disks.items
-        → ComesFrom D.history J.built J.first J.catalogue (B.log served.writer) served.disks.items
+        → ComesFrom D.history J.built (served_maps J.catalogue J.first (B.log served.writer) served.disks.items)
         served.totals.made J.wires (A.past served.desk.dial)) }
-    ensures traced { IfOk result (λ served. IsStart J.first → EachComesFrom D.history J.built J.catalogue J.first.log
-        (B.log served.writer) J.histories served.disks.items J.wires (A.past served.desk.dial)) }
+    ensures traced { IfOk result (λ served. IsStart J.first → EachComesFrom D.history J.built
+        (served_maps J.catalogue J.first (B.log served.writer) served.disks.items) J.histories J.wires
+        (A.past served.desk.dial)) }
     ensures refused { IfErr result (λ refused. (refused.desk ≡ resources.desk) × (refused.listen ≡ resources.listen)
         × (refused.inboxes ≡ resources.inboxes) × (refused.outbox ≡ resources.outbox)) }
     ensures disks { IfErr result (λ refused. refused.disks.items ≡ disks_of resources.publisher.maps) }
@@ -386,12 +394,15 @@ where
         → IsRisingLog (B.log served.writer)) }
     ensures desk { IfOk result (λ served. IsSupplied T.Texts J.text J.hosts served.desk) }
     ensures counted { IfOk result (λ served. CountsAndTells
-        (conduct_at B.Reader.seen B.Reader.stepped J.text J.hosts) (terms_by J.Reception) J.opening
-        (opening_by L.Hall served.listen) served.tally.calls (B.log served.writer)
-        setting.entry.spec.turns served.inbox_fault
-        (map (box_by I.Inbox) resources.inboxes.items) (map (box_by I.Inbox) served.inboxes.items)
-        (box_by I.Inbox resources.outbox) (box_by I.Inbox served.outbox) served.totals
-        J.hosts (dial_told J.wires J.letters J.dial_faults) (dial_by A.Dial served.desk.dial)) }
+        (conduct_at B.Reader.seen B.Reader.stepped J.text J.hosts)
+        (server_terms (terms_by J.Reception) setting.entry.spec.turns) J.hosts
+        (network_tells (endpoint_tells J.opening
+        (map (box_by I.Inbox) resources.inboxes.items) (box_by I.Inbox resources.outbox))
+        (dial_told J.wires J.letters J.dial_faults))
+        (network_tells (endpoint_tells (opening_by L.Hall served.listen)
+        (map (box_by I.Inbox) served.inboxes.items) (box_by I.Inbox served.outbox))
+        (dial_by A.Dial served.desk.dial))
+        (server_end served.tally.calls served.inbox_fault served.totals (B.log served.writer))) }
     ensures files { IfOk result (λ served. FilesAreCovered D.history D.faults
         (file_tells (T.faults resources.desk.texts) (disks_of resources.publisher.maps))
         (file_tells (T.faults served.desk.texts) served.disks.items) served.totals) }
@@ -400,10 +411,11 @@ where
     ensures sources { IfOk result (λ served. CoversSources J.wires (A.past served.desk.dial)
         J.dial_faults (A.faults served.desk.dial) served.totals.outcomes.source) }
     ensures origins { IfOk result (λ served. IsStart J.first → AreTold D.history served.disks.items
-        → ComesFrom D.history J.built J.first J.catalogue (B.log served.writer) served.disks.items
+        → ComesFrom D.history J.built (served_maps J.catalogue J.first (B.log served.writer) served.disks.items)
         served.totals.made J.wires (A.past served.desk.dial)) }
-    ensures traced { IfOk result (λ served. IsStart J.first → EachComesFrom D.history J.built J.catalogue J.first.log
-        (B.log served.writer) J.histories served.disks.items J.wires (A.past served.desk.dial)) }
+    ensures traced { IfOk result (λ served. IsStart J.first → EachComesFrom D.history J.built
+        (served_maps J.catalogue J.first (B.log served.writer) served.disks.items) J.histories J.wires
+        (A.past served.desk.dial)) }
     ensures refused { IfErr result (λ refused. (refused.desk ≡ resources.desk) × (refused.listen ≡ resources.listen)
         × (refused.inboxes ≡ resources.inboxes) × (refused.outbox ≡ resources.outbox)) }
     ensures disks { IfErr result (λ refused. refused.disks.items ≡ disks_of resources.publisher.maps) }

@@ -12,9 +12,9 @@ ghost use Rattle.yp_worker.specs.Summing.{counting_of};
 ghost use Rattle.yp_worker.specs.inside.Mailing.{CarriesOn};
 ghost use Rattle.yp_worker.specs.inside.Queues.{all_parts};
 ghost use Rattle.yp_rpc.specs.inside.Turns.{box_by};
-ghost use Rattle.yp_server.specs.Counting.{CountsAll};
+ghost use Rattle.yp_server.specs.Counting.{CountsAll, server_terms, endpoint_tells, server_end};
 ghost use Rattle.yp_server.specs.Serving.{SomeHasRisen};
-ghost use Rattle.yp_server.specs.inside.Counting.{BeginsMail, BeginsCarrying};
+ghost use Rattle.yp_server.specs.inside.Counting.{mail_start, BeginsMail, BeginsCarrying};
 ghost use Rattle.yp_server.specs.inside.Serving.{before_work, after_work};
 ghost use Rattle.yp_server.specs.inside.Workers.{AnswersDatagrams, Works, AllWork, workers_of, IsManned};
 ghost use Rattle.yp_server.specs.inside.Workers.{mails_in, held_in};
@@ -270,8 +270,8 @@ where
         × (length datagram_workers ≤ vec_capacity staff.datagram_workers)
         × (length datagram_workers ≤ vec_capacity staff.inboxes)
         × (inboxes : List I) × (turns : ℕ)
-        × AllZip (BeginsMail (conduct_by H.Host) (counting_of H.counted H.none H.plus) J.catalogue J.starts
-        carrier.holding.queue turns) inboxes datagram_workers }
+        × AllZip (BeginsMail (conduct_by H.Host) (counting_of H.counted H.none H.plus)
+        (mail_start J.catalogue J.starts carrier.holding.queue turns)) inboxes datagram_workers }
     requires carrier { BeginsCarrying (conduct_by H.Host) (counting_of H.counted H.none H.plus) J.catalogue J.starts
         carrier }
     requires transfers { (0 < length (mails_in staff.all_workers.items))
@@ -283,17 +283,19 @@ where
         0 1 }
     ensures counted { (inboxes : List I) → (datagram_workers : List (DatagramWorker I J H H.Front R))
         → IsManned datagram_workers before_work J.parts staff.entry.all_workers.items → (turns : ℕ)
-        → AllZip (BeginsMail (conduct_by H.Host) (counting_of H.counted H.none H.plus) J.catalogue J.starts
-        carrier.entry.holding.queue turns) inboxes datagram_workers
+        → AllZip (BeginsMail (conduct_by H.Host) (counting_of H.counted H.none H.plus)
+        (mail_start J.catalogue J.starts carrier.entry.holding.queue turns)) inboxes datagram_workers
         → (log : Log) → IsFront (H.reached result.3) log
-        → CountsAll (conduct_by H.Host) (counting_of H.counted H.none H.plus) (terms_by J.Reception)
-        J.opening (opening_by L.Hall result.0) result.1.calls log turns result.2.fault
-        (map (box_by I.Inbox) inboxes) (map (box_by I.Inbox) result.2.inboxes.items)
-        (box_by I.Inbox carrier.entry.inbox) (box_by I.Inbox result.2.outbox) (H.summed result.3) }
+        → CountsAll (conduct_by H.Host) (counting_of H.counted H.none H.plus)
+        (server_terms (terms_by J.Reception) turns)
+        (endpoint_tells J.opening (map (box_by I.Inbox) inboxes) (box_by I.Inbox carrier.entry.inbox))
+        (endpoint_tells (opening_by L.Hall result.0) (map (box_by I.Inbox) result.2.inboxes.items)
+        (box_by I.Inbox result.2.outbox))
+        (server_end result.1.calls result.2.fault (H.summed result.3) log) }
     ensures cause { (inboxes : List I) → (datagram_workers : List (DatagramWorker I J H H.Front R))
         → IsManned datagram_workers before_work J.parts staff.entry.all_workers.items → (turns : ℕ)
-        → AllZip (BeginsMail (conduct_by H.Host) (counting_of H.counted H.none H.plus) J.catalogue J.starts
-        carrier.entry.holding.queue turns) inboxes datagram_workers
+        → AllZip (BeginsMail (conduct_by H.Host) (counting_of H.counted H.none H.plus)
+        (mail_start J.catalogue J.starts carrier.entry.holding.queue turns)) inboxes datagram_workers
         → result.2.fault ≡ true → SomeHasRisen (map I.faults (carrier.entry.inbox ∷ inboxes))
         (map I.faults (result.2.outbox ∷ result.2.inboxes.items)) }
     ensures hosts { length result.4.items ≡ length staff.entry.all_workers.items + 1 }

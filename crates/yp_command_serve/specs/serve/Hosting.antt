@@ -23,7 +23,8 @@ use Rattle.yp_host.specs.workers.Wires.{CoversOrders, CoversSources}
 use Rattle.yp_worker.specs.Receptions.{ListenTells, IsListenerState, opening_by, terms_of}
 use Rattle.yp_server.specs.Serving.{conduct_at, mail_service, ServesInboxes, DisksStand}
 use Rattle.yp_server.specs.Counting.{CountsAndTells, FilesAreCovered, file_tells, count_told}
-use Rattle.yp_server.specs.Origins.{ComesFrom, EachComesFrom}
+use Rattle.yp_server.specs.Counting.{server_terms, endpoint_tells, network_tells, server_end}
+use Rattle.yp_server.specs.Origins.{served_maps, ComesFrom, EachComesFrom}
 use Rattle.yp_command.specs.declared.office.office.Office.{Office}
 use Rattle.yp_command_serve.specs.declared.serve.serve.Doors.{Doors}
 use Rattle.yp_command_serve.specs.declared.serve.serve.Outside.{Outside}
@@ -123,18 +124,22 @@ pub record LogGrowth : Type 0 where
 -- host of the table, and to tell a caller what a host left it.
 pub record IsAccounted {D : Type 0} (seen : disk.Ghosts D) (setup : ServeSetup) (growth : LogGrowth) (hosted : Hosted)
     (old new : ServerTells D) : Type 0 where
-  pub counted : CountsAndTells (conduct setup) (terms_of setup.catalogue growth.first.log CALLS_MAX)
-      old.listen new.listen hosted.tally.calls growth.log setup.turns hosted.inbox_fault old.boxes new.boxes old.out
-      new.out hosted.totals setup.hosts old.supply.dial new.supply.dial
+  pub counted : CountsAndTells (conduct setup)
+      (server_terms (terms_of setup.catalogue growth.first.log CALLS_MAX) setup.turns) setup.hosts
+      (network_tells (endpoint_tells old.listen old.boxes old.out) old.supply.dial)
+      (network_tells (endpoint_tells new.listen new.boxes new.out) new.supply.dial)
+      (server_end hosted.tally.calls hosted.inbox_fault hosted.totals growth.log)
   pub files : FilesAreCovered seen.history seen.faults (file_tells old.supply.texts old.disks)
       (file_tells new.supply.texts new.disks) hosted.totals
   pub orders : CoversOrders old.supply.dial.past new.supply.dial.past hosted.totals.outcomes.reached
   pub sources : CoversSources old.supply.dial.past new.supply.dial.past old.supply.dial.faults new.supply.dial.faults
       hosted.totals.outcomes.source
   pub origins : AreTold seen.history new.disks → ComesFrom seen.history (IsBuiltAsNamed setup.text setup.catalogue)
-      growth.first setup.catalogue growth.log new.disks hosted.totals.made old.supply.dial.past new.supply.dial.past
-  pub traced : EachComesFrom seen.history (IsBuiltAsNamed setup.text setup.catalogue) setup.catalogue growth.first.log
-      growth.log (map seen.history old.disks) new.disks old.supply.dial.past new.supply.dial.past
+      (served_maps setup.catalogue growth.first growth.log new.disks) hosted.totals.made old.supply.dial.past
+      new.supply.dial.past
+  pub traced : EachComesFrom seen.history (IsBuiltAsNamed setup.text setup.catalogue)
+      (served_maps setup.catalogue growth.first growth.log new.disks) (map seen.history old.disks)
+      old.supply.dial.past new.supply.dial.past
 
 -- Maps that were loaded were served, and what their files stood for was shown before the first caller came. What was
 -- shown since stands behind that in one log. So many connections came, and all were closed. Each datagram had its turn,

@@ -9,16 +9,27 @@ use Rattle.yp_worker.specs.inside.Mailing.{Carrying}
 use Rattle.yp_server.specs.declared.datagrams.DatagramWorker.{DatagramWorker}
 use Rattle.yp_server.specs.Serving.{at_rest, no_counts, IsAtStart}
 
+-- what workers of datagrams are started with: which maps they serve, what was shown at the start, the queue of what
+-- they leave, and the most turns of an inbox
+pub record MailStart : Type 0 where
+  pub catalogue : Catalogue
+  pub starts : Log
+  pub queue : QueueName
+  pub turns : ℕ
+
+abbrev pub mail_start : Catalogue → Log → QueueName → ℕ → MailStart
+mail_start catalogue starts queue turns =
+    record { catalogue = catalogue; starts = starts; queue = queue; turns = turns }
+
 -- A worker of datagrams has this inbox and so many turns of it, and a host that knows what was shown at the start and
--- has counted nothing yet. It has one part of this queue.
-pub record BeginsMail {I J H F R T : Type 0} (conduct : Conduct H) (counting : Counting H T) (catalogue : Catalogue)
-    (starts : Log) (queue : QueueName) (turns : ℕ) (inbox : I) (datagram_worker : DatagramWorker I J H F R)
-    : Type 0 where
+-- has counted nothing yet. It has one part of the queue.
+pub record BeginsMail {I J H F R T : Type 0} (conduct : Conduct H) (counting : Counting H T) (mail : MailStart)
+    (inbox : I) (datagram_worker : DatagramWorker I J H F R) : Type 0 where
   pub host : H
   pub inbox_is : datagram_worker.inbox ≡ inbox
-  pub turns_are : datagram_worker.turns ≡ turns
-  pub server_is : datagram_worker.server ≡ at_rest queue host
-  pub start : IsAtStart catalogue starts (conduct.seen host)
+  pub turns_are : datagram_worker.turns ≡ mail.turns
+  pub server_is : datagram_worker.server ≡ at_rest mail.queue host
+  pub start : IsAtStart mail.catalogue mail.starts (conduct.seen host)
   pub fresh : conduct.counts host ≡ no_counts
   pub from_none : counting.counted host ≡ counting.none
 

@@ -14,7 +14,7 @@ use Rattle.yp_worker.specs.datagrams.Mailing.{Holding, Mailing}
 use Rattle.yp_worker.specs.datagrams.Carrying.{Delivers, left_for}
 use Rattle.yp_worker.specs.datagrams.Queues.{weigh}
 use Rattle.yp_server.specs.Counting.{EachCounts}
-use Rattle.yp_server.specs.inside.Counting.{BeginsMail}
+use Rattle.yp_server.specs.inside.Counting.{mail_start, BeginsMail}
 use Rattle.yp_server.specs.inside.Handing.{left_by, took_by}
 use Rattle.yp_server.specs.inside.Workers.{AnswersDatagrams}
 use Rattle.yp_server.specs.inside.Serving.{before_work, after_work}
@@ -254,7 +254,7 @@ returns-clause-counted g c = λ inboxes datagram_workers was turns begins log re
     let whole = c.requires.transfers.1 in
     let parts = parts_are conduct counting box g.I.Inbox.faults catalogue starts queue turns inboxes datagram_workers ended begins zip in
     let none_took = took_none conduct counting box g.I.Inbox.faults catalogue starts queue turns inboxes datagram_workers ended begins zip in
-    let count = AllZip-long (BeginsMail conduct counting catalogue starts queue turns) inboxes datagram_workers begins in
+    let count = AllZip-long (BeginsMail conduct counting (mail_start catalogue starts queue turns)) inboxes datagram_workers begins in
     let among = ap length (mails_of datagram_workers (was.others + 1) before_work _ was.workers_are) in
     let merged = handed.parts in
     let of_carrier = ap (λ (h : Holding). h.parts) on.holding in

@@ -6,7 +6,7 @@ use Rattle.yp_host.specs.inside.workers.Charges.{Charged}
 use Rattle.yp_server.specs.declared.workers.ServerWorker.TheVariants.{Datagrams}
 use Rattle.yp_server.specs.Counting.{count_told}
 use Rattle.yp_server.specs.Serving.{conduct_at, IsAtStart}
-use Rattle.yp_server.specs.inside.Counting.{BeginsMail}
+use Rattle.yp_server.specs.inside.Counting.{mail_start, BeginsMail}
 use Rattle.yp_server.specs.inside.Serving.{before_work, fresh_worker}
 use Rattle.yp_server.proofs.Adding.{zip_more, one_more_inbox, all_inboxes}
 use Rattle.yp_server.proofs.Posted.{one_mail}
@@ -39,7 +39,7 @@ loop-inbox-preserved g c =
     let longer = length_push c.loop-inbox.all_workers.items (Datagrams made.result) in
     let less = c.split_off-charges.ensures in
     let begins = BeginsMail (conduct_at g.B.Reader.View.seen g.B.Reader.View.stepped g.J.Supplies.text g.J.Supplies.hosts) count_told
-    g.J.Site.catalogue g.J.Reception.starts c.args.self.now.pending.now c.args.inbox_resources.turns in
+    (mail_start g.J.Site.catalogue g.J.Reception.starts c.args.self.now.pending.now c.args.inbox_resources.turns) in
     let knows = all_last (λ reader. IsAtStart g.J.Site.catalogue g.J.Reception.starts (g.B.Reader.View.seen reader)) _ _ _
     c.in-Some-pop-2.ensures.items before.knows in
     record {
@@ -83,7 +83,7 @@ returns-clause-workers g c =
     let after = c.loop-inbox.invariant.workers in
     let none : length c.loop-inbox.inboxes.items ≡ 0 = omega (arith, c.in_default.ensures.cases.0) in
     let begins = BeginsMail (conduct_at g.B.Reader.View.seen g.B.Reader.View.stepped g.J.Supplies.text g.J.Supplies.hosts) count_told
-    g.J.Site.catalogue g.J.Reception.starts c.args.self.now.pending.now c.args.inbox_resources.turns in (
+    (mail_start g.J.Site.catalogue g.J.Reception.starts c.args.self.now.pending.now c.args.inbox_resources.turns) in (
       after.0,
       after.2,
       subst (λ l. AllZip begins l after.0) (all_inboxes after.1 c.loop-inbox.inboxes.items c.args.inbox_resources.inboxes.items none after.3) after.4,

@@ -5,7 +5,7 @@ use Rattle.yp_worker.specs.datagrams.Mailing.{nothing_held}
 use Rattle.yp_server.specs.declared.datagrams.DatagramWorker.{DatagramWorker}
 use Rattle.yp_server.specs.Counting.{count_told}
 use Rattle.yp_server.specs.Serving.{conduct_at, IsAtStart}
-use Rattle.yp_server.specs.inside.Counting.{BeginsMail}
+use Rattle.yp_server.specs.inside.Counting.{mail_start, BeginsMail}
 use Rattle.yp_server.specs.inside.Serving.{before_work}
 use Rattle.yp_server.specs.inside.Workers.{workers_of}
 use Rattle.yp_server.proofs.preparing.WorkerMaker.add_datagram_workers.Given as goal
@@ -15,7 +15,7 @@ invariant-loop-inbox g l = record {
   workers : (datagram_workers : List (DatagramWorker g.row.I.Denot g.row.J.Denot (WorkerState g.row.B-Reader.Denot) g.row.B-Knowledge.Denot g.row.R.Denot)) × (done : List g.row.I.Denot)
       × (l.all_workers.items ≡ workers_of datagram_workers 0 before_work) × (done ++ reverse l.inboxes.items ≡ l.fn.inbox_resources.inboxes.items)
       × AllZip (BeginsMail (conduct_at g.B.Reader.View.seen g.B.Reader.View.stepped g.J.Supplies.text g.J.Supplies.hosts) count_told
-      g.J.Site.catalogue g.J.Reception.starts l.self.pending.now l.fn.inbox_resources.turns) done datagram_workers;
+      (mail_start g.J.Site.catalogue g.J.Reception.starts l.self.pending.now l.fn.inbox_resources.turns)) done datagram_workers;
   count : length l.all_workers.items + length l.inboxes.items ≡ length l.fn.inbox_resources.inboxes.items;
   room : vec_capacity l.all_workers ≡ vec_capacity l.fn.all_workers;
   rooms : length l.rooms.items ≡ length l.inboxes.items;

@@ -8,9 +8,9 @@ use Rattle.yp_worker.specs.Receptions.{opening_by, terms_of}
 use Rattle.yp_host.specs.inside.workers.Charges.{counted_by}
 use Rattle.yp_worker.specs.datagrams.Mailing.{QueueName, Holding, nothing_held}
 use Rattle.yp_server.specs.inside.Serving.{before_work}
-use Rattle.yp_server.specs.Counting.{CountsAll, count_told}
+use Rattle.yp_server.specs.Counting.{CountsAll, count_told, server_terms, endpoint_tells, server_end}
 use Rattle.yp_server.specs.Serving.{conduct_at, IsAtStart, SomeHasRisen}
-use Rattle.yp_server.specs.inside.Counting.{BeginsMail, BeginsCarrying}
+use Rattle.yp_server.specs.inside.Counting.{mail_start, BeginsMail, BeginsCarrying}
 use Rattle.yp_server.proofs.Crossing.{board_front_send, host_send, account_send}
 use Rattle.yp_server.proofs.Posted.{manned, mails_of}
 use Rattle.yp_server.proofs.Rows.{all_before, all_last}
@@ -26,10 +26,10 @@ run_workers-listen-requires-clause-manned g c κs within =
     let conduct = conduct_at g.B.Reader.View.seen g.B.Reader.View.stepped g.J.Supplies.text g.J.Supplies.hosts in
     let queue = ap (λ m. m.holding.queue) c.carrier-carrier.ensures
     ∙ ap (λ (h : Holding). h.queue) c.add_workers.ensures.parts.0 in
-    let begin = subst (λ (q : QueueName). AllZip (BeginsMail conduct count_told g.J.Site.catalogue g.J.Reception.starts q turns) inboxes added.0)
+    let begin = subst (λ (q : QueueName). AllZip (BeginsMail conduct count_told (mail_start g.J.Site.catalogue g.J.Reception.starts q turns)) inboxes added.0)
     (sym queue) added.2 in
     let count =
-    AllZip-long (BeginsMail conduct count_told g.J.Site.catalogue g.J.Reception.starts c.args.self.now.pending.now turns) inboxes added.0 added.2 in (
+    AllZip-long (BeginsMail conduct count_told (mail_start g.J.Site.catalogue g.J.Reception.starts c.args.self.now.pending.now turns)) inboxes added.0 added.2 in (
       added.0,
       manned added.0 before_work (length c.args.worker_resources.memory.all_buffers.items) g.J.Ledger.parts _ (let some = c.requires.some.0 in omega (arith, some))
           (sym parts.1 ∙ parts.2) added.1,
@@ -82,7 +82,7 @@ run_workers-listen-requires-clause-transfers g c κs within =
     let is = c.add_workers.ensures.parts in
     let inboxes = c.args.worker_resources.inboxes.items in
     let begins = BeginsMail (conduct_at g.B.Reader.View.seen g.B.Reader.View.stepped g.J.Supplies.text g.J.Supplies.hosts) count_told
-    g.J.Site.catalogue g.J.Reception.starts c.args.self.now.pending.now c.args.worker_resources.turns in
+    (mail_start g.J.Site.catalogue g.J.Reception.starts c.args.self.now.pending.now c.args.worker_resources.turns) in
     let count = AllZip-long begins inboxes added.0 added.2 in
     let among =
     ap length (mails_of added.0 (length c.args.worker_resources.memory.all_buffers.items) before_work _ added.1) in
@@ -101,13 +101,15 @@ returns-clause-counted g c = λ log reached.
     let conduct = conduct_at g.B.Reader.View.seen g.B.Reader.View.stepped g.J.Supplies.text g.J.Supplies.hosts in
     let queue = ap (λ m. m.holding.queue) c.carrier-carrier.ensures
     ∙ ap (λ (h : Holding). h.queue) c.add_workers.ensures.parts.0 in
-    let begin = subst (λ (q : QueueName). AllZip (BeginsMail conduct count_told g.J.Site.catalogue g.J.Reception.starts q turns) inboxes added.0)
+    let begin = subst (λ (q : QueueName). AllZip (BeginsMail conduct count_told (mail_start g.J.Site.catalogue g.J.Reception.starts q turns)) inboxes added.0)
     (sym queue) added.2 in
     let made = c.run_workers-listen.result in
     let box = box_by g.I.Inbox in
-    subst (λ (i : g.row.I.Denot). CountsAll conduct count_told (terms_of g.J.Site.catalogue g.J.Reception.starts g.J.Reception.most)
-    g.J.Reception.opening (opening_by g.L.Hall made.0) made.1.calls log turns made.2.fault (map box inboxes)
-    (map box made.2.inboxes.items) (box i) (box made.2.outbox) (counted_by made.3))
+    subst (λ (i : g.row.I.Denot). CountsAll conduct count_told
+    (server_terms (terms_of g.J.Site.catalogue g.J.Reception.starts g.J.Reception.most) turns)
+    (endpoint_tells g.J.Reception.opening (map box inboxes) (box i))
+    (endpoint_tells (opening_by g.L.Hall made.0) (map box made.2.inboxes.items) (box made.2.outbox))
+    (server_end made.1.calls made.2.fault (counted_by made.3) log))
     (ap (λ m. m.inbox) c.carrier-carrier.ensures)
     (c.run_workers-listen.ensures.counted inboxes added.0
     (manned added.0 before_work (length c.args.worker_resources.memory.all_buffers.items) g.J.Ledger.parts _ (let some = c.requires.some.0 in omega (arith, some))
@@ -123,7 +125,7 @@ returns-clause-cause g c = λ fails.
     let conduct = conduct_at g.B.Reader.View.seen g.B.Reader.View.stepped g.J.Supplies.text g.J.Supplies.hosts in
     let queue = ap (λ m. m.holding.queue) c.carrier-carrier.ensures
     ∙ ap (λ (h : Holding). h.queue) c.add_workers.ensures.parts.0 in
-    let begin = subst (λ (q : QueueName). AllZip (BeginsMail conduct count_told g.J.Site.catalogue g.J.Reception.starts q turns) inboxes added.0)
+    let begin = subst (λ (q : QueueName). AllZip (BeginsMail conduct count_told (mail_start g.J.Site.catalogue g.J.Reception.starts q turns)) inboxes added.0)
     (sym queue) added.2 in
     let made = c.run_workers-listen.result in
     subst (λ (i : g.row.I.Denot). SomeHasRisen (map g.I.Inbox.faults (i ∷ inboxes))
