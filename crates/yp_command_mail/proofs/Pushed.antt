@@ -35,10 +35,10 @@ use Rattle.yp_command_mail.specs.declared.push.PushPlan.{PushPlan}
 use Rattle.yp_command_mail.specs.Finding.{Load, LoadsMaps, LoadsFrom, LoadsServers, StopsPush, judged, which_of}
 use Rattle.yp_command_mail.specs.Push.{Job, started_at, slaves_in, ledger_of, begun}
 use Rattle.yp_command_mail.specs.inside.Push.{begun_by, IsPlan, Plans, PlansFrom}
-use Rattle.yp_command_mail.specs.Push.{IsPushEnd, TellsPushEnd, TakesPushTurns, dial_seen, IsUnsent, IsSent}
+use Rattle.yp_command_mail.specs.Push.{IsPushEnd, TellsPushEnd, outcome_of, TakesPushTurns, dial_seen, IsUnsent, IsSent}
 use Rattle.yp_command_mail.specs.inside.Push.{IsSentBy}
 use Rattle.yp_command_mail.specs.Push.{Pushes, CanPush, PushIsComplete, FailsAt, OwnDiskFails, PushDoes}
-use Rattle.yp_command_mail.specs.Telling.{TellsText, box}
+use Rattle.yp_command_mail.specs.Telling.{TellsText, mail_seen}
 
 -- ---- statuses
 
@@ -338,6 +338,6 @@ module _ {S K D C A I T : Type 0} (seen : Seeing S K D C A I T) (job : Job) (now
       let count : length plan.slaves.items ≡ length (slaves_in job found) =
       sym (length-map plan.slaves.items slave_view) ∙ ap length h.slaves in
       let sent : IsSent seen (started_at job now) found status old new =
-      subst (λ (first : Pushing A). TakesPushTurns (dial_seen seen) job.turns first status new.dial (box seen old) (box seen new) (seen.sink.output old.wire.sink) (seen.sink.output new.wire.sink))
-      (begun_is found plan old.dial h count) (subst (λ (o : Office S K D C A I T). TakesPushTurns (dial_seen seen) job.turns (begun_by plan o.dial) status new.dial (box seen o) (box seen new) (seen.sink.output o.wire.sink) (seen.sink.output new.wire.sink)) is takes) in
+      subst (λ (first : Pushing A). TakesPushTurns (dial_seen seen) job.turns first (outcome_of status new.dial) (mail_seen seen old) (mail_seen seen new))
+      (begun_is found plan old.dial h count) (subst (λ (o : Office S K D C A I T). TakesPushTurns (dial_seen seen) job.turns (begun_by plan o.dial) (outcome_of status new.dial) (mail_seen seen o) (mail_seen seen new)) is takes) in
       inl (inr (inr (omega (arith, count, h.some_), omega (arith, count, h.few), sent)))

@@ -31,6 +31,19 @@ use Rattle.yp_command.specs.office.Seeing.{Seeing, output, WriteFails, InboxFail
 use Rattle.yp_command_mail.specs.declared.binding.Offer.{Offer}
 use Rattle.yp_command_mail.specs.Telling.{TellsText, box, HasInboxCauses, IsMailing}
 
+-- ---- what is asked
+
+-- for how many turns, the domain, the servers that are asked for it, and by which policy
+pub record BindJob : Type 0 where
+  pub turns : ℕ
+  pub domain : List ℕ
+  pub servers : List Peer
+  pub policy : Policy
+
+abbrev pub bind_job_of : ℕ → List ℕ → List Peer → Policy → BindJob
+bind_job_of turns domain servers policy =
+    record { turns = turns; domain = domain; servers = servers; policy = policy }
+
 -- ---- the turns
 
 -- a ping: a call of DOMAIN_NONACK with its number, for its domain
@@ -127,19 +140,19 @@ bind_may_end _ = false
 
 -- The turns were taken in which the binder asks and answers, and the server that the domain is bound to is told. What
 -- happened at the inbox fixes the end and the last binder.
-pub record TellsBinding {S K D C A I T : Type 0} (seen : Seeing S K D C A I T) (turns : ℕ) (domain : List ℕ)
-    (servers : List Peer) (policy : Policy) (status : Status) (old new : Office S K D C A I T) : Type 0 where
+pub record TellsBinding {S K D C A I T : Type 0} (seen : Seeing S K D C A I T) (job : BindJob) (status : Status)
+    (old new : Office S K D C A I T) : Type 0 where
   pub end : Result Ended Failed
   pub last : Bindings
-  pub takes : TakesTurns binding_ways turns end (turn_state (unbound domain servers policy) (box seen old))
-      (turn_state last (box seen new))
-  pub tells : TellsText (bound_text end domain last) (bound_status end) status (output seen old) (output seen new)
+  pub takes : TakesTurns binding_ways job.turns end
+      (turn_state (unbound job.domain job.servers job.policy) (box seen old)) (turn_state last (box seen new))
+  pub tells : TellsText (bound_text end job.domain last) (bound_status end) status (output seen old) (output seen new)
 
 -- What `bind` does: it asks and answers in its turns, and tells the server that the domain is bound to; or memory runs
 -- out before it asks. Where nothing fails the server is told.
-pub record BindDoes {S K D C A I T : Type 0} (seen : Seeing S K D C A I T) (turns : ℕ) (domain : List ℕ)
-    (servers : List Peer) (policy : Policy) (status : Status) (old new : Office S K D C A I T) : Type 0 where
-  pub binds : TellsBinding seen turns domain servers policy status old new ⊎ ((status ≡ NoMemory) × (new ≡ old))
+pub record BindDoes {S K D C A I T : Type 0} (seen : Seeing S K D C A I T) (job : BindJob) (status : Status)
+    (old new : Office S K D C A I T) : Type 0 where
+  pub binds : TellsBinding seen job status old new ⊎ ((status ≡ NoMemory) × (new ≡ old))
   pub complete : ¬ InboxFails seen old new → ¬ WriteFails seen old new → (status ≡ Done) ⊎ (status ≡ NoMemory)
   pub causes : HasInboxCauses seen status old new
   pub stays : IsMailing old new

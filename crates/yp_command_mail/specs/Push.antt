@@ -11,7 +11,7 @@ use Rattle.yp_board.specs.Catalogues.{Name, name_view}
 use Rattle.yp_board.specs.declared.catalog.MapName.{MapName}
 use Rattle.yp_transfer.specs.HostTable.{HostList}
 use Rattle.yp_rpc.specs.declared.turns.Ended.{Ended}
-use Rattle.yp_rpc.specs.Turns.{turn_state, TakesTurns, InboxTells}
+use Rattle.yp_rpc.specs.Turns.{turn_state, TakesTurns}
 use Rattle.yp_push.specs.Ledgers.{Ledger, slaves_max}
 use Rattle.yp_push.specs.turns.Sendings.{Request}
 use Rattle.yp_push.specs.turns.Slaves.{slaves_of}
@@ -24,12 +24,12 @@ use Rattle.yp_command.specs.declared.office.status.Status.TheVariants.{Done, No,
 use Rattle.yp_command.specs.declared.office.status.Status.TheVariants.{Damaged, NoVersion, DiskFault}
 use Rattle.yp_command.specs.office.Disks.{told_at, faults_at}
 use Rattle.yp_command.specs.office.Rows.{rows_rule}
-use Rattle.yp_command.specs.office.Seeing.{Seeing, output, moment, WriteFails, DiskFails, InboxFails}
+use Rattle.yp_command.specs.office.Seeing.{Seeing, moment, WriteFails, DiskFails, InboxFails}
 use Rattle.yp_command_mail.specs.declared.finding.Found.{Found}
 use Rattle.yp_command_mail.specs.declared.finding.LoadedFiles.{LoadedFiles}
 use Rattle.yp_command_mail.specs.declared.finding.PushStop.{PushStop}
 use Rattle.yp_command_mail.specs.Finding.{LoadsMaps, StopsPush, judged}
-use Rattle.yp_command_mail.specs.Telling.{TellsText, box}
+use Rattle.yp_command_mail.specs.Telling.{TellsText, MailTells, mail_seen}
 
 -- ---- what is to be pushed
 
@@ -99,16 +99,23 @@ TellsPushEnd (Ok end) pushing status before after =
     TellsSlaves pushing status before after ⊎ ((status ≡ NoMemory) × (after ≡ before))
 TellsPushEnd (Err why) pushing status before after = (status ≡ InboxFault) × (after ≡ before)
 
+-- how a push ended: its status, and the dial that it hands back
+pub record PushOutcome (A : Type 0) : Type 0 where
+  pub status : Status
+  pub dial : A
+
+abbrev pub outcome_of : {A : Type 0} → Status → A → PushOutcome A
+outcome_of status dial = record { status = status; dial = dial }
+
 -- The turns were taken in which slaves are asked and tell how it went, and that is told. The dial is then as they left
 -- it.
-pub record TakesPushTurns {A : Type 0} (tells : A → DialTells) (turns : ℕ) (first : Pushing A) (status : Status)
-    (dial : A)
-    (before after : InboxTells) (out out' : Option (List ℕ)) : Type 0 where
+pub record TakesPushTurns {A : Type 0} (tells : A → DialTells) (turns : ℕ) (first : Pushing A)
+    (outcome : PushOutcome A) (old new : MailTells) : Type 0 where
   pub end : Result Ended Failed
   pub last : Pushing A
-  pub takes : TakesTurns (pushing_ways tells) turns end (turn_state first before) (turn_state last after)
-  pub dial_is : dial ≡ last.dial
-  pub told : TellsPushEnd end last status out out'
+  pub takes : TakesTurns (pushing_ways tells) turns end (turn_state first old.box) (turn_state last new.box)
+  pub dial_is : outcome.dial ≡ last.dial
+  pub told : TellsPushEnd end last outcome.status old.output new.output
 
 -- ---- the command
 
@@ -126,9 +133,8 @@ pub record IsUnsent {S K D C A I T : Type 0} (old new : Office S K D C A I T) : 
 abbrev pub IsSent : {S K D C A I T : Type 0} → Seeing S K D C A I T → StartedJob → Found → Status
     → (old new : Office S K D C A I T) → Type 0
 IsSent seen started found status old new =
-    TakesPushTurns (dial_seen seen) started.job.turns (begun started found old.dial) status new.dial (box seen old)
-    (box seen new)
-    (output seen old) (output seen new)
+    TakesPushTurns (dial_seen seen) started.job.turns (begun started found old.dial) (outcome_of status new.dial)
+    (mail_seen seen old) (mail_seen seen new)
 
 -- By the number of slaves: where there is none, nothing is asked or told, and all is done; where there are too many,
 -- that is told; all others are asked.

@@ -16,7 +16,7 @@ ghost use Rattle.yp_command.specs.inside.office.Status.{IsTellable};
 ghost use Rattle.yp_command.specs.declared.office.status.Status.TheVariants.{Done, WriteFault};
 ghost use Rattle.yp_command_mail.specs.Telling.{TellsText};
 ghost use Rattle.yp_command_mail.specs.Bind.{Goes, Hears, Rests, is_reply, offer_of, unbound, server_text};
-ghost use Rattle.yp_command_mail.specs.Bind.{bound_line, servers_of, bind_may_end, BindDoes};
+ghost use Rattle.yp_command_mail.specs.Bind.{bind_job_of, bound_line, servers_of, bind_may_end, BindDoes};
 
 use crate::text::tell_text;
 use std::alloc::{AllocError, Global};
@@ -222,8 +222,9 @@ pub fn bind_domain<S: Source, K: Sink, D: Disk, C: Clock, A: Dial, I: Inbox, T: 
 ) -> Status
     requires domain { length domain.items ≤ name_max }
     requires hosts { length hosts.items ≤ servers_max }
-    ensures does { BindDoes (seeing S.Source K.Sink D.Disk C.Clock A.Dial I.Inbox T.Texts) turns domain.items
-        (servers_of (map host_view hosts.items)) policy result office.old office.new }
+    ensures does { BindDoes (seeing S.Source K.Sink D.Disk C.Clock A.Dial I.Inbox T.Texts)
+        (bind_job_of turns domain.items (servers_of (map host_view hosts.items)) policy)
+        result office.old office.new }
     ensures may_end { IsTrue (bind_may_end result) }
     ensures passed_on { IsPassedOn (seeing S.Source K.Sink D.Disk C.Clock A.Dial I.Inbox T.Texts)
         result office.old office.new }

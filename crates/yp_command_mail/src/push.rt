@@ -14,7 +14,8 @@ ghost use Rattle.yp_command.specs.office.Seeing.{seeing, IsPassedOn};
 ghost use Rattle.yp_command.specs.inside.office.Status.{IsTellable};
 ghost use Rattle.yp_command_mail.specs.Push.{IsPushEnd, TellsSlaves};
 ghost use Rattle.yp_command_mail.specs.inside.Push.{job_view, Plans, Readies, CanStart};
-ghost use Rattle.yp_command_mail.specs.Push.{TakesPushTurns};
+ghost use Rattle.yp_command_mail.specs.Push.{outcome_of, TakesPushTurns};
+ghost use Rattle.yp_command_mail.specs.Telling.{mail_tells};
 ghost use Rattle.yp_command_mail.specs.inside.Push.{IsSentBy};
 ghost use Rattle.yp_command_mail.specs.Push.{PushDoes, push_may_end};
 
@@ -108,7 +109,7 @@ fn ready<D: Disk, C: Clock>(
     requires name { length job.name.items ≤ name_max }
     requires named { IsNamed (name_view job.store) }
     requires disks { names_of disks.old.items ≡ with_ypservers (name_view job.store) }
-    ensures readies { Readies D.history D.faults (C.moment clock.old) (job_view job) result
+    ensures readies { Readies D.Disk (C.moment clock.old) (job_view job) result
         disks.old.items disks.new.items }
     ensures told { C.moment clock.new ≡ C.moment clock.old }
     ensures start { IfOk result (λ plan. IfSome plan CanStart) }
@@ -161,8 +162,9 @@ fn take<K: Sink, A: Dial, I: Inbox>(
     inbox: &mut I,
     sink: &mut K,
 ) -> (Status, A)
-    ensures takes { TakesPushTurns (dial_by A.Dial) turns pusher result.0 result.1
-        (box_by I.Inbox inbox.old) (box_by I.Inbox inbox.new) (K.output sink.old) (K.output sink.new) }
+    ensures takes { TakesPushTurns (dial_by A.Dial) turns pusher (outcome_of result.0 result.1)
+        (mail_tells (box_by I.Inbox inbox.old) (K.output sink.old))
+        (mail_tells (box_by I.Inbox inbox.new) (K.output sink.new)) }
     ensures flushed { result.0 ≢ Status.WriteFault → IsTrue (K.flushed sink.old) → IsTrue (K.flushed sink.new) }
     ensures write_fault { result.0 ≡ Status.WriteFault → HasRisen (K.faults sink.old) (K.faults sink.new) }
     ensures inbox_fault { result.0 ≡ Status.InboxFault → HasRisen (I.faults inbox.old) (I.faults inbox.new) }

@@ -20,7 +20,7 @@ use Rattle.yp_command_maps.specs.Check.{CheckDoes, check_may_end}
 use Rattle.yp_command_maps.specs.Dump.{DumpDoes, dump_may_end}
 use Rattle.yp_command_maps.specs.Revnet.{RevnetDoes, revnet_may_end}
 use Rattle.yp_command_maps.specs.Xfr.{xfr_job_of, xfr_may_end}
-use Rattle.yp_command_mail.specs.Bind.{BindDoes, bind_may_end, servers_of}
+use Rattle.yp_command_mail.specs.Bind.{bind_job_of, BindDoes, bind_may_end, servers_of}
 use Rattle.yp_command_mail.specs.Mapper.{MapperDoes, mapper_may_end, begun}
 use Rattle.yp_command_mail.specs.Portmap.{PortmapDoes, portmap_may_end}
 use Rattle.yp_command_maps.specs.walk.Walk.{walk_may_end}
@@ -46,7 +46,7 @@ OfficeDoes seen (Sample start count) status old new = SampleDoes seen start coun
 OfficeDoes seen (Push name port window turns store hosts) status old new =
     PushDoes seen (job_of name port window turns store hosts) status old new
 OfficeDoes seen (Bind port policy turns domain hosts) status old new =
-    BindDoes seen turns domain (servers_of hosts) policy status old new
+    BindDoes seen (bind_job_of turns domain (servers_of hosts) policy) status old new
 OfficeDoes seen (Portmap port turns) status old new = PortmapDoes seen turns status old new
 OfficeDoes seen (CallMapper port turns peer call) status old new =
     MapperDoes seen turns (begun peer call) status old new

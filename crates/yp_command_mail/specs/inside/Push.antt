@@ -1,7 +1,7 @@
 -- The parts of `push`: its plan, what is readied, and what is sent in turn.
 use Rattle.std.specs.Prelude.{◌≡◌, ◌⊎◌, ℕ, ◌+◌, ◌<◌, ◌≤◌, false, List, [], length, map, Option, Some, None}
 use Rattle.std.specs.Prelude.{Result, Ok, Err, IfSome, ⊤}
-use Rattle.yp_io.specs.Disk.{History}
+use Rattle.yp_io.specs.declared.disk.Disk as disk
 use Rattle.yp_board.specs.Catalogues.{name_view}
 use Rattle.yp_push.specs.Ledgers.{slaves_max}
 use Rattle.yp_push.specs.inside.turns.Kept.{slave_view, request_view, IsWithin}
@@ -13,14 +13,15 @@ use Rattle.yp_command.specs.declared.office.office.Office.{Office}
 use Rattle.yp_command.specs.declared.office.status.Status.{Status}
 use Rattle.yp_command.specs.declared.office.status.Status.TheVariants.{NoMemory, Rows}
 use Rattle.yp_command.specs.office.Rows.{rows_rule}
-use Rattle.yp_command.specs.office.Seeing.{Seeing, output, moment}
+use Rattle.yp_command.specs.office.Seeing.{Seeing}
 use Rattle.yp_command_mail.specs.declared.finding.Found.{Found}
 use Rattle.yp_command_mail.specs.declared.finding.LoadedFiles.{LoadedFiles}
 use Rattle.yp_command_mail.specs.declared.finding.PushStop.{PushStop}
 use Rattle.yp_command_mail.specs.declared.push.PushPlan.{PushPlan}
 use Rattle.yp_command_mail.specs.Finding.{LoadsMaps, StopsPush, judged}
-use Rattle.yp_command_mail.specs.Telling.{box}
-use Rattle.yp_command_mail.specs.Push.{Job, job_of, slaves_in, request_of, ledger_of, TakesPushTurns, dial_seen}
+use Rattle.yp_command_mail.specs.Telling.{mail_seen}
+use Rattle.yp_command_mail.specs.Push.{Job, job_of, slaves_in, request_of, ledger_of, outcome_of, TakesPushTurns}
+use Rattle.yp_command_mail.specs.Push.{dial_seen}
 
 -- ---- what is to be pushed
 
@@ -70,10 +71,10 @@ PlansFrom job now (Err stop) (Ok plan) = ⊥
 PlansFrom job now (Err stop) (Err status) = StopsPush job.store stop status ⊎ (status ≡ NoMemory)
 
 -- Both files were loaded, and the moment was read.
-pub record Readies {D : Type 0} (history : D → Option History) (faults : D → ℕ) (told : Option ℕ) (job : Job)
+pub record Readies {D : Type 0} (seen : disk.Ghosts D) (told : Option ℕ) (job : Job)
     (result : Result (Option PushPlan) Status) (old new : List (NamedDisk D)) : Type 0 where
   pub loaded : LoadedFiles
-  pub loads : LoadsMaps history faults job.store loaded old new
+  pub loads : LoadsMaps seen.history seen.faults job.store loaded old new
   pub now : ℕ
   pub is_now : IfSome told (λ moment. now ≡ moment)
   pub plans : PlansFrom job now (judged loaded.file loaded.servers) result
@@ -84,6 +85,6 @@ pub record Readies {D : Type 0} (history : D → Option History) (faults : D →
 abbrev pub IsSentBy : {S K D C A I T : Type 0} → Seeing S K D C A I T → ℕ → PushPlan → Status
     → (old new : Office S K D C A I T) → Type 0
 IsSentBy seen turns plan status old new =
-    TakesPushTurns (dial_seen seen) turns (begun_by plan old.dial) status new.dial (box seen old) (box seen new)
-    (output seen old) (output seen new)
+    TakesPushTurns (dial_seen seen) turns (begun_by plan old.dial) (outcome_of status new.dial) (mail_seen seen old)
+    (mail_seen seen new)
     ⊎ ((status ≡ NoMemory) × (new ≡ old))
