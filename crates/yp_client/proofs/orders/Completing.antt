@@ -22,7 +22,7 @@ use Rattle.yp_client.specs.declared.query.fault.QueryFault.{QueryFault}
 use Rattle.yp_client.specs.declared.query.fault.QueryFault.TheVariants.{NoKey, NotMember, NotDone, Client, Dial, Output}
 use Rattle.yp_client.specs.declared.query.fault.QueryFault.TheVariants.{NoMemory}
 use Rattle.yp_client.specs.query.Faults.{query_fault}
-use Rattle.yp_client.specs.query.Asked.{Outcome, told_by, meant_by, IsInMemory, asked_call, CallIsMade, IsUnlessMemory, QueryOutcome}
+use Rattle.yp_client.specs.query.Asked.{Outcome, told_by, meant_by, IsInMemory, CallIsMade, IsUnlessMemory, QueryOutcome}
 use Rattle.yp_client.specs.query.Scenes.{QueryTells, Exchanges, Dials}
 use Rattle.yp_client.specs.inside.query.Scenes.{HasQueryCause}
 use Rattle.yp_client.specs.query.Complete.{BeginsWithReply}
@@ -103,7 +103,7 @@ module _ (laws : Laws) {X V : Type 0} (call : ℕ → List ℕ) (answers : ℕ �
     (reads : Good (means (Err client.ReadFault))) (writes : Good (means (Err client.WriteFault)))
     (found : (x : X) → Good (means (Ok x)))
     (outcome : Outcome V) (old new : ClientState) (at : IsAt xid stream old)
-    (did : CallIsMade (asked_call reply_max call answers means) outcome old new) where
+    (did : CallIsMade reply_max call answers means outcome old new) where
   comes_good : Good outcome
   comes_good =
       memory_good (silent (means did.answer)) (silent outcome)

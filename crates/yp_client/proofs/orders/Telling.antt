@@ -23,7 +23,7 @@ use Rattle.yp_client.specs.declared.query.fault.QueryFault.TheVariants.{NoKey, N
 use Rattle.yp_client.specs.declared.query.fault.QueryFault.TheVariants.{NoMemory}
 use Rattle.yp_client.specs.query.Faults.{query_fault}
 use Rattle.yp_client.specs.inside.query.Faults.{FaultIsTellable}
-use Rattle.yp_client.specs.query.Asked.{Outcome, meant_by, asked_call, CallIsMade, IsUnlessMemory}
+use Rattle.yp_client.specs.query.Asked.{Outcome, meant_by, CallIsMade, IsUnlessMemory}
 use Rattle.yp_client.specs.query.Scenes.{QueryTells, Exchanges, Dials}
 use Rattle.yp_client.specs.inside.query.Scenes.{DialHasCause, HasQueryCause}
 use Rattle.yp_client.specs.orders.InTurn.{Step, InTurn, Comes}
@@ -136,7 +136,7 @@ module _ {X V : Type 0} (limit : ℕ) (call : ℕ → List ℕ) (answers : ℕ �
         (refused why (unspent limit call answers why old new fresh calls), fault_cause limit call answers why old new calls)
   ]
 
-  call_goes : (outcome : Outcome V) → CallIsMade (asked_call limit call answers means) outcome old new
+  call_goes : (outcome : Outcome V) → CallIsMade limit call answers means outcome old new
       → Goes on_wire outcome old new
   call_goes (Ok value) did = record {
     moves = (did.calls.reads, did.calls.writes);

@@ -16,7 +16,7 @@ use Rattle.yp_client.specs.States.{ClientState}
 use Rattle.yp_client.specs.inside.Dialed.{IsConnected}
 use Rattle.yp_client.specs.declared.query.fault.QueryFault.{QueryFault}
 use Rattle.yp_client.specs.declared.query.fault.QueryFault.TheVariants.{Dial, NoMemory}
-use Rattle.yp_client.specs.query.Asked.{Outcome, asked_call, CallIsMade, IsUnlessMemory}
+use Rattle.yp_client.specs.query.Asked.{Outcome, CallIsMade, IsUnlessMemory}
 use Rattle.yp_client.specs.query.Scenes.{Dials}
 use Rattle.yp_client.specs.orders.InTurn.{Step, EachMade, StopsAt, InTurn, InMemory}
 use Rattle.yp_client.specs.inside.orders.Asked.{told}
@@ -118,7 +118,7 @@ stop_told {X} step items view result fault told_fault old new is same stops =
 -- memory ran out behind a call
 pub call_forgone : {X V : Type 0} (limit : ℕ) (call : ℕ → List ℕ) (answers : ℕ → List ℕ → Result X ClientFault → Type 0)
     (means : Result X ClientFault → Outcome V) (outcome : Outcome V) (old new : ClientState)
-    → CallIsMade (asked_call limit call answers means) outcome old new → CallIsMade (asked_call limit call answers means) (Err NoMemory) old new
+    → CallIsMade limit call answers means outcome old new → CallIsMade limit call answers means (Err NoMemory) old new
 call_forgone limit call answers means outcome old new did = record { answer = did.answer; calls = did.calls; meant = tt }
 
 -- what a step comes to in memory

@@ -28,7 +28,7 @@ use Rattle.yp_client.specs.inside.query.Faults.{FaultIsTellable}
 use Rattle.yp_version.specs.Rows.{Row, listed}
 use Rattle.yp_netgroup.specs.Reach.{SoughtMember}
 use Rattle.yp_netgroup.specs.Decided.{is_member}
-use Rattle.yp_client.specs.query.Asked.{QueryOutcome, told_by, meant_by, IsInMemory, asked_call, CallIsMade, no_rows, TakesRows, MakesMaster}
+use Rattle.yp_client.specs.query.Asked.{QueryOutcome, told_by, meant_by, IsInMemory, CallIsMade, no_rows, TakesRows, MakesMaster}
 use Rattle.yp_client.specs.query.Asked.{MakesCalls, Converses, rows_told, membership_outcome, membership_told, netgroup}
 use Rattle.yp_client.specs.query.Asked.{transfer_told, making_told}
 use Rattle.yp_client.specs.declared.query.answer.Answer.{Answer}
@@ -88,7 +88,7 @@ call_tells : {X : Type 0} (limit : ℕ) (call : ℕ → List ℕ) (answers : ℕ
     (refused : ClientFault → QueryFault) (means : X → QueryOutcome) (outcome : QueryOutcome) (old new : ClientState)
     → old.spent ≡ false → ((x : X) → MayTell (means x))
     → ((fault : ClientFault) → (fault ≡ client_faults.Spent → ⊥) → IsCalled (refused fault))
-    → CallIsMade (asked_call limit call answers (told_by refused means)) outcome old new → MayTell outcome
+    → CallIsMade limit call answers (told_by refused means) outcome old new → MayTell outcome
 call_tells {X} limit call answers refused means outcome old new fresh m k h =
     let P : Result X ClientFault → Type 0 = λ r. Calls limit call answers r old new in
     meant_tells refused means h.answer outcome m
@@ -98,7 +98,7 @@ makes_tells : {X : Type 0} (limit : ℕ) (call : ℕ → List ℕ) (answers : �
     (means : ClientFault → QueryFault) (text : X → List ℕ) (outcome : QueryOutcome) (old new : ClientState)
     → old.spent ≡ false
     → ((fault : ClientFault) → (fault ≡ client_faults.Spent → ⊥) → IsCalled (means fault))
-    → CallIsMade (asked_call limit call answers (meant_by means text)) outcome old new → MayTell outcome
+    → CallIsMade limit call answers (meant_by means text) outcome old new → MayTell outcome
 makes_tells limit call answers means text outcome old new fresh k h =
     call_tells limit call answers means (λ x. Ok (text x)) outcome old new fresh (λ x. tt) k h
 

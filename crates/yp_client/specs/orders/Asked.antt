@@ -10,7 +10,7 @@ use Rattle.yp_client.specs.Said.{SaysNumber, SaysBytes, SaysNames}
 use Rattle.yp_client.specs.Asked.{master_call, order_call, maplist_call}
 use Rattle.yp_client.specs.States.{ClientState}
 use Rattle.yp_client.specs.query.Faults.{query_fault}
-use Rattle.yp_client.specs.query.Asked.{Outcome, meant_by, asked_call, CallIsMade, IsUnlessMemory}
+use Rattle.yp_client.specs.query.Asked.{Outcome, meant_by, CallIsMade, IsUnlessMemory}
 use Rattle.yp_client.specs.query.Scenes.{Dials}
 use Rattle.yp_client.specs.orders.InTurn.{Step, InTurn, Then, Comes, InMemory}
 
@@ -26,13 +26,13 @@ Orders = List (Option ℕ)
 
 abbrev pub ListsMaps : List ℕ → Step (List (List ℕ)) ClientState
 ListsMaps domain outcome old new =
-    CallIsMade (asked_call reply_max (maplist_call domain) (SaysNames maps_of)
-    (meant_by query_fault (λ list. list.maps))) outcome old new
+    CallIsMade reply_max (maplist_call domain) (SaysNames maps_of) (meant_by query_fault (λ list. list.maps))
+    outcome old new
 
 abbrev pub TellsMaster : List ℕ → List ℕ → Step Mastered ClientState
 TellsMaster domain map outcome old new =
-    CallIsMade (asked_call reply_max (master_call domain map) (SaysBytes master_of)
-    (meant_by query_fault (λ master. (map, master.now)))) outcome old new
+    CallIsMade reply_max (master_call domain map) (SaysBytes master_of)
+    (meant_by query_fault (λ master. (map, master.now))) outcome old new
 
 -- what ORDER tells: a status in place of an order is none, and no fault
 abbrev pub order_told : Result ℕ ClientFault → Outcome (Option ℕ)
@@ -42,7 +42,7 @@ order_told (Err fault) = Err (query_fault fault)
 
 abbrev pub TellsOrder : List ℕ → Mastered → Step (Option ℕ) ClientState
 TellsOrder domain map outcome old new =
-    CallIsMade (asked_call reply_max (order_call domain map.0) (SaysNumber order_of) order_told) outcome old new
+    CallIsMade reply_max (order_call domain map.0) (SaysNumber order_of) order_told outcome old new
 
 -- ---- one wire
 

@@ -46,23 +46,14 @@ abbrev pub IsInMemory : {V : Type 0} → Outcome V → Outcome V → Type 0
 IsInMemory meant (Err NoMemory) = ⊤
 IsInMemory meant outcome = outcome ≡ meant
 
--- one call: how many bytes its reply may have, its bytes by its number, what its reply answers, and what that means
-pub record AskedCall (X V : Type 0) : Type 1 where
-  pub limit : ℕ
-  pub call : ℕ → List ℕ
-  pub answers : ℕ → List ℕ → Result X ClientFault → Type 0
-  pub means : Result X ClientFault → Outcome V
-
-abbrev pub asked_call : {X V : Type 0} → ℕ → (ℕ → List ℕ) → (ℕ → List ℕ → Result X ClientFault → Type 0)
-    → (Result X ClientFault → Outcome V) → AskedCall X V
-asked_call limit call answers means = record { limit = limit; call = call; answers = answers; means = means }
-
--- One call was made, and came to this. The bytes of the wire fix what was answered, unless the wire failed or memory
--- ran out.
-pub record CallIsMade {X V : Type 0} (asked : AskedCall X V) (outcome : Outcome V) (old new : ClientState) : Type 0 where
+-- One call was made, whose reply has at most so many bytes, and came to this. The bytes of the wire fix what was
+-- answered, unless the wire failed or memory ran out.
+pub record CallIsMade {X V : Type 0} (limit : ℕ) (call : ℕ → List ℕ)
+    (answers : ℕ → List ℕ → Result X ClientFault → Type 0) (means : Result X ClientFault → Outcome V)
+    (outcome : Outcome V) (old new : ClientState) : Type 0 where
   pub answer : Result X ClientFault
-  pub calls : Calls asked.limit asked.call asked.answers answer old new
-  pub meant : IsInMemory (asked.means answer) outcome
+  pub calls : Calls limit call answers answer old new
+  pub meant : IsInMemory (means answer) outcome
 
 -- a version without rows, of order 0 and no master, that is begun
 abbrev pub no_rows : Draft
@@ -100,14 +91,14 @@ pub record TakesRows (means : List Row → QueryOutcome) (domain map : List ℕ)
     (old new : ClientState)
     : Type 0 where
   pub draft : Draft
-  pub makes : CallIsMade (asked_call all_max (all_call domain map) (SaysAll no_rows draft)
-      (told_by query_fault (λ _. means (listed draft.rows)))) outcome old new
+  pub makes : CallIsMade all_max (all_call domain map) (SaysAll no_rows draft)
+      (told_by query_fault (λ _. means (listed draft.rows))) outcome old new
 
 -- MASTER follows an order number, and nothing a fault.
 abbrev pub MakesMaster : List ℕ → List ℕ → Result ℕ ClientFault → QueryOutcome → ClientState → ClientState → Type 0
 MakesMaster domain map (Ok order) outcome old new =
-    CallIsMade (asked_call reply_max (master_call domain map) (SaysBytes master_of)
-    (meant_by query_fault (λ master. standing_text order master.now))) outcome old new
+    CallIsMade reply_max (master_call domain map) (SaysBytes master_of)
+    (meant_by query_fault (λ master. standing_text order master.now)) outcome old new
 MakesMaster domain map (Err fault) outcome old new = (outcome ≡ Err (query_fault fault)) × (new ≡ old)
 
 -- ORDER was made, and then MASTER. The first call fixes the order, and the client between but for its counts of
@@ -123,21 +114,21 @@ abbrev pub MakesCalls : ByteQuestion → QueryOutcome → ClientState → Client
 MakesCalls (Cat domain map) outcome old new = TakesRows (rows_told false) domain map outcome old new
 MakesCalls (Catk domain map) outcome old new = TakesRows (rows_told true) domain map outcome old new
 MakesCalls (Match domain map key) outcome old new =
-    CallIsMade (asked_call reply_max (match_call domain map key) (SaysBytes value_of)
-    (meant_by match_fault (λ value. line value.now))) outcome old new
+    CallIsMade reply_max (match_call domain map key) (SaysBytes value_of)
+    (meant_by match_fault (λ value. line value.now)) outcome old new
 MakesCalls (Which domain map) outcome old new =
-    CallIsMade (asked_call reply_max (master_call domain map) (SaysBytes master_of)
-    (meant_by query_fault (λ master. line master.now))) outcome old new
+    CallIsMade reply_max (master_call domain map) (SaysBytes master_of)
+    (meant_by query_fault (λ master. line master.now)) outcome old new
 MakesCalls (Poll domain map) outcome old new = Polls domain map outcome old new
 MakesCalls (Maps domain) outcome old new =
-    CallIsMade (asked_call reply_max (maplist_call domain) (SaysNames maps_of)
-    (meant_by query_fault (λ list. lines list.maps))) outcome old new
+    CallIsMade reply_max (maplist_call domain) (SaysNames maps_of)
+    (meant_by query_fault (λ list. lines list.maps)) outcome old new
 MakesCalls (Pull domain map source) outcome old new =
-    CallIsMade (asked_call reply_max (pull_call domain map source) (SaysStat taken_of)
-    (told_by query_fault (transfer_told domain map))) outcome old new
+    CallIsMade reply_max (pull_call domain map source) (SaysStat taken_of)
+    (told_by query_fault (transfer_told domain map)) outcome old new
 MakesCalls (Make domain map) outcome old new =
-    CallIsMade (asked_call reply_max (make_named_call domain map) (SaysStat made_of)
-    (told_by query_fault (making_told domain map))) outcome old new
+    CallIsMade reply_max (make_named_call domain map) (SaysStat made_of)
+    (told_by query_fault (making_told domain map)) outcome old new
 MakesCalls (Innetgr domain group host user user_domain) outcome old new =
     TakesRows (membership_told group (record { host = host; user = user; domain = user_domain })) domain netgroup
     outcome old new

@@ -13,7 +13,6 @@ ghost use Rattle.yp_client.specs.Questions.{bytes_of};
 ghost use Rattle.yp_client.specs.inside.Questions.{QuestionIsWithin};
 ghost use Rattle.yp_client.specs.query.Faults.{query_fault, match_fault};
 ghost use Rattle.yp_client.specs.query.Asked.{QueryOutcome, meant_by, CallIsMade, TakesRows, Polls, IsUnlessMemory};
-ghost use Rattle.yp_client.specs.query.Asked.{asked_call};
 ghost use Rattle.yp_client.specs.query.Asked.{Converses, rows_told, membership_told, netgroup};
 ghost use Rattle.yp_client.specs.query.Asked.{told_by, transfer_told, making_told};
 ghost use Rattle.yp_client.specs.Limits.{reply_max};
@@ -187,8 +186,8 @@ fn ask_value<S: Source, K: Sink>(
     requires domain { length domain.now ≤ name_max }
     requires map { length map.now ≤ name_max }
     requires key { length key.now ≤ key_max }
-    ensures { CallIsMade (asked_call reply_max (match_call domain.now map.now key.now) (SaysBytes value_of)
-        (meant_by match_fault (λ value. line value.now))) (outcome_of result)
+    ensures { CallIsMade reply_max (match_call domain.now map.now key.now) (SaysBytes value_of)
+        (meant_by match_fault (λ value. line value.now)) (outcome_of result)
         (state_of S.Source K.Sink client.old) (state_of S.Source K.Sink client.new) }
 {
     match client.match_key(domain, map, key) {
@@ -205,8 +204,8 @@ fn ask_master<S: Source, K: Sink>(
 ) -> Result<Answer, QueryFault>
     requires domain { length domain.now ≤ name_max }
     requires map { length map.now ≤ name_max }
-    ensures { CallIsMade (asked_call reply_max (master_call domain.now map.now) (SaysBytes master_of)
-        (meant_by query_fault (λ master. line master.now))) (outcome_of result)
+    ensures { CallIsMade reply_max (master_call domain.now map.now) (SaysBytes master_of)
+        (meant_by query_fault (λ master. line master.now)) (outcome_of result)
         (state_of S.Source K.Sink client.old) (state_of S.Source K.Sink client.new) }
 {
     match client.master(domain, map) {
@@ -245,8 +244,8 @@ fn ask_maps<S: Source, K: Sink>(
     domain: &[u8],
 ) -> Result<Answer, QueryFault>
     requires { length domain.now ≤ name_max }
-    ensures { CallIsMade (asked_call reply_max (maplist_call domain.now) (SaysNames maps_of)
-        (meant_by query_fault (λ list. lines list.maps))) (outcome_of result)
+    ensures { CallIsMade reply_max (maplist_call domain.now) (SaysNames maps_of)
+        (meant_by query_fault (λ list. lines list.maps)) (outcome_of result)
         (state_of S.Source K.Sink client.old) (state_of S.Source K.Sink client.new) }
 {
     match client.maplist(domain) {
@@ -266,8 +265,8 @@ fn ask_transfer<S: Source, K: Sink>(
     requires domain { length domain.now ≤ name_max }
     requires map { length map.now ≤ name_max }
     requires source { length source.now ≤ name_max }
-    ensures { CallIsMade (asked_call reply_max (pull_call domain.now map.now source.now) (SaysStat taken_of)
-        (told_by query_fault (transfer_told domain.now map.now))) (outcome_of result)
+    ensures { CallIsMade reply_max (pull_call domain.now map.now source.now) (SaysStat taken_of)
+        (told_by query_fault (transfer_told domain.now map.now)) (outcome_of result)
         (state_of S.Source K.Sink client.old) (state_of S.Source K.Sink client.new) }
 {
     let request = ReqXfr {
@@ -295,8 +294,8 @@ fn ask_making<S: Source, K: Sink>(
 ) -> Result<Answer, QueryFault>
     requires domain { length domain.now ≤ name_max }
     requires map { length map.now ≤ name_max }
-    ensures { CallIsMade (asked_call reply_max (make_named_call domain.now map.now) (SaysStat made_of)
-        (told_by query_fault (making_told domain.now map.now))) (outcome_of result)
+    ensures { CallIsMade reply_max (make_named_call domain.now map.now) (SaysStat made_of)
+        (told_by query_fault (making_told domain.now map.now)) (outcome_of result)
         (state_of S.Source K.Sink client.old) (state_of S.Source K.Sink client.new) }
 {
     match client.make_named(domain, map) {

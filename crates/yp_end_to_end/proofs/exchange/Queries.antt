@@ -7,7 +7,7 @@ use Rattle.yp_client.specs.States.{ClientState}
 use Rattle.yp_client.specs.Results.{Says, SaysInMemory}
 use Rattle.yp_client.specs.declared.query.fault.QueryFault.{QueryFault}
 use Rattle.yp_client.specs.declared.query.fault.QueryFault.TheVariants.{Client, NoMemory}
-use Rattle.yp_client.specs.query.Asked.{QueryOutcome, told_by, meant_by, IsInMemory, asked_call, CallIsMade}
+use Rattle.yp_client.specs.query.Asked.{QueryOutcome, told_by, meant_by, IsInMemory, CallIsMade}
 use Rattle.yp_client.specs.query.Complete.{BeginsWithReply}
 use Rattle.yp_answer.specs.Maps.{Maps}
 use Rattle.yp_answer.specs.Reply.{reply_at_once}
@@ -96,7 +96,7 @@ IsSaidInMemory {X} view said answers = (xid : ℕ) (message : List ℕ) (answer 
 
 pub call_means : Records → {X V : Type 0} (limit n : ℕ) (stream : List ℕ) (P : List ℕ → List ℕ → Type 0) (good : BeginsWithReply limit stream P) (call : ℕ → List ℕ) (view : X → V) (said : ℕ → List ℕ → Result V ClientFault)
     (answers : ℕ → List ℕ → Result X ClientFault → Type 0) (refused : ClientFault → QueryFault) (means : X → QueryOutcome) (expected : Result V ClientFault) (to outcome : QueryOutcome) (old new : ClientState)
-    → IsSaidInMemory view said answers → Passes refused → ((answer : Result X ClientFault) → viewed view answer ≡ expected → told_by refused means answer ≡ to) → CallIsMade (asked_call limit call answers (told_by refused means)) outcome old new
+    → IsSaidInMemory view said answers → Passes refused → ((answer : Result X ClientFault) → viewed view answer ≡ expected → told_by refused means answer ≡ to) → CallIsMade limit call answers (told_by refused means) outcome old new
     → old.wire.input ≡ Some stream → old.spent ≡ false → old.xid ≡ n → said n good.reply ≡ expected → IsOutcomeOf to outcome
 call_means laws {X} {V} limit n stream P good call view said answers refused means expected to outcome old new in_words passes meant makes told fresh number says =
     comes_in_memory to (told_by refused means makes.answer) outcome
@@ -112,7 +112,7 @@ call_means laws {X} {V} limit n stream P good call view said answers refused mea
 -- the same, where each value has a text
 pub call_comes : Records → {X V : Type 0} (limit n : ℕ) (stream : List ℕ) (P : List ℕ → List ℕ → Type 0) (good : BeginsWithReply limit stream P) (call : ℕ → List ℕ) (view : X → V) (said : ℕ → List ℕ → Result V ClientFault)
     (answers : ℕ → List ℕ → Result X ClientFault → Type 0) (refused : ClientFault → QueryFault) (text : V → List ℕ) (expected : Result V ClientFault) (outcome : QueryOutcome) (old new : ClientState)
-    → IsSaidInMemory view said answers → Passes refused → CallIsMade (asked_call limit call answers (meant_by refused (λ x. text (view x)))) outcome old new
+    → IsSaidInMemory view said answers → Passes refused → CallIsMade limit call answers (meant_by refused (λ x. text (view x))) outcome old new
     → old.wire.input ≡ Some stream → old.spent ≡ false → old.xid ≡ n → said n good.reply ≡ expected → IsOutcomeOf (meant_by refused text expected) outcome
 call_comes laws {X} {V} limit n stream P good call view said answers refused text expected outcome old new means passes makes told fresh number says =
     call_means laws limit n stream P good call view said answers refused (λ x. Ok (text (view x))) expected (meant_by refused text expected) outcome old new means passes
